@@ -1,0 +1,208 @@
+-- Bytes read as a record exactly when they are its encoding. Assumes nothing.
+use Prim.Native.Nat.{ℕ, zero, suc, _+_, _≤_, _<_}
+use mathlib.Core.Path.{_≡_, refl, sym, ap, ap₂, _∙_, subst}
+use mathlib.Core.Bool.{Bool, true, false, cond}
+use mathlib.Core.List.{List, [], _∷_, _++_}
+use native.Mathlib.Omega.{arith}
+use lib.Dec.{eqb}
+use lib.ListN.{length, drop, drop-of-length-le}
+use Rattle.records.proofs.Formed.{Formed, formed-facts, facts-formed, read-formed, formed-reads}
+use Rattle.records.specs.Ledgers.{Ledger, Home, Far, ledgerByte, ledgerAt}
+use Rattle.records.specs.Records.{Kind, Local, Sending, Receiving, Record, Read, kindByte, kindAt, ledgerOf, recordIn, reading, encoding, Encodable, ReadsExactly, EncodedOnce}
+use Rattle.wire.proofs.Numbers.{field-fits, value-back, drop-field}
+use Rattle.wire.specs.BigEndian.{Bytes, valueAfter, field, bytesOf}
+
+-- ## From the bytes
+
+-- kind, ledger and verdict bytes that are right are those of the case that is read
+kind-byte : (k : ℕ) (l : Ledger) → 0 < k → k ≤ 3 → bytesOf 1 k ≡ kindByte (kindAt k l) ∷ []
+unfolding bytesOf
+kind-byte zero l p q = absurd (omega arith)
+kind-byte (suc zero) l p q = refl
+kind-byte (suc (suc zero)) l p q = refl
+kind-byte (suc (suc (suc zero))) l p q = refl
+kind-byte (suc (suc (suc (suc k)))) l p q = absurd (omega arith)
+
+pub kind-ledger : (k : ℕ) (l : Ledger) → ledgerOf (kindAt k l) ≡ l
+kind-ledger k l = go (eqb k 1) (eqb k 2)
+  where
+    go : (s t : Bool) → ledgerOf (cond s (Local l) (cond t (Sending l) (Receiving l))) ≡ l
+    go true t = refl
+    go false true = refl
+    go false false = refl
+
+ledger-byte : (n : ℕ) → n ≤ 1 → bytesOf 1 n ≡ ledgerByte (ledgerAt n) ∷ []
+unfolding bytesOf
+ledger-byte zero h = refl
+ledger-byte (suc zero) h = refl
+ledger-byte (suc (suc n)) h = absurd (omega arith)
+
+verdict-byte : (n : ℕ) → n ≤ 1 → bytesOf 1 n ≡ cond (eqb n 1) 1 0 ∷ []
+unfolding bytesOf
+verdict-byte zero h = refl
+verdict-byte (suc zero) h = refl
+verdict-byte (suc (suc n)) h = absurd (omega arith)
+
+module _ (b : List ℕ) (y : Bytes b) (f : Formed b) where
+  next : (i n : ℕ) → i + n ≤ length b → {t : List ℕ} → drop (i + n) b ≡ t → drop i b ≡ bytesOf n (field i n b) ++ t
+  next i n h {t} e = drop-field i n b y h ∙ ap (λ (q : List ℕ). bytesOf n (field i n b) ++ q) e
+
+  -- the bytes, field by field
+  fields :
+      b
+      ≡ bytesOf 1 (field 0 1 b)
+      ++ (bytesOf 1 (field 1 1 b)
+      ++ (bytesOf 2 (field 2 2 b)
+      ++ (bytesOf 2 (field 4 2 b)
+      ++ (bytesOf 2 (field 6 2 b)
+      ++ (bytesOf 8 (field 8 8 b)
+      ++ (bytesOf 8 (field 16 8 b)
+      ++ (bytesOf 1 (field 24 1 b)
+      ++ (bytesOf 7 (field 25 7 b)
+      ++ []))))))))
+  fields =
+      let l = f .long in
+      next 0 1 (omega arith)
+      (next 1 1 (omega arith)
+      (next 2 2 (omega arith)
+      (next 4 2 (omega arith)
+      (next 6 2 (omega arith)
+      (next 8 8 (omega arith)
+      (next 16 8 (omega arith)
+      (next 24 1 (omega arith)
+      (next 25 7 (omega arith) (drop-of-length-le b {i = 32} (omega arith))))))))))
+
+  pub formed-encoded : b ≡ encoding (recordIn b)
+  unfolding encoding recordIn bytesOf
+  formed-encoded =
+      let l : Ledger = ledgerAt (field 1 1 b) in
+      let k = kind-byte (field 0 1 b) l (f .kind-some) (f .kind-most) in
+      let o = ledger-byte (field 1 1 b) (f .ledger-most) ∙ ap (λ (m : Ledger). ledgerByte m ∷ []) (sym (kind-ledger (field 0 1 b) l)) in
+      let z = ap (bytesOf 2) (f .zeros-first) in
+      let v = verdict-byte (field 24 1 b) (f .verdict-most) in
+      let e = ap (bytesOf 7) (f .zeros-last) in
+      fields
+      ∙ (λ i.
+      k i ++ (o i ++ (bytesOf 2 (field 2 2 b) ++ (bytesOf 2 (field 4 2 b) ++ (z i
+      ++ (bytesOf 8 (field 8 8 b) ++ (bytesOf 8 (field 16 8 b) ++ (v i ++ (e i ++ [])))))))))
+
+  pub formed-encodable : Encodable (recordIn b)
+  unfolding recordIn
+  formed-encodable =
+      let l = f .long in
+      record {
+        sender-fits = field-fits 2 2 b y (omega arith);
+        receiver-fits = field-fits 4 2 b y (omega arith);
+        number-fits = field-fits 8 8 b y (omega arith);
+        amount-some = f .amount-some;
+        amount-fits = f .amount-most;
+      }
+
+-- ## From the record
+
+kind-back : (k : Kind) → kindAt (kindByte k) (ledgerAt (ledgerByte (ledgerOf k))) ≡ k
+kind-back (Local Home) = refl
+kind-back (Local Far) = refl
+kind-back (Sending Home) = refl
+kind-back (Sending Far) = refl
+kind-back (Receiving Home) = refl
+kind-back (Receiving Far) = refl
+
+kind-bounds : (k : Kind) → (0 < kindByte k) × (kindByte k ≤ 3)
+kind-bounds (Local l) = (omega arith, omega arith)
+kind-bounds (Sending l) = (omega arith, omega arith)
+kind-bounds (Receiving l) = (omega arith, omega arith)
+
+ledger-bound : (l : Ledger) → ledgerByte l ≤ 1
+ledger-bound Home = omega arith
+ledger-bound Far = omega arith
+
+verdict-back : (t : Bool) → (eqb (cond t 1 0) 1 ≡ t) × (cond t 1 0 ≤ 1)
+verdict-back true = (refl, omega arith)
+verdict-back false = (refl, omega arith)
+
+module _ (r : Record) (g : Encodable r) where
+  f-length : length (encoding r) ≡ 32
+  unfolding encoding bytesOf
+  f-length = refl
+
+  f-kind : field 0 1 (encoding r) ≡ kindByte (r .kind)
+  unfolding field encoding bytesOf valueAfter
+  f-kind = omega arith
+
+  f-ledger : field 1 1 (encoding r) ≡ ledgerByte (ledgerOf (r .kind))
+  unfolding field encoding bytesOf valueAfter
+  f-ledger = omega arith
+
+  f-sender : field 2 2 (encoding r) ≡ r .sender
+  unfolding field encoding bytesOf
+  f-sender = value-back 2 (r .sender) (g .sender-fits)
+
+  f-receiver : field 4 2 (encoding r) ≡ r .receiver
+  unfolding field encoding bytesOf
+  f-receiver = value-back 2 (r .receiver) (g .receiver-fits)
+
+  f-first : field 6 2 (encoding r) ≡ 0
+  unfolding field encoding bytesOf valueAfter
+  f-first = refl
+
+  f-number : field 8 8 (encoding r) ≡ r .number
+  unfolding field encoding bytesOf
+  f-number = value-back 8 (r .number) (g .number-fits)
+
+  f-amount : field 16 8 (encoding r) ≡ r .amount
+  unfolding field encoding bytesOf
+  f-amount = value-back 8 (r .amount) (omega (arith, g .amount-fits))
+
+  f-verdict : field 24 1 (encoding r) ≡ cond (r .verified) 1 0
+  unfolding field encoding bytesOf valueAfter
+  f-verdict = omega arith
+
+  f-last : field 25 7 (encoding r) ≡ 0
+  unfolding field encoding bytesOf valueAfter
+  f-last = refl
+
+  encoding-facts : Formed (encoding r)
+  encoding-facts =
+      record {
+        long = f-length;
+        kind-some = rw f-kind (kind-bounds (r .kind) .0);
+        kind-most = rw f-kind (kind-bounds (r .kind) .1);
+        ledger-most = rw f-ledger (ledger-bound (ledgerOf (r .kind)));
+        zeros-first = f-first;
+        amount-some = rw f-amount (g .amount-some);
+        amount-most = rw f-amount (g .amount-fits);
+        verdict-most = rw f-verdict (verdict-back (r .verified) .1);
+        zeros-last = f-last;
+      }
+
+  encoding-holds : recordIn (encoding r) ≡ r
+  unfolding recordIn
+  encoding-holds =
+      let k = ap₂ (λ (x y : ℕ). kindAt x (ledgerAt y)) f-kind f-ledger ∙ kind-back (r .kind) in
+      let v = ap (λ (x : ℕ). eqb x 1) f-verdict ∙ verdict-back (r .verified) .0 in
+      λ i. record { kind = k i; sender = f-sender i; receiver = f-receiver i; number = f-number i; amount = f-amount i; verified = v i }
+
+  pub encoding-reads : reading (encoding r) ≡ Read r
+  encoding-reads = formed-reads (encoding r) (facts-formed (encoding r) encoding-facts) ∙ ap Read encoding-holds
+
+-- ## The theorem
+
+pub reads-exactly : ReadsExactly
+unfolding ReadsExactly
+reads-exactly b y r = (there, back)
+  where
+    there : reading b ≡ Read r → Encodable r × (b ≡ encoding r)
+    there h =
+        let f = read-formed b r h in
+        let g = formed-facts b (f .0) in
+        (subst Encodable (f .1) (formed-encodable b y g), formed-encoded b y g ∙ ap encoding (f .1))
+
+    back : Encodable r × (b ≡ encoding r) → reading b ≡ Read r
+    back h = ap reading (h .1) ∙ encoding-reads r (h .0)
+
+pub encoded-once : EncodedOnce
+unfolding EncodedOnce
+encoded-once r q g h e =
+    let k : Read r ≡ Read q = sym (encoding-reads r g) ∙ ap reading e ∙ encoding-reads q h in
+    cc

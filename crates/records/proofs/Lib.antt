@@ -1,0 +1,4 @@
+-- Laws of answers, of reading and of encoding. Assumes nothing.
+pub mod Answers
+pub mod Formed
+pub mod Exactly

@@ -1,0 +1,4 @@
+pub mod Limits
+pub mod Ledgers
+pub mod Records
+pub mod Answers

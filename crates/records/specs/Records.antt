@@ -1,0 +1,110 @@
+-- The record of 32 bytes (document 01, "The record"): its kinds, its reading and its encoding. Assumes nothing.
+use Prim.Native.Nat.{ℕ, _<_, _≤_, _^_}
+use mathlib.Core.Bool.{Bool, cond}
+use mathlib.Core.List.{List, [], _∷_, _++_}
+use mathlib.Core.Logic.{_↔_}
+use mathlib.Core.Path.{_≡_}
+use lib.Dec.{eqb, ltb, leb}
+use lib.ListN.{length, replicate}
+use Rattle.wire.specs.BigEndian.{Bytes, every, field, bytesOf}
+use Rattle.records.specs.Limits.{maxAmount}
+use Rattle.records.specs.Ledgers.{Ledger, counterpart, ledgerByte, ledgerAt}
+pub use Rattle.records.specs.declared.Kind.{Kind}
+pub use Rattle.records.specs.declared.Kind.the-variants.{Local, Sending, Receiving}
+pub use Rattle.records.specs.declared.Record.{Record}
+pub use Rattle.records.specs.declared.Reading.{Reading}
+pub use Rattle.records.specs.declared.Reading.the-variants.{Read, Unreadable}
+
+-- ## The kinds
+
+-- byte 0: 1 local, 2 sending, 3 receiving (document 01: arrival)
+abbrev pub kindByte : Kind → ℕ
+kindByte (Local l) = 1
+kindByte (Sending l) = 2
+kindByte (Receiving l) = 3
+
+-- the kind with a byte, which is 1, 2 or 3
+abbrev pub kindAt : ℕ → Ledger → Kind
+kindAt n l = cond (eqb n 1) (Local l) (cond (eqb n 2) (Sending l) (Receiving l))
+
+-- the ledger that holds the record
+abbrev pub ledgerOf : Kind → Ledger
+ledgerOf (Local l) = l
+ledgerOf (Sending l) = l
+ledgerOf (Receiving l) = l
+
+-- a local's two accounts are on the record's ledger; a sending's sender is on it and its receiver on the other one; a
+-- receiving's receiver is on it and its sender on the other one
+abbrev pub senderLedger : Kind → Ledger
+senderLedger (Local l) = l
+senderLedger (Sending l) = l
+senderLedger (Receiving l) = counterpart l
+
+abbrev pub receiverLedger : Kind → Ledger
+receiverLedger (Local l) = l
+receiverLedger (Sending l) = counterpart l
+receiverLedger (Receiving l) = l
+
+-- ## Reading
+
+-- what refusal 21 asks of bytes: 32 of them; kind, ledger, verdict and zero bytes right; an amount that is not 0 and not
+-- above 2^63-1
+unfoldable pub formed : List ℕ → Bool
+formed b =
+    every
+    (eqb (length b) 32
+    ∷ ltb 0 (field 0 1 b)
+    ∷ leb (field 0 1 b) 3
+    ∷ leb (field 1 1 b) 1
+    ∷ eqb (field 6 2 b) 0
+    ∷ ltb 0 (field 16 8 b)
+    ∷ leb (field 16 8 b) maxAmount
+    ∷ leb (field 24 1 b) 1
+    ∷ eqb (field 25 7 b) 0
+    ∷ []
+    )
+
+-- the record in 32 bytes: 0 kind, 1 ledger, 2-3 sender, 4-5 receiver, 8-15 number of the transfer, 16-23 amount, 24 verdict
+unfoldable pub recordIn : List ℕ → Record
+recordIn b =
+    record {
+      kind = kindAt (field 0 1 b) (ledgerAt (field 1 1 b));
+      sender = field 2 2 b;
+      receiver = field 4 2 b;
+      number = field 8 8 b;
+      amount = field 16 8 b;
+      verified = eqb (field 24 1 b) 1;
+    }
+
+-- what bytes read as
+unfoldable pub reading : List ℕ → Reading
+reading b = cond (formed b) (Read (recordIn b)) Unreadable
+
+-- ## Encoding
+
+-- the 32 bytes of a record
+unfoldable pub encoding : Record → List ℕ
+encoding r =
+    kindByte (r .kind)
+    ∷ ledgerByte (ledgerOf (r .kind))
+    ∷ (bytesOf 2 (r .sender)
+    ++ (bytesOf 2 (r .receiver)
+    ++ (0 ∷ 0 ∷ (bytesOf 8 (r .number)
+    ++ (bytesOf 8 (r .amount)
+    ++ (cond (r .verified) 1 0 ∷ replicate 7 0))))))
+
+-- the records that 32 bytes can hold
+pub record Encodable (r : Record) : Type 0 where
+  pub sender-fits : r .sender < 2 ^ 16
+  pub receiver-fits : r .receiver < 2 ^ 16
+  pub number-fits : r .number < 2 ^ 64
+  pub amount-some : 0 < r .amount
+  pub amount-fits : r .amount ≤ maxAmount
+
+-- bytes read as a record exactly when they are its encoding, and only records that 32 bytes can hold are read
+unfoldable pub ReadsExactly : Type 0
+ReadsExactly = (b : List ℕ) → Bytes b → (r : Record) → (reading b ≡ Read r) ↔ (Encodable r × (b ≡ encoding r))
+
+-- two records that 32 bytes can hold do not share their bytes
+unfoldable pub EncodedOnce : Type 0
+EncodedOnce = (r q : Record) → Encodable r → Encodable q → encoding r ≡ encoding q → r ≡ q

@@ -1,0 +1,3 @@
+-- Laws of bytes and numbers, each over every width. Assumes nothing.
+pub mod Lists
+pub mod Numbers

@@ -1,0 +1,153 @@
+-- Laws of tests, properties and zero bytes over lists. Assumes nothing.
+use Prim.Native.Nat.{ℕ, zero, suc, _+_, _-_, _≤_, _<_}
+use mathlib.Core.Path.{_≡_, refl, ap, ap₂, _∙_}
+use mathlib.Core.Bool.{Bool, true, false, _&&_}
+use mathlib.Core.List.{List, [], _∷_, _++_}
+use native.Mathlib.Omega.{arith}
+use native.Mathlib.Numerals.{add-one}
+use lib.Dec.{eqb}
+use lib.ListN.{length, take, drop, getD, replicate, drop-of-length-le}
+use lib.Seq.{drop-cons}
+use borrow.Author.Tests.{eqb-true, eq-eqb, ne-eqb}
+use Rattle.wire.specs.BigEndian.{All, every, zeros, same}
+
+-- ## Tests
+
+-- both tests hold where their conjunction does
+pub and-both : (s t : Bool) → (s && t) ≡ true → (s ≡ true) × (t ≡ true)
+and-both true t h = (refl, h)
+and-both false t h = (h, let z : false ≡ true = h in cc)
+
+and-true : (t : Bool) → (t && true) ≡ t
+and-true true = refl
+and-true false = refl
+
+-- no test at all
+pub every-none : every [] ≡ true
+unfolding every
+every-none = refl
+
+-- one test alone
+pub every-one : (t : Bool) → every (t ∷ []) ≡ t
+unfolding every
+every-one t = and-true t
+
+-- the first test holds, and so do the others
+pub every-first : (t : Bool) (ts : List Bool) → every (t ∷ ts) ≡ true → (t ≡ true) × (every ts ≡ true)
+unfolding every
+every-first t ts h = and-both t (every ts) h
+
+-- all tests hold where the first and the others do
+pub every-both : (t : Bool) (ts : List Bool) → t ≡ true → every ts ≡ true → every (t ∷ ts) ≡ true
+unfolding every
+every-both t ts h k = rw h k
+
+-- a first test that holds changes nothing
+pub every-skip : (t : Bool) (ts : List Bool) → t ≡ true → every (t ∷ ts) ≡ every ts
+unfolding every
+every-skip t ts h = rw h
+
+-- not all tests hold where the one at k does not
+pub every-not : (k : ℕ) (ts : List Bool) → getD ts k true ≡ false → every ts ≡ false
+unfolding every
+every-not zero [] h = h
+every-not (suc k) [] h = h
+every-not zero (t ∷ ts) h = rw h
+every-not (suc k) (true ∷ ts) h = every-not k ts h
+every-not (suc k) (false ∷ ts) h = refl
+
+-- ## Properties
+
+module _ {A : Type 0} (P : A → Type 0) where
+  pub all-append : (xs ys : List A) → All P xs → All P ys → All P (xs ++ ys)
+  unfolding All
+  all-append [] ys h k = k
+  all-append (x ∷ xs) ys h k = (h .0, all-append xs ys (h .1) k)
+
+  pub all-take : (n : ℕ) (xs : List A) → All P xs → All P (take n xs)
+  unfolding All
+  all-take zero xs h = tt
+  all-take (suc n) [] h = tt
+  all-take (suc n) (x ∷ xs) h = (h .0, all-take n xs (h .1))
+
+  pub all-drop : (n : ℕ) (xs : List A) → All P xs → All P (drop n xs)
+  unfolding All
+  all-drop zero xs h = h
+  all-drop (suc n) [] h = tt
+  all-drop (suc n) (x ∷ xs) h = all-drop n xs (h .1)
+
+  pub all-at : (d : A) (i : ℕ) (xs : List A) → P d → All P xs → P (getD xs i d)
+  unfolding All
+  all-at d i [] p h = p
+  all-at d zero (x ∷ xs) p h = h .0
+  all-at d (suc i) (x ∷ xs) p h = all-at d i xs p (h .1)
+
+  pub all-of : (d : A) (xs : List A) → ((i : ℕ) → P (getD xs i d)) → All P xs
+  unfolding All
+  all-of d [] h = tt
+  all-of d (x ∷ xs) h = (h 0, all-of d xs (λ i. h (suc i)))
+
+-- ## Zero bytes
+
+pub zeros-replicate : (n : ℕ) → zeros (replicate n 0) ≡ true
+unfolding zeros
+zeros-replicate zero = refl
+zeros-replicate (suc n) = zeros-replicate n
+
+pub zeros-are : (s : List ℕ) → zeros s ≡ true → s ≡ replicate (length s) 0
+unfolding zeros
+zeros-are [] h = refl
+zeros-are (x ∷ xs) h =
+    let b = and-both (eqb x 0) (zeros xs) h in
+    ap₂ (λ (y : ℕ) (l : List ℕ). y ∷ l) (eqb-true x 0 (b .0)) (zeros-are xs (b .1))
+
+-- the test over s from index i up to e, where the byte at i is not zero, where it is, and at the end
+part-cons : (s : List ℕ) (i e : ℕ) → i < e → e ≤ length s → take (e - i) (drop i s) ≡ getD s i 0 ∷ take (e - (i + 1)) (drop (i + 1) s)
+part-cons s i e h k =
+    let z : e - i ≡ suc (e - (i + 1)) = omega arith in
+    ap₂ (λ (n : ℕ) (l : List ℕ). take n l) z (drop-cons s i 0 (omega arith)) ∙ rw add-one
+
+pub zeros-here : (s : List ℕ) (i e : ℕ) → i < e → e ≤ length s → (getD s i 0 ≡ 0 → ⊥) → zeros (take (e - i) (drop i s)) ≡ false
+unfolding zeros
+zeros-here s i e h k n = ap zeros (part-cons s i e h k) ∙ rw (ne-eqb _ _ n)
+
+pub zeros-on : (s : List ℕ) (i e : ℕ) → i < e → e ≤ length s → getD s i 0 ≡ 0
+    → zeros (take (e - i) (drop i s)) ≡ zeros (take (e - (i + 1)) (drop (i + 1) s))
+unfolding zeros
+zeros-on s i e h k n = ap zeros (part-cons s i e h k) ∙ rw (eq-eqb _ _ n)
+
+pub zeros-end : (s : List ℕ) (i e : ℕ) → e ≤ i → zeros (take (e - i) (drop i s)) ≡ true
+unfolding zeros
+zeros-end s i e h = let z : e - i ≡ 0 = omega arith in ap (λ (n : ℕ). zeros (take n (drop i s))) z
+
+-- ## The same bytes
+
+pub same-self : (xs : List ℕ) → same xs xs ≡ true
+unfolding same
+same-self [] = refl
+same-self (x ∷ xs) = rw (eq-eqb x x refl) (same-self xs)
+
+pub same-equal : (xs ys : List ℕ) → same xs ys ≡ true → xs ≡ ys
+unfolding same
+same-equal [] [] h = refl
+same-equal [] (y ∷ ys) h = cc
+same-equal (x ∷ xs) [] h = cc
+same-equal (x ∷ xs) (y ∷ ys) h =
+    let b = and-both (eqb x y) (same xs ys) h in
+    ap₂ (λ (z : ℕ) (l : List ℕ). z ∷ l) (eqb-true x y (b .0)) (same-equal xs ys (b .1))
+
+-- the test from index i on, where the bytes there differ, where they do not, and at the end
+module _ (xs ys : List ℕ) (i : ℕ) (h : i < length xs) (k : i < length ys) where
+  same-cons : same (drop i xs) (drop i ys) ≡ (eqb (getD xs i 0) (getD ys i 0) && same (drop (i + 1) xs) (drop (i + 1) ys))
+  unfolding same
+  same-cons = ap₂ same (drop-cons xs i 0 h) (drop-cons ys i 0 k) ∙ rw add-one
+
+  pub same-here : (getD xs i 0 ≡ getD ys i 0 → ⊥) → same (drop i xs) (drop i ys) ≡ false
+  same-here n = same-cons ∙ rw (ne-eqb _ _ n)
+
+  pub same-on : getD xs i 0 ≡ getD ys i 0 → same (drop i xs) (drop i ys) ≡ same (drop (i + 1) xs) (drop (i + 1) ys)
+  same-on e = same-cons ∙ rw (eq-eqb _ _ e)
+
+pub same-end : (xs ys : List ℕ) (i : ℕ) → length xs ≤ i → length ys ≤ i → same (drop i xs) (drop i ys) ≡ true
+unfolding same
+same-end xs ys i h k = ap₂ same (drop-of-length-le xs {i = i} h) (drop-of-length-le ys {i = i} k)

@@ -1,0 +1,136 @@
+-- Numbers and their bytes: one law each over every width. Assumes nothing.
+use Prim.Native.Nat.{ℕ, zero, suc, _+_, _*_, _/_, _%_, _^_, _≤_, _<_}
+use mathlib.Core.Path.{_≡_, refl, sym, ap, ap₂, _∙_, subst}
+use mathlib.Core.List.{List, [], _∷_, _++_}
+use native.Mathlib.Omega.{arith}
+use native.Mathlib.Nat.{pow-suc, mul-assoc, mul-comm, add-mul, mul-add-div-right, mod-eq-of-lt, one-le-pow}
+use lib.Arith.{digits-lt, digits-div, digits-mod, mod-mul}
+use lib.Dec.{lit<}
+use lib.ListN.{length, take, drop, getD, length-drop, take-append-drop}
+use lib.Seq.{take-add, drop-drop, drop-cons, length-take-le}
+use Rattle.wire.proofs.Lists.{all-take, all-drop}
+use Rattle.wire.specs.BigEndian.{All, Bytes, valueAfter, value, field, bytesOf}
+
+pub positive : (k : ℕ) → 0 < 256 ^ k
+positive k = one-le-pow k 256 (lit< tt)
+
+-- ## The value of bytes
+
+after-append : (a : ℕ) (xs ys : List ℕ) → valueAfter a (xs ++ ys) ≡ valueAfter (valueAfter a xs) ys
+unfolding valueAfter
+after-append a [] ys = refl
+after-append a (x ∷ xs) ys = after-append (a * 256 + x) xs ys
+
+after-splits : (a : ℕ) (xs : List ℕ) → valueAfter a xs ≡ a * 256 ^ length xs + value xs
+unfolding valueAfter
+after-splits a [] = omega arith
+after-splits a (x ∷ xs) =
+    let p = after-splits (a * 256 + x) xs in
+    let q = after-splits (0 * 256 + x) xs in
+    rw pow-suc (omega (arith, p, q, add-mul (a * 256) x (256 ^ length xs)))
+
+pub value-append : (xs ys : List ℕ) → value (xs ++ ys) ≡ value xs * 256 ^ length ys + value ys
+value-append xs ys = after-append 0 xs ys ∙ after-splits (value xs) ys
+
+pub value-fits : (xs : List ℕ) → Bytes xs → value xs < 256 ^ length xs
+unfolding valueAfter All
+value-fits [] h = omega arith
+value-fits (x ∷ xs) h =
+    let p = after-splits (0 * 256 + x) xs in
+    let q : x * 256 ^ length xs + value xs < 256 * 256 ^ length xs = digits-lt (h .0) (value-fits xs (h .1)) in
+    rw pow-suc (omega (arith, p, q))
+
+-- ## A field of a byte string
+
+pub field-split : (i m n : ℕ) (s : List ℕ) → i + (m + n) ≤ length s → field i (m + n) s ≡ field i m s * 256 ^ n + field (i + m) n s
+unfolding field
+field-split i m n s h =
+    let d : List ℕ = drop i s in
+    let l : length (take n (drop m d)) ≡ n = length-take-le n (drop m d) (omega (arith, length-drop m d, length-drop i s)) in
+    ap value (take-add m n d)
+    ∙ value-append (take m d) (take n (drop m d))
+    ∙ ap₂ (λ (k : ℕ) (t : List ℕ). value (take m d) * 256 ^ k + value (take n t)) l (drop-drop m i s)
+
+pub field-one : (i : ℕ) (s : List ℕ) → i < length s → field i 1 s ≡ getD s i 0
+unfolding field valueAfter
+field-one i s h = ap (λ (t : List ℕ). value (take 1 t)) (drop-cons s i 0 h) ∙ omega arith
+
+pub field-fits : (i n : ℕ) (s : List ℕ) → Bytes s → i + n ≤ length s → field i n s < 256 ^ n
+unfolding field
+field-fits i n s b h =
+    let t : List ℕ = take n (drop i s) in
+    let l : length t ≡ n = length-take-le n (drop i s) (omega (arith, length-drop i s)) in
+    subst (λ (k : ℕ). value t < 256 ^ k) l (value-fits t (all-take _ n (drop i s) (all-drop _ i s b)))
+
+-- the first m of m + n bytes, and the last n
+module _ (i m n : ℕ) (s : List ℕ) (b : Bytes s) (h : i + (m + n) ≤ length s) where
+  low-fits : field (i + m) n s < 256 ^ n
+  low-fits = field-fits (i + m) n s b (omega arith)
+
+  pub field-high : field i (m + n) s / 256 ^ n ≡ field i m s
+  field-high = ap (λ (x : ℕ). x / 256 ^ n) (field-split i m n s h) ∙ digits-div (field i m s) low-fits
+
+  pub field-low : field i (m + n) s % 256 ^ n ≡ field (i + m) n s
+  field-low = ap (λ (x : ℕ). x % 256 ^ n) (field-split i m n s h) ∙ digits-mod (field i m s) low-fits
+
+-- ## The bytes of a number
+
+pub length-bytesOf : (k n : ℕ) → length (bytesOf k n) ≡ k
+unfolding bytesOf
+length-bytesOf zero n = refl
+length-bytesOf (suc k) n = ap suc (length-bytesOf k n)
+
+pub bytes-bytesOf : (k n : ℕ) → Bytes (bytesOf k n)
+unfolding bytesOf All
+bytes-bytesOf zero n = tt
+bytes-bytesOf (suc k) n = (omega arith, bytes-bytesOf k n)
+
+-- what k bytes write of a number
+pub value-bytesOf : (k n : ℕ) → value (bytesOf k n) ≡ n % 256 ^ k
+unfolding bytesOf valueAfter
+value-bytesOf zero n = omega arith
+value-bytesOf (suc k) n =
+    after-splits (0 * 256 + n / 256 ^ k % 256) (bytesOf k n)
+    ∙ ap₂ (λ (l v : ℕ). (0 * 256 + n / 256 ^ k % 256) * 256 ^ l + v) (length-bytesOf k n) (value-bytesOf k n)
+    ∙ ap (λ (x : ℕ). x * 256 ^ k + n % 256 ^ k) (omega arith)
+    ∙ sym (mod-mul n {m = 256} {c = 256 ^ k} (lit< tt) (positive k))
+    ∙ ap (λ (x : ℕ). n % x) (mul-comm 256 (256 ^ k) ∙ sym (pow-suc 256 k))
+
+-- a number that fits in k bytes reads back from them
+pub value-back : (k n : ℕ) → n < 256 ^ k → value (bytesOf k n) ≡ n
+value-back k n h = value-bytesOf k n ∙ mod-eq-of-lt h
+
+-- the k bytes of a number do not depend on what is above them
+bytes-low : (k a n : ℕ) → bytesOf k (a * 256 ^ k + n) ≡ bytesOf k n
+unfolding bytesOf
+bytes-low zero a n = refl
+bytes-low (suc k) a n =
+    let e : a * 256 ^ suc k + n ≡ a * 256 * 256 ^ k + n =
+    ap (λ (x : ℕ). x + n) (ap (λ (x : ℕ). a * x) (pow-suc 256 k ∙ mul-comm (256 ^ k) 256) ∙ sym (mul-assoc a 256 (256 ^ k))) in
+    let q : (a * 256 ^ suc k + n) / 256 ^ k ≡ a * 256 + n / 256 ^ k =
+    ap (λ (x : ℕ). x / 256 ^ k) e ∙ mul-add-div-right (positive k) (a * 256) n in
+    ap₂ (λ (x : ℕ) (l : List ℕ). x ∷ l)
+    (ap (λ (x : ℕ). x % 256) q ∙ omega arith)
+    (ap (bytesOf k) e ∙ bytes-low k (a * 256) n)
+
+-- bytes are those of the number that they write
+pub bytes-back : (xs : List ℕ) → Bytes xs → bytesOf (length xs) (value xs) ≡ xs
+unfolding bytesOf valueAfter All
+bytes-back [] h = refl
+bytes-back (x ∷ xs) h =
+    let l : ℕ = length xs in
+    let p : value (x ∷ xs) ≡ x * 256 ^ l + value xs = after-splits (0 * 256 + x) xs ∙ ap (λ (y : ℕ). y * 256 ^ l + value xs) (omega arith) in
+    let q : value (x ∷ xs) / 256 ^ l ≡ x = ap (λ (y : ℕ). y / 256 ^ l) p ∙ digits-div x (value-fits xs (h .1)) in
+    ap₂ (λ (y : ℕ) (t : List ℕ). y ∷ t)
+    (ap (λ (y : ℕ). y % 256) q ∙ mod-eq-of-lt (h .0))
+    (ap (bytesOf l) p ∙ bytes-low l x (value xs) ∙ bytes-back xs (h .1))
+
+-- what stands from index i on: the bytes of the field there, and what follows them
+pub drop-field : (i n : ℕ) (s : List ℕ) → Bytes s → i + n ≤ length s → drop i s ≡ bytesOf n (field i n s) ++ drop (i + n) s
+unfolding field
+drop-field i n s b h =
+    let t : List ℕ = take n (drop i s) in
+    let l : length t ≡ n = length-take-le n (drop i s) (omega (arith, length-drop i s)) in
+    let e : bytesOf n (value t) ≡ t =
+    ap (λ (k : ℕ). bytesOf k (value t)) (sym l) ∙ bytes-back t (all-take _ n (drop i s) (all-drop _ i s b)) in
+    sym (take-append-drop n (drop i s)) ∙ ap₂ (λ (x y : List ℕ). x ++ y) (sym e) (drop-drop n i s)
