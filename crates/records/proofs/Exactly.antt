@@ -6,9 +6,13 @@ use mathlib.Core.List.{List, [], _∷_, _++_}
 use native.Mathlib.Omega.{arith}
 use lib.Dec.{eqb}
 use lib.ListN.{length, drop, drop-of-length-le}
+use Rattle.ledgers.specs.Ledgers.{ledgerByte, ledgerAt, kindByte, kindAt, ledgerOf}
+use Rattle.ledgers.specs.declared.Kind.the-variants.{Local, Sending, Receiving}
+use Rattle.ledgers.specs.declared.Kind.{Kind}
+use Rattle.ledgers.specs.declared.Ledger.the-variants.{Home, Far}
+use Rattle.ledgers.specs.declared.Ledger.{Ledger}
 use Rattle.records.proofs.Formed.{Formed, formed-facts, facts-formed, read-formed, formed-reads}
-use Rattle.records.specs.Ledgers.{Ledger, Home, Far, ledgerByte, ledgerAt}
-use Rattle.records.specs.Records.{Kind, Local, Sending, Receiving, Record, Read, kindByte, kindAt, ledgerOf, recordIn, reading, encoding, Encodable, ReadsExactly, EncodedOnce}
+use Rattle.records.specs.Records.{Record, Read, recordIn, reading, encoding, Encodable, ReadsExactly, EncodedOnce}
 use Rattle.wire.proofs.Numbers.{field-fits, value-back, drop-field}
 use Rattle.wire.specs.BigEndian.{Bytes, valueAfter, field, bytesOf}
 

@@ -5,7 +5,7 @@ use mathlib.Core.Bool.{Bool, true, false}
 use mathlib.Core.List.{List}
 use lib.ListN.{length}
 use borrow.Author.Tests.{eqb-true, eq-eqb, ltb-true, lt-ltb, leb-true, le-leb}
-use Rattle.records.specs.Limits.{maxAmount}
+use Rattle.ledgers.specs.Limits.{maxAmount}
 use Rattle.records.specs.Records.{Record, Read, Unreadable, formed, recordIn, reading}
 use Rattle.wire.proofs.Lists.{every-none, every-first, every-both}
 use Rattle.wire.specs.BigEndian.{field}

@@ -1,4 +1,3 @@
--- Laws of answers, of reading and of encoding. Assumes nothing.
-pub mod Answers
+-- Laws of reading and encoding. Assumes nothing.
 pub mod Formed
 pub mod Exactly

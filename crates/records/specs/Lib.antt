@@ -1,4 +1,1 @@
-pub mod Limits
-pub mod Ledgers
 pub mod Records
-pub mod Answers

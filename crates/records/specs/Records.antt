@@ -1,4 +1,4 @@
--- The record of 32 bytes (document 01, "The record"): its kinds, its reading and its encoding. Assumes nothing.
+-- The record of 32 bytes (document 01, "The record"): its reading and its encoding. Assumes nothing.
 use Prim.Native.Nat.{ℕ, _<_, _≤_, _^_}
 use mathlib.Core.Bool.{Bool, cond}
 use mathlib.Core.List.{List, [], _∷_, _++_}
@@ -7,43 +7,11 @@ use mathlib.Core.Path.{_≡_}
 use lib.Dec.{eqb, ltb, leb}
 use lib.ListN.{length, replicate}
 use Rattle.wire.specs.BigEndian.{Bytes, every, field, bytesOf}
-use Rattle.records.specs.Limits.{maxAmount}
-use Rattle.records.specs.Ledgers.{Ledger, counterpart, ledgerByte, ledgerAt}
-pub use Rattle.records.specs.declared.Kind.{Kind}
-pub use Rattle.records.specs.declared.Kind.the-variants.{Local, Sending, Receiving}
+use Rattle.ledgers.specs.Limits.{maxAmount}
+use Rattle.ledgers.specs.Ledgers.{ledgerByte, ledgerAt, kindByte, kindAt, ledgerOf}
 pub use Rattle.records.specs.declared.Record.{Record}
 pub use Rattle.records.specs.declared.Reading.{Reading}
 pub use Rattle.records.specs.declared.Reading.the-variants.{Read, Unreadable}
-
--- ## The kinds
-
--- byte 0: 1 local, 2 sending, 3 receiving (document 01: arrival)
-abbrev pub kindByte : Kind → ℕ
-kindByte (Local l) = 1
-kindByte (Sending l) = 2
-kindByte (Receiving l) = 3
-
--- the kind with a byte, which is 1, 2 or 3
-abbrev pub kindAt : ℕ → Ledger → Kind
-kindAt n l = cond (eqb n 1) (Local l) (cond (eqb n 2) (Sending l) (Receiving l))
-
--- the ledger that holds the record
-abbrev pub ledgerOf : Kind → Ledger
-ledgerOf (Local l) = l
-ledgerOf (Sending l) = l
-ledgerOf (Receiving l) = l
-
--- a local's two accounts are on the record's ledger; a sending's sender is on it and its receiver on the other one; a
--- receiving's receiver is on it and its sender on the other one
-abbrev pub senderLedger : Kind → Ledger
-senderLedger (Local l) = l
-senderLedger (Sending l) = l
-senderLedger (Receiving l) = counterpart l
-
-abbrev pub receiverLedger : Kind → Ledger
-receiverLedger (Local l) = l
-receiverLedger (Sending l) = counterpart l
-receiverLedger (Receiving l) = l
 
 -- ## Reading
 

@@ -1,110 +1,15 @@
-// The record of 32 bytes (document 01, "The record"): the two ledgers, the three kinds, reading and encoding; and the
-// answer that every call of the journal and of the validators gives.
+// The record of 32 bytes (document 01, "The record"): reading and encoding.
 ghost use mathlib.Core.Path.{_≡_};
 ghost use mathlib.Core.Bool.{cond};
 ghost use lib.ListN.{length};
-ghost use Rattle.records.specs.Ledgers.{counterpart, ledgerByte, ledgerAt};
-ghost use Rattle.records.specs.Records.{kindByte, kindAt, ledgerOf, senderLedger, receiverLedger, formed, recordIn, reading, encoding};
-ghost use Rattle.records.specs.Answers.{numberOf, placeOf};
+ghost use Rattle.ledgers.specs.Ledgers.{ledgerAt, kindAt};
+ghost use Rattle.records.specs.Records.{formed, recordIn, reading, encoding};
+use ledgers::Kind;
+use ledgers::Ledger;
 use wire::u16_at;
 use wire::u16_bytes;
 use wire::u64_at;
 use wire::u64_bytes;
-
-// The two linked ledgers.
-pub enum Ledger {
-    Home,
-    Far,
-}
-
-impl Ledger {
-    // The byte of a record that says which ledger holds it.
-    pub const HOME: u8 = 0;
-
-    pub const FAR: u8 = 1;
-    // The most accounts of a ledger.
-    pub const ACCOUNTS: usize = 56;
-    // The passed records that a validator holds of a ledger (document 01: places).
-    pub const CAPACITY: usize = 512;
-
-    // The other ledger.
-    pub fn counterpart(self) -> Ledger
-        ensures { λ r. ⌜ r ≡ counterpart self ⌝ }
-    {
-        match self {
-            Ledger::Home => Ledger::Far,
-            Ledger::Far => Ledger::Home,
-        }
-    }
-
-    pub fn byte(self) -> u8
-        ensures { λ r. ⌜ r ≡ ledgerByte self ⌝ }
-    {
-        match self {
-            Ledger::Home => Ledger::HOME,
-            Ledger::Far => Ledger::FAR,
-        }
-    }
-}
-
-// What a record does, with the ledger that holds it.
-pub enum Kind {
-    Local(Ledger),
-    Sending(Ledger),
-    // Document 01: arrival.
-    Receiving(Ledger),
-}
-
-impl Kind {
-    pub const LOCAL: u8 = 1;
-
-    pub const SENDING: u8 = 2;
-
-    pub const RECEIVING: u8 = 3;
-
-    pub fn byte(self) -> u8
-        ensures { λ r. ⌜ r ≡ kindByte self ⌝ }
-    {
-        match self {
-            Kind::Local(_) => Kind::LOCAL,
-            Kind::Sending(_) => Kind::SENDING,
-            Kind::Receiving(_) => Kind::RECEIVING,
-        }
-    }
-
-    // The ledger that holds the record.
-    pub fn ledger(self) -> Ledger
-        ensures { λ r. ⌜ r ≡ ledgerOf self ⌝ }
-    {
-        match self {
-            Kind::Local(l) => l,
-            Kind::Sending(l) => l,
-            Kind::Receiving(l) => l,
-        }
-    }
-
-    // The ledger of the sender's account.
-    pub fn sender_ledger(self) -> Ledger
-        ensures { λ r. ⌜ r ≡ senderLedger self ⌝ }
-    {
-        match self {
-            Kind::Local(l) => l,
-            Kind::Sending(l) => l,
-            Kind::Receiving(l) => l.counterpart(),
-        }
-    }
-
-    // The ledger of the receiver's account.
-    pub fn receiver_ledger(self) -> Ledger
-        ensures { λ r. ⌜ r ≡ receiverLedger self ⌝ }
-    {
-        match self {
-            Kind::Local(l) => l,
-            Kind::Sending(l) => l.counterpart(),
-            Kind::Receiving(l) => l,
-        }
-    }
-}
 
 // A record that was read.
 pub struct Record {
@@ -261,33 +166,5 @@ impl Record {
             0,
             0,
         ]
-    }
-}
-
-// Passed, or one of document 01's refusals with its place.
-pub enum Answer {
-    Passed,
-    Refused { number: u32, place: u64 },
-}
-
-impl Answer {
-    // The refusal's number; 0 where it passed.
-    pub fn number(self) -> u32
-        ensures { λ r. ⌜ r ≡ numberOf self ⌝ }
-    {
-        match self {
-            Answer::Passed => 0,
-            Answer::Refused { number, place: _ } => number,
-        }
-    }
-
-    // The refusal's place; 0 where it passed.
-    pub fn place(self) -> u64
-        ensures { λ r. ⌜ r ≡ placeOf self ⌝ }
-    {
-        match self {
-            Answer::Passed => 0,
-            Answer::Refused { number: _, place } => place,
-        }
     }
 }

@@ -9,7 +9,7 @@ use lib.Dec.{eqb}
 use lib.ListN.{length, take, drop, getD, replicate, drop-of-length-le}
 use lib.Seq.{drop-cons}
 use borrow.Author.Tests.{eqb-true, eq-eqb, ne-eqb}
-use Rattle.wire.specs.BigEndian.{All, every, zeros, same}
+use Rattle.wire.specs.BigEndian.{All, Bytes, every, zeros, same}
 
 -- ## Tests
 
@@ -18,6 +18,7 @@ pub and-both : (s t : Bool) → (s && t) ≡ true → (s ≡ true) × (t ≡ tru
 and-both true t h = (refl, h)
 and-both false t h = (h, let z : false ≡ true = h in cc)
 
+-- a conjunction with true
 and-true : (t : Bool) → (t && true) ≡ t
 and-true true = refl
 and-true false = refl
@@ -59,23 +60,32 @@ every-not (suc k) (false ∷ ts) h = refl
 -- ## Properties
 
 module _ {A : Type 0} (P : A → Type 0) where
+  -- of lists joined
   pub all-append : (xs ys : List A) → All P xs → All P ys → All P (xs ++ ys)
   unfolding All
   all-append [] ys h k = k
   all-append (x ∷ xs) ys h k = (h .0, all-append xs ys (h .1) k)
 
+  -- of the first elements
   pub all-take : (n : ℕ) (xs : List A) → All P xs → All P (take n xs)
   unfolding All
   all-take zero xs h = tt
   all-take (suc n) [] h = tt
   all-take (suc n) (x ∷ xs) h = (h .0, all-take n xs (h .1))
 
+  -- of what follows the first elements
   pub all-drop : (n : ℕ) (xs : List A) → All P xs → All P (drop n xs)
   unfolding All
   all-drop zero xs h = h
   all-drop (suc n) [] h = tt
   all-drop (suc n) (x ∷ xs) h = all-drop n xs (h .1)
 
+  pub all-split : (xs ys : List A) → All P (xs ++ ys) → All P xs × All P ys
+  unfolding All
+  all-split [] ys h = (tt, h)
+  all-split (x ∷ xs) ys h = let t = all-split xs ys (h .1) in ((h .0, t .0), t .1)
+
+  -- of one element
   pub all-at : (d : A) (i : ℕ) (xs : List A) → P d → All P xs → P (getD xs i d)
   unfolding All
   all-at d i [] p h = p
@@ -89,11 +99,13 @@ module _ {A : Type 0} (P : A → Type 0) where
 
 -- ## Zero bytes
 
+-- zeros are zeros
 pub zeros-replicate : (n : ℕ) → zeros (replicate n 0) ≡ true
 unfolding zeros
 zeros-replicate zero = refl
 zeros-replicate (suc n) = zeros-replicate n
 
+-- a list that passes the test is zeros
 pub zeros-are : (s : List ℕ) → zeros s ≡ true → s ≡ replicate (length s) 0
 unfolding zeros
 zeros-are [] h = refl
@@ -107,15 +119,18 @@ part-cons s i e h k =
     let z : e - i ≡ suc (e - (i + 1)) = omega arith in
     ap₂ (λ (n : ℕ) (l : List ℕ). take n l) z (drop-cons s i 0 (omega arith)) ∙ rw add-one
 
+-- the test of that part where the byte at i is not zero
 pub zeros-here : (s : List ℕ) (i e : ℕ) → i < e → e ≤ length s → (getD s i 0 ≡ 0 → ⊥) → zeros (take (e - i) (drop i s)) ≡ false
 unfolding zeros
 zeros-here s i e h k n = ap zeros (part-cons s i e h k) ∙ rw (ne-eqb _ _ n)
 
+-- where it is zero
 pub zeros-on : (s : List ℕ) (i e : ℕ) → i < e → e ≤ length s → getD s i 0 ≡ 0
     → zeros (take (e - i) (drop i s)) ≡ zeros (take (e - (i + 1)) (drop (i + 1) s))
 unfolding zeros
 zeros-on s i e h k n = ap zeros (part-cons s i e h k) ∙ rw (eq-eqb _ _ n)
 
+-- and at the end
 pub zeros-end : (s : List ℕ) (i e : ℕ) → e ≤ i → zeros (take (e - i) (drop i s)) ≡ true
 unfolding zeros
 zeros-end s i e h = let z : e - i ≡ 0 = omega arith in ap (λ (n : ℕ). zeros (take n (drop i s))) z
@@ -151,3 +166,12 @@ module _ (xs ys : List ℕ) (i : ℕ) (h : i < length xs) (k : i < length ys) wh
 pub same-end : (xs ys : List ℕ) (i : ℕ) → length xs ≤ i → length ys ≤ i → same (drop i xs) (drop i ys) ≡ true
 unfolding same
 same-end xs ys i h k = ap₂ same (drop-of-length-le xs {i = i} h) (drop-of-length-le ys {i = i} k)
+
+-- zero bytes are bytes
+pub bytes-zeros : (n : ℕ) → Bytes (replicate n 0)
+unfolding All
+bytes-zeros zero = tt
+bytes-zeros (suc n) = (omega arith, bytes-zeros n)
+
+pub bytes-append : (xs ys : List ℕ) → Bytes xs → Bytes ys → Bytes (xs ++ ys)
+bytes-append xs ys h k = all-append (λ (x : ℕ). x < 256) xs ys h k

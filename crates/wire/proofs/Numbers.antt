@@ -6,21 +6,24 @@ use native.Mathlib.Omega.{arith}
 use native.Mathlib.Nat.{pow-suc, mul-assoc, mul-comm, add-mul, mul-add-div-right, mod-eq-of-lt, one-le-pow}
 use lib.Arith.{digits-lt, digits-div, digits-mod, mod-mul}
 use lib.Dec.{lit<}
-use lib.ListN.{length, take, drop, getD, length-drop, take-append-drop}
-use lib.Seq.{take-add, drop-drop, drop-cons, length-take-le}
+use lib.ListN.{length, take, drop, getD, length-drop, take-append-drop, drop-of-length-le}
+use lib.Seq.{take-add, drop-drop, drop-cons, length-take-le, take-nil}
 use Rattle.wire.proofs.Lists.{all-take, all-drop}
 use Rattle.wire.specs.BigEndian.{All, Bytes, valueAfter, value, field, bytesOf}
 
+-- a power of 256 is positive
 pub positive : (k : ℕ) → 0 < 256 ^ k
 positive k = one-le-pow k 256 (lit< tt)
 
 -- ## The value of bytes
 
+-- bytes after bytes
 after-append : (a : ℕ) (xs ys : List ℕ) → valueAfter a (xs ++ ys) ≡ valueAfter (valueAfter a xs) ys
 unfolding valueAfter
 after-append a [] ys = refl
 after-append a (x ∷ xs) ys = after-append (a * 256 + x) xs ys
 
+-- what stands before bytes counts for as many places
 after-splits : (a : ℕ) (xs : List ℕ) → valueAfter a xs ≡ a * 256 ^ length xs + value xs
 unfolding valueAfter
 after-splits a [] = omega arith
@@ -29,9 +32,11 @@ after-splits a (x ∷ xs) =
     let q = after-splits (0 * 256 + x) xs in
     rw pow-suc (omega (arith, p, q, add-mul (a * 256) x (256 ^ length xs)))
 
+-- the value of bytes and bytes after them
 pub value-append : (xs ys : List ℕ) → value (xs ++ ys) ≡ value xs * 256 ^ length ys + value ys
 value-append xs ys = after-append 0 xs ys ∙ after-splits (value xs) ys
 
+-- n bytes write a number below 256 ^ n
 pub value-fits : (xs : List ℕ) → Bytes xs → value xs < 256 ^ length xs
 unfolding valueAfter All
 value-fits [] h = omega arith
@@ -42,6 +47,7 @@ value-fits (x ∷ xs) h =
 
 -- ## A field of a byte string
 
+-- a field of m + n bytes is one of m bytes and one of n
 pub field-split : (i m n : ℕ) (s : List ℕ) → i + (m + n) ≤ length s → field i (m + n) s ≡ field i m s * 256 ^ n + field (i + m) n s
 unfolding field
 field-split i m n s h =
@@ -51,10 +57,17 @@ field-split i m n s h =
     ∙ value-append (take m d) (take n (drop m d))
     ∙ ap₂ (λ (k : ℕ) (t : List ℕ). value (take m d) * 256 ^ k + value (take n t)) l (drop-drop m i s)
 
+-- a field of one byte
 pub field-one : (i : ℕ) (s : List ℕ) → i < length s → field i 1 s ≡ getD s i 0
 unfolding field valueAfter
 field-one i s h = ap (λ (t : List ℕ). value (take 1 t)) (drop-cons s i 0 h) ∙ omega arith
 
+-- past the end there is nothing
+pub field-none : (i n : ℕ) (s : List ℕ) → length s ≤ i → field i n s ≡ 0
+unfolding field valueAfter
+field-none i n s h = ap (λ (t : List ℕ). value (take n t)) (drop-of-length-le s {i = i} h) ∙ ap value (take-nil n)
+
+-- a field of n bytes is below 256 ^ n
 pub field-fits : (i n : ℕ) (s : List ℕ) → Bytes s → i + n ≤ length s → field i n s < 256 ^ n
 unfolding field
 field-fits i n s b h =
@@ -75,11 +88,13 @@ module _ (i m n : ℕ) (s : List ℕ) (b : Bytes s) (h : i + (m + n) ≤ length 
 
 -- ## The bytes of a number
 
+-- k bytes are k
 pub length-bytesOf : (k n : ℕ) → length (bytesOf k n) ≡ k
 unfolding bytesOf
 length-bytesOf zero n = refl
 length-bytesOf (suc k) n = ap suc (length-bytesOf k n)
 
+-- they are bytes
 pub bytes-bytesOf : (k n : ℕ) → Bytes (bytesOf k n)
 unfolding bytesOf All
 bytes-bytesOf zero n = tt
@@ -125,12 +140,20 @@ bytes-back (x ∷ xs) h =
     (ap (λ (y : ℕ). y % 256) q ∙ mod-eq-of-lt (h .0))
     (ap (bytesOf l) p ∙ bytes-low l x (value xs) ∙ bytes-back xs (h .1))
 
--- what stands from index i on: the bytes of the field there, and what follows them
-pub drop-field : (i n : ℕ) (s : List ℕ) → Bytes s → i + n ≤ length s → drop i s ≡ bytesOf n (field i n s) ++ drop (i + n) s
+-- the bytes of a field are those that stand there
+pub bytes-field : (i n : ℕ) (s : List ℕ) → Bytes s → i + n ≤ length s → bytesOf n (field i n s) ≡ take n (drop i s)
 unfolding field
-drop-field i n s b h =
+bytes-field i n s b h =
     let t : List ℕ = take n (drop i s) in
     let l : length t ≡ n = length-take-le n (drop i s) (omega (arith, length-drop i s)) in
-    let e : bytesOf n (value t) ≡ t =
-    ap (λ (k : ℕ). bytesOf k (value t)) (sym l) ∙ bytes-back t (all-take _ n (drop i s) (all-drop _ i s b)) in
-    sym (take-append-drop n (drop i s)) ∙ ap₂ (λ (x y : List ℕ). x ++ y) (sym e) (drop-drop n i s)
+    ap (λ (k : ℕ). bytesOf k (value t)) (sym l) ∙ bytes-back t (all-take _ n (drop i s) (all-drop _ i s b))
+
+-- what stands from index i on: the bytes of the field there, and what follows them
+pub drop-field : (i n : ℕ) (s : List ℕ) → Bytes s → i + n ≤ length s → drop i s ≡ bytesOf n (field i n s) ++ drop (i + n) s
+drop-field i n s b h =
+    sym (take-append-drop n (drop i s)) ∙ ap₂ (λ (x y : List ℕ). x ++ y) (sym (bytes-field i n s b h)) (drop-drop n i s)
+
+-- a number below 256 is its one byte
+pub one-byte : (n : ℕ) → n < 256 → bytesOf 1 n ≡ n ∷ []
+unfolding bytesOf
+one-byte n h = ap (λ (x : ℕ). x ∷ []) (omega arith)

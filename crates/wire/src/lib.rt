@@ -5,6 +5,7 @@ ghost use Prim.Native.Nat.{_+_, _-_, _≤_, _<_};
 ghost use lib.ListN.{length, take, drop};
 ghost use Rattle.wire.specs.BigEndian.{field, bytesOf, zeros, same};
 
+// A number of 8 bits in 16 bits.
 fn wide8(x: u8) -> u16
     ensures { λ r. ⌜ (r ≡ x) × (r < 256) ⌝ }
 {
@@ -19,6 +20,7 @@ pub fn u16_at(s: &[u8], i: usize) -> u16
     wide8(s[i]) * 256 + wide8(s[i + 1])
 }
 
+// A number of 16 bits in 32 bits.
 fn wide16(x: u16) -> u32
     ensures { λ r. ⌜ (r ≡ x) × (r < 65536) ⌝ }
 {
@@ -33,6 +35,7 @@ pub fn u32_at(s: &[u8], i: usize) -> u32
     wide16(u16_at(s, i)) * 65536 + wide16(u16_at(s, i + 2))
 }
 
+// A number of 32 bits in 64 bits.
 fn wide32(x: u32) -> u64
     ensures { λ r. ⌜ (r ≡ x) × (r < 4294967296) ⌝ }
 {

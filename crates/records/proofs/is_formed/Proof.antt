@@ -6,7 +6,7 @@ use lib.Dec.{eqb}
 use lib.ListN.{length, getD}
 use borrow.Author.Tests.{eq-eqb, ne-eqb, lt-ltb, le-ltb, le-leb, lt-leb}
 use borrow.Author.Needs.{needs}
-use Rattle.records.specs.Limits.{maxAmount}
+use Rattle.ledgers.specs.Limits.{maxAmount}
 use Rattle.records.specs.Records.{formed}
 use Rattle.wire.proofs.Lists.{every-one, every-skip, every-not, all-of}
 use Rattle.wire.proofs.Numbers.{field-one, field-high, field-low}

@@ -5,8 +5,8 @@ use native.Mathlib.Omega.{arith}
 use lib.Dec.{eqb}
 use lib.ListN.{length, getD}
 use borrow.Author.Needs.{needs}
-use Rattle.records.specs.Ledgers.{ledgerAt}
-use Rattle.records.specs.Records.{kindAt, recordIn}
+use Rattle.ledgers.specs.Ledgers.{ledgerAt, kindAt}
+use Rattle.records.specs.Records.{recordIn}
 use Rattle.wire.proofs.Numbers.{field-one}
 use Rattle.wire.specs.BigEndian.{field}
 use Rattle.records.proofs.record_in.Statement.{statement}

@@ -3,7 +3,7 @@ use mathlib.Core.Path.{ap, _∙_}
 use mathlib.Core.List.{[], _∷_}
 use lib.ListN.{getD}
 use borrow.Author.Needs.{needs}
-use Rattle.records.specs.Ledgers.{ledgerByte}
+use Rattle.ledgers.specs.Ledgers.{ledgerByte}
 use Rattle.records.specs.Records.{encoding}
 use Rattle.wire.specs.BigEndian.{bytesOf}
 use Rattle.records.proofs.Record.encode.Statement.{statement}

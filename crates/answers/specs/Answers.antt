@@ -1,8 +1,8 @@
 -- The answer of a call (document 01, "Refusals"): its number and its place. Assumes nothing.
 use Prim.Native.Nat.{ℕ, zero, suc}
 use mathlib.Core.Bool.{Bool, true, false}
-pub use Rattle.records.specs.declared.Answer.{Answer}
-pub use Rattle.records.specs.declared.Answer.the-variants.{Passed, Refused}
+pub use Rattle.answers.specs.declared.Answer.{Answer}
+pub use Rattle.answers.specs.declared.Answer.the-variants.{Passed, Refused}
 
 -- document 01's number of each case: 0 passed, or the refusal's
 abbrev pub numberOf : Answer → ℕ

@@ -1,0 +1,57 @@
+-- Laws of answers: the number and the place of an answer, and what follows from the case that came back. Assumes nothing.
+use Prim.Native.Nat.{ℕ, zero, suc, _<_}
+use mathlib.Core.Path.{_≡_, refl}
+use mathlib.Core.Bool.{Bool, true, false}
+use native.Mathlib.Omega.{arith}
+use Rattle.answers.specs.Answers.{Passed, Refused, numberOf, placeOf, answer, refuse, orElse, unlessRefused}
+
+pub number-of : (n p : ℕ) → numberOf (answer n p) ≡ n
+number-of zero p = refl
+number-of (suc n) p = refl
+
+pub place-of : (n p : ℕ) → 0 < n → placeOf (answer n p) ≡ p
+place-of zero p h = absurd (omega arith)
+place-of (suc n) p h = refl
+
+-- an answer that passed has number 0
+pub passed-zero : (n p : ℕ) → answer n p ≡ Passed → n ≡ 0
+passed-zero zero p h = refl
+passed-zero (suc n) p h = let z : _≡_ {A = ℕ} 0 1 = cc in absurd (omega arith)
+
+-- a refusal is the answer whatever the later tests say, and nothing is handed out
+pub refused-stays : (n p m q later : ℕ) → answer n p ≡ Refused m q → answer (orElse n later) p ≡ Refused m q
+refused-stays zero p m q later h = let z : _≡_ {A = ℕ} 0 1 = cc in absurd (omega arith)
+refused-stays (suc n) p m q later h = h
+
+pub refused-instead : {A : Type 0} (n p m q : ℕ) (given instead : A) → answer n p ≡ Refused m q → unlessRefused n given instead ≡ instead
+refused-instead zero p m q given instead h = let z : _≡_ {A = ℕ} 0 1 = cc in absurd (omega arith)
+refused-instead (suc n) p m q given instead h = refl
+
+-- no refusal at all
+pub or-else-zero : (n later : ℕ) → orElse n later ≡ 0 → (n ≡ 0) × (later ≡ 0)
+or-else-zero zero later h = (refl, h)
+or-else-zero (suc n) later h = absurd (omega arith)
+
+-- a test that does not refuse, before tests that do not
+pub refuse-zero : (t : Bool) (n later : ℕ) → 0 < n → refuse t n later ≡ 0 → (t ≡ false) × (later ≡ 0)
+refuse-zero false n later l h = (refl, h)
+refuse-zero true n later l h = absurd (omega arith)
+
+-- a refusal by a test, and where it does not refuse what the later tests say
+pub refuse-else : (t : Bool) (n later : ℕ) → 0 < n → orElse (refuse t n 0) later ≡ refuse t n later
+refuse-else true zero later l = absurd (omega arith)
+refuse-else true (suc n) later l = refl
+refuse-else false n later l = refl
+
+-- any number but 0 is a refusal
+pub answer-refused : (n p : ℕ) → (n ≡ 0 → ⊥) → Refused n p ≡ answer n p
+answer-refused zero p h = absurd (h refl)
+answer-refused (suc n) p h = refl
+
+pub else-refused : (n later : ℕ) → (n ≡ 0 → ⊥) → n ≡ orElse n later
+else-refused zero later h = absurd (h refl)
+else-refused (suc n) later h = refl
+
+pub instead-refused : {A : Type 0} (n : ℕ) (given instead : A) → (n ≡ 0 → ⊥) → instead ≡ unlessRefused n given instead
+instead-refused zero given instead h = absurd (h refl)
+instead-refused (suc n) given instead h = refl

@@ -1,0 +1,2 @@
+-- Laws of answers. Assumes nothing.
+pub mod Answers

@@ -1,0 +1,133 @@
+-- Opening balances and records as the items of blocks: what is laid out reads back, and only that. Assumes nothing.
+use Prim.Native.Nat.{ℕ, zero, suc, _+_, _*_, _^_, _≤_, _<_}
+use mathlib.Core.Path.{_≡_, refl, sym, ap, ap₂, _∙_}
+use mathlib.Core.List.{List, [], _∷_, _++_, append-assoc, append-nil}
+use native.Mathlib.Omega.{arith}
+use lib.ListN.{length, take, drop, length-append, length-drop}
+use lib.Seq.{take-add, drop-drop, length-take-le, take-at, drop-at}
+use Rattle.journal_reader.specs.Blocks.{recordPart, recordsIn, balancesIn}
+use Rattle.journal.specs.Journal.{RecordBytes, joined, balanceBytes}
+use Rattle.wire.proofs.Lists.{all-append, all-take, all-drop, bytes-append}
+use Rattle.wire.proofs.Numbers.{field-fits, length-bytesOf, bytes-bytesOf, value-back, bytes-field}
+use Rattle.wire.specs.BigEndian.{All, Bytes, value, field, bytesOf}
+
+-- ## Lists one after the other
+
+joined-snoc : {A : Type 0} (xs : List (List A)) (x : List A) → joined (xs ++ x ∷ []) ≡ joined xs ++ x
+unfolding joined
+joined-snoc [] x = append-nil x
+joined-snoc (y ∷ ys) x = ap (λ (t : List _). y ++ t) (joined-snoc ys x) ∙ sym (append-assoc y (joined ys) x)
+
+pub joined-append : {A : Type 0} (xs ys : List (List A)) → joined (xs ++ ys) ≡ joined xs ++ joined ys
+unfolding joined
+joined-append [] ys = refl
+joined-append (x ∷ xs) ys = ap (λ (t : List _). x ++ t) (joined-append xs ys) ∙ sym (append-assoc x (joined xs) (joined ys))
+
+-- two lists of n elements with something after each
+same-heads : {A : Type 0} (n : ℕ) (x y p q : List A) → length x ≡ n → length y ≡ n → x ++ p ≡ y ++ q → (x ≡ y) × (p ≡ q)
+same-heads n x y p q lx ly e =
+    (sym (take-at x p n lx) ∙ ap (take n) e ∙ take-at y q n ly, sym (drop-at x p n lx) ∙ ap (drop n) e ∙ drop-at y q n ly)
+
+-- ## Records
+
+abbrev pub Long : List ℕ → Type 0
+Long r = length r ≡ 32
+
+pub all-long : (rs : List (List ℕ)) → All RecordBytes rs → All Long rs
+unfolding All
+all-long [] h = tt
+all-long (r ∷ rs) h = (h .0 .long, all-long rs (h .1))
+
+pub length-joined : (rs : List (List ℕ)) → All Long rs → length (joined rs) ≡ length rs * 32
+unfolding joined All
+length-joined [] h = refl
+length-joined (r ∷ rs) h = omega (arith, length-append r (joined rs), h .0, length-joined rs (h .1))
+
+pub bytes-joined : (rs : List (List ℕ)) → All RecordBytes rs → Bytes (joined rs)
+unfolding joined All
+bytes-joined [] h = tt
+bytes-joined (r ∷ rs) h = bytes-append r (joined rs) (h .0 .bytes) (bytes-joined rs (h .1))
+
+-- records of 32 bytes are told apart by their bytes in a row
+pub joined-only : (rs qs : List (List ℕ)) → All Long rs → All Long qs → joined rs ≡ joined qs → rs ≡ qs
+unfolding joined All
+joined-only [] [] h k e = refl
+joined-only [] (q ∷ qs) h k e = absurd (omega (arith, ap length e, length-append q (joined qs), k .0))
+joined-only (r ∷ rs) [] h k e = absurd (omega (arith, ap length e, length-append r (joined rs), h .0))
+joined-only (r ∷ rs) (q ∷ qs) h k e =
+    let s = same-heads 32 r q (joined rs) (joined qs) (h .0) (k .0) e in
+    ap₂ (λ (x : List ℕ) (l : List (List ℕ)). x ∷ l) (s .0) (joined-only rs qs (h .1) (k .1) (s .1))
+
+-- the first n records of a block, in a row
+pub records-joined : (n : ℕ) (b : List ℕ) → joined (recordsIn n b) ≡ take (n * 32) (drop 32 b)
+unfolding recordsIn recordPart joined
+records-joined zero b = refl
+records-joined (suc n) b =
+    let z : suc n * 32 ≡ n * 32 + 32 = omega arith in
+    let w : 32 + n * 32 ≡ 32 + 32 * n = omega arith in
+    joined-snoc (recordsIn n b) (take 32 (drop (32 + 32 * n) b))
+    ∙ ap₂ (λ (x y : List ℕ). x ++ y) (records-joined n b) (ap (λ (m : ℕ). take 32 (drop m b)) (sym w) ∙ ap (take 32) (sym (drop-drop (n * 32) 32 b)))
+    ∙ sym (take-add (n * 32) 32 (drop 32 b))
+    ∙ ap (λ (m : ℕ). take m (drop 32 b)) (sym z)
+
+pub records-whole : (n : ℕ) (b : List ℕ) → Bytes b → 32 + n * 32 ≤ length b → All RecordBytes (recordsIn n b)
+unfolding recordsIn recordPart All
+records-whole zero b y h = tt
+records-whole (suc n) b y h =
+    let d : List ℕ = drop (32 + 32 * n) b in
+    let one : RecordBytes (take 32 d) =
+    record {
+      long = length-take-le 32 d (omega (arith, length-drop (32 + 32 * n) b));
+      bytes = all-take _ 32 d (all-drop _ (32 + 32 * n) b y);
+    } in
+    all-append RecordBytes (recordsIn n b) (take 32 d ∷ []) (records-whole n b y (omega arith)) (one, tt)
+
+-- ## Opening balances
+
+abbrev pub Fit : ℕ → Type 0
+Fit x = x < 2 ^ 64
+
+pub length-balance-bytes : (xs : List ℕ) → length (balanceBytes xs) ≡ length xs * 8
+unfolding balanceBytes
+length-balance-bytes [] = refl
+length-balance-bytes (x ∷ xs) = omega (arith, length-append (bytesOf 8 x) (balanceBytes xs), length-bytesOf 8 x, length-balance-bytes xs)
+
+pub bytes-balances : (xs : List ℕ) → Bytes (balanceBytes xs)
+unfolding balanceBytes All
+bytes-balances [] = tt
+bytes-balances (x ∷ xs) = bytes-append (bytesOf 8 x) (balanceBytes xs) (bytes-bytesOf 8 x) (bytes-balances xs)
+
+balance-snoc : (xs : List ℕ) (x : ℕ) → balanceBytes (xs ++ x ∷ []) ≡ balanceBytes xs ++ bytesOf 8 x
+unfolding balanceBytes
+balance-snoc [] x = append-nil (bytesOf 8 x)
+balance-snoc (y ∷ ys) x = ap (λ (t : List ℕ). bytesOf 8 y ++ t) (balance-snoc ys x) ∙ sym (append-assoc (bytesOf 8 y) (balanceBytes ys) (bytesOf 8 x))
+
+-- balances of 8 bytes are told apart by their bytes in a row
+pub balances-only : (xs ys : List ℕ) → All Fit xs → All Fit ys → balanceBytes xs ≡ balanceBytes ys → xs ≡ ys
+unfolding balanceBytes All
+balances-only [] [] h k e = refl
+balances-only [] (y ∷ ys) h k e = absurd (omega (arith, ap length e, length-append (bytesOf 8 y) (balanceBytes ys), length-bytesOf 8 y))
+balances-only (x ∷ xs) [] h k e = absurd (omega (arith, ap length e, length-append (bytesOf 8 x) (balanceBytes xs), length-bytesOf 8 x))
+balances-only (x ∷ xs) (y ∷ ys) h k e =
+    let s = same-heads 8 (bytesOf 8 x) (bytesOf 8 y) (balanceBytes xs) (balanceBytes ys) (length-bytesOf 8 x) (length-bytesOf 8 y) e in
+    ap₂ (λ (z : ℕ) (l : List ℕ). z ∷ l) (sym (value-back 8 x (h .0)) ∙ ap value (s .0) ∙ value-back 8 y (k .0))
+    (balances-only xs ys (h .1) (k .1) (s .1))
+
+-- the first n opening balances of a block, in a row
+pub balances-joined : (n : ℕ) (b : List ℕ) → Bytes b → 32 + n * 8 ≤ length b → balanceBytes (balancesIn n b) ≡ take (n * 8) (drop 32 b)
+unfolding balancesIn balanceBytes
+balances-joined zero b y h = refl
+balances-joined (suc n) b y h =
+    let z : suc n * 8 ≡ n * 8 + 8 = omega arith in
+    let w : 32 + n * 8 ≡ 32 + 8 * n = omega arith in
+    balance-snoc (balancesIn n b) (field (32 + 8 * n) 8 b)
+    ∙ ap₂ (λ (x t : List ℕ). x ++ t) (balances-joined n b y (omega arith))
+    (bytes-field (32 + 8 * n) 8 b y (omega arith) ∙ ap (λ (m : ℕ). take 8 (drop m b)) (sym w) ∙ ap (take 8) (sym (drop-drop (n * 8) 32 b)))
+    ∙ sym (take-add (n * 8) 8 (drop 32 b))
+    ∙ ap (λ (m : ℕ). take m (drop 32 b)) (sym z)
+
+pub balances-fit : (n : ℕ) (b : List ℕ) → Bytes b → 32 + n * 8 ≤ length b → All Fit (balancesIn n b)
+unfolding balancesIn All
+balances-fit zero b y h = tt
+balances-fit (suc n) b y h =
+    all-append Fit (balancesIn n b) (field (32 + 8 * n) 8 b ∷ []) (balances-fit n b y (omega arith)) (field-fits (32 + 8 * n) 8 b y (omega arith), tt)

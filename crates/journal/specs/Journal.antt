@@ -1,0 +1,114 @@
+-- The journal as a whole (document 01, "The journal"; demand 2): what is written, what is read, and that these are the
+-- same. A record is here a string of 32 bytes, which is not judged. Assumes nothing.
+use Prim.Native.Nat.{ℕ, zero, suc, _+_, _/_, _^_, _≤_, _<_}
+use mathlib.Core.List.{List, [], _∷_, _++_}
+use mathlib.Core.Logic.{_↔_}
+use mathlib.Core.Path.{_≡_}
+use lib.ListN.{length, take, drop}
+use Rattle.wire.specs.BigEndian.{All, Bytes, bytesOf}
+use Rattle.ledgers.specs.Limits.{accountLimit}
+use Rattle.journal_reader.specs.Blocks.{itemCount, kindOfBlock, recordsOf, balancesOf}
+use Rattle.journal_reader.specs.Judged.{blockRefusal}
+use Rattle.journal_writer.specs.Written.{block, writeRefusal, written}
+
+-- ## Document 01's limits
+
+-- opening balances of a ledger: 1 to 56 numbers of 8 bytes
+pub record Opening (balances : List ℕ) : Type 0 where
+  pub some : 0 < length balances
+  pub most : length balances ≤ accountLimit
+  pub fit : All (λ (x : ℕ). x < 2 ^ 64) balances
+
+-- a record's bytes
+pub record RecordBytes (r : List ℕ) : Type 0 where
+  pub long : length r ≡ 32
+  pub bytes : Bytes r
+
+-- two openings and at most 917,476 records
+pub record Within (home far : List ℕ) (records : List (List ℕ)) : Type 0 where
+  pub home-opening : Opening home
+  pub far-opening : Opening far
+  pub whole : All RecordBytes records
+  pub limit : length records ≤ 917476
+
+-- ## What is written
+
+-- lists one after the other
+unfoldable pub joined : {A : Type 0} → List (List A) → List A
+joined [] = []
+joined (x ∷ xs) = x ++ joined xs
+
+-- the bytes of opening balances
+unfoldable pub balanceBytes : List ℕ → List ℕ
+balanceBytes [] = []
+balanceBytes (x ∷ xs) = bytesOf 8 x ++ balanceBytes xs
+
+-- as many blocks as records need: 14 in each but the last
+abbrev pub blockCount : List (List ℕ) → ℕ
+blockCount records = (length records + 13) / 14
+
+-- the bytes of records in n groups of 14, the last with what is left
+unfoldable pub groups : ℕ → List (List ℕ) → List (List ℕ)
+groups zero records = []
+groups (suc n) records = joined (take 14 records) ∷ groups n (drop 14 records)
+
+-- the items of each block of a journal
+unfoldable pub itemsOf : List ℕ → List ℕ → List (List ℕ) → List (List ℕ)
+itemsOf home far records = balanceBytes home ∷ balanceBytes far ∷ groups (blockCount records) records
+
+-- the blocks with these items, numbered from k on
+unfoldable pub numbered : ℕ → List (List ℕ) → List (List ℕ)
+numbered k [] = []
+numbered k (items ∷ others) = block k items ∷ numbered (suc k) others
+
+-- the journal written from two openings and records
+unfoldable pub journalOf : List ℕ → List ℕ → List (List ℕ) → List ℕ
+journalOf home far records = joined (numbered 0 (itemsOf home far records))
+
+-- ## What is read
+
+-- each block is right in turn: the first as number k after a block of `before` items, each next one after it
+unfoldable pub AllRight : ℕ → ℕ → List (List ℕ) → Type 0
+AllRight k before [] = Unit {0}
+AllRight k before (b ∷ bs) = (blockRefusal b k before ≡ 0) × AllRight (suc k) (itemCount b) bs
+
+-- the records of blocks, one block after the other
+unfoldable pub allRecords : List (List ℕ) → List (List ℕ)
+allRecords [] = []
+allRecords (b ∷ bs) = recordsOf b ++ allRecords bs
+
+-- a byte string reads as two openings and records: it is blocks, all right in turn, the first two with these opening
+-- balances, the others with these records, and nothing after the last
+pub record Reads (j home far : List ℕ) (records : List (List ℕ)) : Type 0 where
+  pub first : List ℕ
+  pub second : List ℕ
+  pub others : List (List ℕ)
+  pub whole : j ≡ joined (first ∷ second ∷ others)
+  pub right : AllRight 0 0 (first ∷ second ∷ others)
+  pub home-balances : balancesOf first ≡ home
+  pub far-balances : balancesOf second ≡ far
+  pub record-list : allRecords others ≡ records
+
+-- ## The theorem
+
+-- a byte string reads as openings and records exactly when they are within the limits and it is the journal written
+-- from them
+unfoldable pub ReadsBack : Type 0
+ReadsBack =
+    (home far : List ℕ) (records : List (List ℕ)) (j : List ℕ) → Bytes j
+    → Reads j home far records ↔ (Within home far records × (j ≡ journalOf home far records))
+
+-- each write of items, the first as block k, is one that the writer's call allows, and leaves the block in the output
+unfoldable pub AllAllowed : ℕ → List (List ℕ) → Type 0
+AllAllowed k [] = Unit {0}
+AllAllowed k (items ∷ others) =
+    ((out : List ℕ) → length out ≡ 512
+    → (writeRefusal (length out) k (kindOfBlock k) (length items) ≡ 0) × (written out k (kindOfBlock k) items ≡ block k items))
+    × AllAllowed (suc k) others
+
+-- each block of a written journal is one that the writer's call allows and leaves in the output, and that the judging
+-- call passes
+unfoldable pub BlocksWritten : Type 0
+BlocksWritten =
+    (home far : List ℕ) (records : List (List ℕ)) → Within home far records
+    → AllAllowed 0 (itemsOf home far records) × AllRight 0 0 (numbered 0 (itemsOf home far records))

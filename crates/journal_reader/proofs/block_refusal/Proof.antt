@@ -1,0 +1,83 @@
+-- `journal_reader::block_refusal` meets its contract. Assumes nothing.
+use Prim.Native.Nat.{ℕ}
+use mathlib.Core.Path.{ap, ap₂, _∙_}
+use mathlib.Core.Bool.{Bool, not}
+use lib.Dec.{eqb, ltb}
+use borrow.Author.Tests.{eq-eqb, ne-eqb}
+use borrow.Author.Needs.{needs}
+use Rattle.answers.specs.Answers.{refuse, orElse}
+use Rattle.journal_reader.proofs.Judging.{in-order}
+use Rattle.journal_reader.specs.Blocks.{blockNumber}
+use Rattle.journal_reader.specs.Judged.{maxBlock, checked, wellFormed, blockRefusal}
+use Rattle.journal_reader.proofs.block_refusal.Statement.{statement}
+use Rattle.journal_reader.proofs.block_refusal.Tie as tie
+
+returns : tie.Need-returns
+unfolding blockRefusal
+returns c =
+    rw (ne-eqb _ _ (c .if1 .taken))
+
+refusal-if-requires : tie.Need-refusal-if-requires
+refusal-if-requires c κs = search needs
+
+is-checked-requires : tie.Need-is-checked-requires
+is-checked-requires c κs = search needs
+
+refusal-if-requires-2 : tie.Need-refusal-if-requires-2
+refusal-if-requires-2 c κs = search needs
+
+u32-at-requires : tie.Need-u32-at-requires
+u32-at-requires c κs = search needs
+
+cast-refusal-if : tie.Need-cast-refusal-if
+cast-refusal-if c = search needs
+
+refusal-if-requires-3 : tie.Need-refusal-if-requires-3
+refusal-if-requires-3 c κs = search needs
+
+is-well-formed-requires : tie.Need-is-well-formed-requires
+is-well-formed-requires c κs = search needs
+
+refusal-if-requires-4 : tie.Need-refusal-if-requires-4
+refusal-if-requires-4 c κs = search needs
+
+first-refusal-requires : tie.Need-first-refusal-requires
+first-refusal-requires c κs = search needs
+
+first-refusal-requires-2 : tie.Need-first-refusal-requires-2
+first-refusal-requires-2 c κs = search needs
+
+first-refusal-requires-3 : tie.Need-first-refusal-requires-3
+first-refusal-requires-3 c κs = search needs
+
+returns-2 : tie.Need-returns-2
+unfolding blockRefusal
+returns-2 c =
+    let a = c .before .before .before .before .before .before .before .before .before .before .before .before .args in
+    let b = a .block .now in
+    let low = c .before .before .before .before .before .before .before .before .before .refusal-if .ensures in
+    let check = c .before .before .before .before .before .before .before .refusal-if2 .ensures ∙ ap (λ (t : Bool). refuse (not t) 12 0) (c .before .before .before .before .before .before .before .before .is-checked .ensures) in
+    let number = c .before .before .before .before .before .refusal-if3 .ensures ∙ ap (λ (n : ℕ). refuse (not (eqb n (a .k))) 13 0) (c .before .before .before .before .before .before .u32-at .ensures) in
+    let form = c .before .before .before .refusal-if4 .ensures ∙ ap (λ (t : Bool). refuse (not t) 14 0) (c .before .before .before .before .is-well-formed .ensures) in
+    rw (eq-eqb _ _ (c .before .before .before .before .before .before .before .before .before .before .if1 .left))
+    (c .first-refusal3 .ensures
+    ∙ ap₂ orElse low (c .before .first-refusal2 .ensures ∙ ap₂ orElse check (c .before .before .first-refusal .ensures ∙ ap₂ orElse number form))
+    ∙ in-order (ltb maxBlock (a .k)) (not (checked b)) (not (eqb (blockNumber b) (a .k))) (not (wellFormed b (a .k) (a .before))))
+
+pub block-refusal-spec : {M : Type 1} → statement M
+block-refusal-spec =
+    tie.close
+    (tie.spec
+    returns
+    refusal-if-requires
+    is-checked-requires
+    refusal-if-requires-2
+    u32-at-requires
+    cast-refusal-if
+    refusal-if-requires-3
+    is-well-formed-requires
+    refusal-if-requires-4
+    first-refusal-requires
+    first-refusal-requires-2
+    first-refusal-requires-3
+    returns-2)

@@ -1,0 +1,52 @@
+-- `journal_reader::is_checked` meets its contract. Assumes nothing.
+use Prim.Native.Nat.{_-_}
+use mathlib.Core.Path.{ap₂, _∙_}
+use native.Mathlib.Omega.{arith}
+use lib.ListN.{length, drop, length-take, length-drop}
+use lib.Seq.{take-all}
+use borrow.Author.Needs.{needs}
+use Rattle.journal_reader.specs.Judged.{checked}
+use Rattle.wire.specs.BigEndian.{same}
+use Rattle.journal_reader.proofs.is_checked.Statement.{statement}
+use Rattle.journal_reader.proofs.is_checked.Tie as tie
+
+slice-aggregate-digest : tie.Need-slice-aggregate-digest
+slice-aggregate-digest c =
+    omega (arith, length-take 480 (c .before .before .args .block .now))
+
+digest-requires : tie.Need-digest-requires
+digest-requires c κs = search needs
+
+slice-aggregate-equal : tie.Need-slice-aggregate-equal
+slice-aggregate-equal c = search needs
+
+sub-equal : tie.Need-sub-equal
+sub-equal c = search needs
+
+part-equal-start : tie.Need-part-equal-start
+part-equal-start c = search needs
+
+part-equal-end : tie.Need-part-equal-end
+part-equal-end c = search needs
+
+equal-requires : tie.Need-equal-requires
+equal-requires c κs = search needs
+
+returns : tie.Need-returns
+unfolding checked
+returns c =
+    let b = c .before .before .before .before .before .before .args .block .now in
+    c .equal .ensures ∙ ap₂ same (c .before .before .before .digest .ensures) (take-all (length b - 480) (drop 480 b) (omega (arith, length-drop 480 b)))
+
+pub is-checked-spec : {M : Type 1} → statement M
+is-checked-spec =
+    tie.close
+    (tie.spec
+    slice-aggregate-digest
+    digest-requires
+    slice-aggregate-equal
+    sub-equal
+    part-equal-start
+    part-equal-end
+    equal-requires
+    returns)

@@ -1,0 +1,45 @@
+-- `journal_reader::item_count` meets its contract. Assumes nothing.
+use Prim.Native.Nat.{ℕ}
+use mathlib.Core.Path.{sym, ap, _∙_}
+use borrow.Author.Needs.{needs}
+use Rattle.answers.proofs.Answers.{passed-zero, refused-instead}
+use Rattle.answers.specs.Answers.{answer, unlessRefused}
+use Rattle.journal_reader.specs.Blocks.{itemCount}
+use Rattle.journal_reader.specs.Judged.{blockRefusal, countOf}
+use Rattle.journal_reader.proofs.item_count.Statement.{statement}
+use Rattle.journal_reader.proofs.item_count.Tie as tie
+
+judge-requires : tie.Need-judge-requires
+judge-requires c κs = search needs
+
+enum-told : tie.Need-enum-told
+enum-told c = search needs
+
+enum-told-2 : tie.Need-enum-told-2
+enum-told-2 c = search needs
+
+returns : tie.Need-returns
+unfolding countOf
+returns c =
+    let a = c .before .before .before .before .args in
+    let b = a .block .now in
+    let e = sym (c .before .before .judge .ensures) ∙ c .enum-told2 .given .1 in
+    let n = refused-instead (blockRefusal b (a .k) (a .before)) (a .k) _ _ (itemCount b) 0 e in
+    λ i. record { answer = c .before .before .judge .ensures i; count = sym n i }
+
+stated-count-requires : tie.Need-stated-count-requires
+stated-count-requires c κs = search needs
+
+returns-2 : tie.Need-returns-2
+unfolding countOf
+returns-2 c =
+    let a = c .before .before .before .before .before .args in
+    let b = a .block .now in
+    let z = passed-zero (blockRefusal b (a .k) (a .before)) (a .k) (sym (c .before .before .before .judge .ensures) ∙ c .before .enum-told .given .1) in
+    let n = c .stated-count .ensures ∙ ap (λ (m : ℕ). unlessRefused m (itemCount b) 0) (sym z) in
+    λ i. record { answer = c .before .before .before .judge .ensures i; count = n i }
+
+pub item-count-spec : {M : Type 1} → statement M
+item-count-spec =
+    tie.close
+    (tie.spec judge-requires enum-told enum-told-2 returns stated-count-requires returns-2)

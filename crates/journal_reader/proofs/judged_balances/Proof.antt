@@ -1,0 +1,83 @@
+-- `journal_reader::judged_balances` meets its contract. Assumes nothing.
+use Prim.Native.Nat.{ℕ, _-_, _≤_}
+use mathlib.Core.Path.{_≡_, refl, ap, _∙_}
+use mathlib.Core.List.{List, _++_}
+use native.Mathlib.Omega.{arith}
+use lib.ListN.{set, replicate}
+use borrow.Author.Needs.{needs}
+use Rattle.journal_reader.proofs.Items.{table-on}
+use Rattle.journal_reader.specs.Blocks.{itemCount, balancesIn}
+use Rattle.wire.proofs.Numbers.{field-one}
+use Rattle.journal_reader.proofs.judged_balances.Statement.{statement}
+use Rattle.journal_reader.proofs.judged_balances.Tie as tie
+
+abbrev Inv-loop : tie.InvT-loop
+Inv-loop block n out₀ i₀ out i = (i ≤ n) × (n ≤ 56) × (out ≡ balancesIn i block ++ replicate (56 - i) 0)
+
+abbrev μ-loop : tie.MeasureT-loop
+μ-loop block n out₀ i₀ out i = n - i
+
+shared-slice-read-wide : tie.Need-shared-slice-read-wide Inv-loop μ-loop
+shared-slice-read-wide c = search needs
+
+wide-requires : tie.Need-wide-requires Inv-loop μ-loop
+wide-requires c κs = search needs
+
+loop-holds : tie.Need-loop-holds Inv-loop μ-loop
+unfolding balancesIn
+loop-holds c =
+    let b = c .before .before .before .args .block .now in
+    (search needs, omega (arith, field-one 5 b (omega arith), c .wide .ensures .0), refl)
+
+mul-u64-at : tie.Need-mul-u64-at Inv-loop μ-loop
+mul-u64-at c = search needs
+
+add-u64-at : tie.Need-add-u64-at Inv-loop μ-loop
+add-u64-at c = search needs
+
+u64-at-requires : tie.Need-u64-at-requires Inv-loop μ-loop
+u64-at-requires c κs = search needs
+
+mul-out : tie.Need-mul-out Inv-loop μ-loop
+mul-out c = search needs
+
+array-write-out : tie.Need-array-write-out Inv-loop μ-loop
+array-write-out c = search needs
+
+add-i : tie.Need-add-i Inv-loop μ-loop
+add-i c = search needs
+
+loop-less : tie.Need-loop-less Inv-loop μ-loop
+loop-less c = search needs
+
+loop-again : tie.Need-loop-again Inv-loop μ-loop
+loop-again c =
+    let l = c .before .before .loop in
+    let e : l .out ≡ balancesIn (l .i) (c .before .before .before .before .before .before .args .block .now) ++ replicate (56 - l .i) 0 = l .inv .2 in
+    (search needs, search needs, ap (λ (o : List ℕ). set o (l .i) (c .u64-at .result)) e ∙ table-on (c .before .before .before .before .before .before .args .block .now) (l .i) (c .u64-at .result) (omega arith) (c .u64-at .ensures))
+
+returns : tie.Need-returns Inv-loop μ-loop
+returns c =
+    let b = c .before .before .before .before .before .args .block .now in
+    let l = c .before .loop in
+    let z : l .i ≡ itemCount b = omega (arith, field-one 5 b (omega arith), c .before .before .wide .ensures .0) in
+    l .inv .2 ∙ ap (λ (i : ℕ). balancesIn i b ++ replicate (56 - i) 0) z
+
+pub judged-balances-spec : {M : Type 1} → statement M
+judged-balances-spec =
+    tie.close
+    (tie.spec
+    Inv-loop
+    μ-loop
+    shared-slice-read-wide
+    wide-requires
+    loop-holds
+    mul-u64-at
+    add-u64-at
+    u64-at-requires
+    mul-out
+    array-write-out
+    add-i
+    loop-less
+    loop-again
+    returns)

@@ -1,0 +1,38 @@
+-- `journal_reader::judged_part` meets its contract. Assumes nothing.
+use Prim.Native.Nat.{ℕ, _+_, _-_, _*_}
+use mathlib.Core.Path.{_≡_, ap}
+use native.Mathlib.Omega.{arith}
+use lib.ListN.{take, drop}
+use borrow.Author.Needs.{needs}
+use Rattle.journal_reader.specs.Blocks.{recordPart}
+use Rattle.journal_reader.proofs.judged_part.Statement.{statement}
+use Rattle.journal_reader.proofs.judged_part.Tie as tie
+
+mul-a : tie.Need-mul-a
+mul-a c = search needs
+
+add-a : tie.Need-add-a
+add-a c = search needs
+
+add-e : tie.Need-add-e
+add-e c = search needs
+
+sub-result : tie.Need-sub-result
+sub-result c = search needs
+
+part-result-start : tie.Need-part-result-start
+part-result-start c = search needs
+
+part-result-end : tie.Need-part-result-end
+part-result-end c = search needs
+
+returns : tie.Need-returns
+unfolding recordPart
+returns c =
+    let a : ℕ = 32 + 32 * c .before .args .place in
+    let z : a + 32 - a ≡ 32 = omega arith in
+    ap (λ (n : ℕ). take n (drop a (c .before .args .block .now))) z
+
+pub judged-part-spec : {M : Type 1} → statement M
+judged-part-spec =
+    tie.close (tie.spec mul-a add-a add-e sub-result part-result-start part-result-end returns)

@@ -1,0 +1,69 @@
+-- `journal_reader::opening_balances` meets its contract. Assumes nothing.
+use Prim.Native.Nat.{ℕ}
+use mathlib.Core.Path.{sym, ap, ap₂, _∙_}
+use lib.ListN.{replicate}
+use borrow.Author.Needs.{needs}
+use Rattle.answers.proofs.Answers.{instead-refused}
+use Rattle.answers.specs.Answers.{answer, orElse, unlessRefused}
+use Rattle.journal_reader.proofs.Judging.{opened}
+use Rattle.journal_reader.specs.Blocks.{itemCount, balanceTable}
+use Rattle.journal_reader.specs.Judged.{balancesRefusal, openingOf}
+use Rattle.ledgers.specs.Limits.{accountLimit}
+use Rattle.answers.specs.declared.Answer.the-variants.{Passed}
+use Rattle.journal_reader.proofs.opening_balances.Statement.{statement}
+use Rattle.journal_reader.proofs.opening_balances.Tie as tie
+
+block-refusal-requires : tie.Need-block-refusal-requires
+block-refusal-requires c κs = search needs
+
+refusal-if-requires : tie.Need-refusal-if-requires
+refusal-if-requires c κs = search needs
+
+first-refusal-requires : tie.Need-first-refusal-requires
+first-refusal-requires c κs = search needs
+
+new-requires : tie.Need-new-requires
+new-requires c κs = search needs
+
+returns : tie.Need-returns
+unfolding openingOf balancesRefusal
+returns c =
+    let a = c .before .before .before .before .before .before .args in
+    let b = a .block .now in
+    let n : ℕ = c .before .before .first-refusal .result in
+    let e = c .before .before .first-refusal .ensures ∙ ap₂ orElse (c .before .before .before .before .block-refusal .ensures) (c .before .before .before .refusal-if .ensures) in
+    let count = instead-refused n (itemCount b) 0 (c .before .if1 .taken) ∙ ap (λ (m : ℕ). unlessRefused m (itemCount b) 0) e in
+    let table = instead-refused n (balanceTable b) (replicate accountLimit 0) (c .before .if1 .taken) ∙ ap (λ (m : ℕ). unlessRefused m (balanceTable b) (replicate accountLimit 0)) e in
+    let told = c .new .ensures ∙ ap (λ (m : ℕ). answer m (a .k)) e in
+    λ i. record { answer = told i; count = count i; balances = table i }
+
+stated-count-requires : tie.Need-stated-count-requires
+stated-count-requires c κs = search needs
+
+judged-balances-requires : tie.Need-judged-balances-requires
+unfolding balancesRefusal
+judged-balances-requires c κs =
+    let a = c .before .before .before .before .before .before .args in
+    let e = c .before .before .first-refusal .ensures ∙ ap₂ orElse (c .before .before .before .before .block-refusal .ensures) (c .before .before .before .refusal-if .ensures) in
+    let o = opened (a .block .now) (a .k) (a .before) (sym e ∙ c .before .if1 .left) in
+    (o .long, o .most)
+
+returns-2 : tie.Need-returns-2
+unfolding openingOf balancesRefusal
+returns-2 c =
+    let a = c .before .before .before .before .before .before .before .args in
+    let e = sym (c .before .before .before .first-refusal .ensures ∙ ap₂ orElse (c .before .before .before .before .before .block-refusal .ensures) (c .before .before .before .before .refusal-if .ensures)) ∙ c .before .before .if1 .left in
+    rw e (λ i. record { answer = Passed; count = c .before .stated-count .ensures i; balances = c .judged-balances .ensures i })
+
+pub opening-balances-spec : {M : Type 1} → statement M
+opening-balances-spec =
+    tie.close
+    (tie.spec
+    block-refusal-requires
+    refusal-if-requires
+    first-refusal-requires
+    new-requires
+    returns
+    stated-count-requires
+    judged-balances-requires
+    returns-2)

@@ -1,0 +1,68 @@
+-- `journal_reader::record_part` meets its contract. Assumes nothing.
+use Prim.Native.Nat.{ℕ}
+use mathlib.Core.Path.{_≡_, sym, _∙_}
+use mathlib.Core.List.{[]}
+use borrow.Author.Needs.{needs}
+use Rattle.answers.proofs.Answers.{passed-zero, refused-instead}
+use Rattle.journal_reader.proofs.Judging.{placed}
+use Rattle.journal_reader.specs.Blocks.{recordPart}
+use Rattle.journal_reader.specs.Judged.{recordRefusal, partOf}
+use Rattle.journal_reader.proofs.record_part.Statement.{statement}
+use Rattle.journal_reader.proofs.record_part.Tie as tie
+
+judge-record-requires : tie.Need-judge-record-requires
+judge-record-requires c κs = search needs
+
+enum-told : tie.Need-enum-told
+enum-told c = search needs
+
+enum-told-2 : tie.Need-enum-told-2
+enum-told-2 c = search needs
+
+sub-result : tie.Need-sub-result
+sub-result c = search needs
+
+part-result-start : tie.Need-part-result-start
+part-result-start c = search needs
+
+part-result-end : tie.Need-part-result-end
+part-result-end c = search needs
+
+returns : tie.Need-returns
+unfolding partOf
+returns c =
+    let a = c .before .before .before .before .before .args in
+    let b = a .block .now in
+    let n : ℕ = recordRefusal b (a .k) (a .before) (a .place) in
+    sym (refused-instead n (a .k) _ _ (recordPart b (a .place)) [] (sym (c .before .before .before .judge-record .ensures) ∙ c .before .enum-told2 .given .1))
+
+judged-part-requires : tie.Need-judged-part-requires
+judged-part-requires c κs =
+    let a = c .before .before .before .before .args in
+    let b = a .block .now in
+    let n : ℕ = recordRefusal b (a .k) (a .before) (a .place) in
+    let p = placed b (a .k) (a .before) (a .place) (passed-zero n (a .k) (sym (c .before .before .judge-record .ensures) ∙ c .enum-told .given .1)) in
+    (p .long, p .low)
+
+returns-2 : tie.Need-returns-2
+unfolding partOf
+returns-2 c =
+    let a = c .before .before .before .before .before .args in
+    let b = a .block .now in
+    let n : ℕ = recordRefusal b (a .k) (a .before) (a .place) in
+    let z : n ≡ 0 = passed-zero n (a .k) (sym (c .before .before .before .judge-record .ensures) ∙ c .before .enum-told .given .1) in
+    rw (z, c .judged-part .ensures)
+
+pub record-part-spec : {M : Type 1} → statement M
+record-part-spec =
+    tie.close
+    (tie.spec
+    judge-record-requires
+    enum-told
+    enum-told-2
+    sub-result
+    part-result-start
+    part-result-end
+    returns
+    judged-part-requires
+    returns-2)

@@ -1,0 +1,87 @@
+-- What stands in the output after its parts have been written one by one. Assumes nothing.
+use Prim.Native.Nat.{ℕ, _+_, _-_, _≤_}
+use mathlib.Core.Path.{_≡_, sym, ap, ap₂, _∙_}
+use mathlib.Core.List.{List, [], _++_, append-assoc, append-nil}
+use native.Mathlib.Omega.{arith}
+use lib.ListN.{length, take, drop, replicate, length-append, length-take, length-drop, length-replicate, drop-of-length-le}
+use lib.Seq.{take-at, take-length}
+use borrow.Rule.Slice.PartMut.{putMid}
+
+-- s copied over a list that is as long
+pub copied-over : (s d : List ℕ) → length d ≤ length s → take (length s) s ++ drop (length s) d ≡ s
+copied-over s d h =
+    ap₂ (λ (x y : List ℕ). x ++ y) (take-length s) (drop-of-length-le d {i = length s} h) ∙ append-nil s
+
+-- the check, written from byte 480 on
+pub sealed : (o d x : List ℕ) → length o ≡ 512 → length d ≡ 32
+    → x ≡ take (length d) d ++ drop (length d) (take (length o - 480) (drop 480 o))
+    → putMid 480 (length o - 480) o x ≡ take 480 o ++ d
+sealed o d x lo ld e =
+    let p : List ℕ = drop 480 o in
+    let l : length (take (length o - 480) p) ≤ length d = omega (arith, length-take (length o - 480) p) in
+    let post : drop (length o - 480) p ≡ [] = drop-of-length-le p {i = length o - 480} (omega (arith, length-drop 480 o)) in
+    ap₂ (λ (y z : List ℕ). take 480 o ++ (y ++ z)) (e ∙ copied-over d (take (length o - 480) p) l) post
+    ∙ ap (λ (y : List ℕ). take 480 o ++ y) (append-nil d)
+
+-- the header, the items and zeros, written from bytes 0, 32 and the items' end on
+module _ (o h t x1 x2 x3 : List ℕ) (lo : length o ≡ 512) (lh : length h ≡ 32) (lt : length t ≤ 448)
+    (e1 : x1 ≡ take (length h) h ++ drop (length h) o)
+    (e2 : x2 ≡ take (length t) t ++ drop (length t) (take (length x1 - 32) (drop 32 x1))) where
+  x1-is : x1 ≡ h ++ drop (length h) o
+  x1-is = e1 ∙ ap (λ (y : List ℕ). y ++ drop (length h) o) (take-length h)
+
+  x1-head : take 32 x1 ≡ h
+  x1-head = ap (take 32) x1-is ∙ take-at h (drop (length h) o) 32 lh
+
+  abbrev o2 : List ℕ
+  o2 = putMid 32 (length x1 - 32) x1 x2
+
+  rest : List ℕ
+  rest = drop (length t) (take (length x1 - 32) (drop 32 x1)) ++ drop (length x1 - 32) (drop 32 x1)
+
+  o2-is : o2 ≡ (h ++ t) ++ rest
+  unfolding rest
+  o2-is =
+      ap₂ (λ (y z : List ℕ). y ++ (z ++ drop (length x1 - 32) (drop 32 x1))) x1-head
+      (e2 ∙ ap (λ (y : List ℕ). y ++ drop (length t) (take (length x1 - 32) (drop 32 x1))) (take-length t))
+      ∙ simp append-assoc
+
+  o2-head : take (32 + length t) o2 ≡ h ++ t
+  o2-head =
+      ap (take (32 + length t)) o2-is ∙ take-at (h ++ t) rest (32 + length t) (omega (arith, length-append h t))
+
+  x1-length : length x1 ≡ 512
+  x1-length = omega (arith, ap length x1-is, length-append h (drop (length h) o), length-drop (length h) o)
+
+  o2-length : length o2 ≡ 512
+  o2-length =
+      let p : List ℕ = drop 32 x1 in
+      let m : List ℕ = take (length x1 - 32) p in
+      let post : List ℕ = drop (length x1 - 32) p in
+      let lp : length p ≡ 480 = omega (arith, length-drop 32 x1, x1-length) in
+      let lm : length m ≡ 480 = omega (arith, length-take (length x1 - 32) p, x1-length) in
+      let l2 : length x2 ≡ 480 =
+      omega (arith, ap length e2, length-append (take (length t) t) (drop (length t) m), length-take (length t) t, length-drop (length t) m) in
+      omega (
+        arith,
+        length-append (take 32 x1) (x2 ++ post),
+        length-append x2 post,
+        length-take 32 x1,
+        length-drop (length x1 - 32) p,
+        x1-length,
+      )
+
+  pub laid : x3 ≡ replicate (length (take (480 - (32 + length t)) (drop (32 + length t) o2))) 0
+      → take 480 (putMid (32 + length t) (480 - (32 + length t)) o2 x3) ≡ h ++ (t ++ replicate (448 - length t) 0)
+  laid e3 =
+      let n : ℕ = 32 + length t in
+      let m : length (take (480 - n) (drop n o2)) ≡ 448 - length t =
+      omega (arith, length-take (480 - n) (drop n o2), length-drop n o2, o2-length) in
+      let z : x3 ≡ replicate (448 - length t) 0 = e3 ∙ ap (λ (k : ℕ). replicate k 0) m in
+      let l : length ((h ++ t) ++ replicate (448 - length t) 0) ≡ 480 =
+      omega (arith, length-append (h ++ t) (replicate (448 - length t) 0), length-append h t, length-replicate {A = ℕ} (448 - length t) 0) in
+      let post : List ℕ = drop (480 - n) (drop n o2) in
+      ap₂ (λ (y w : List ℕ). take 480 (y ++ (w ++ post))) o2-head z
+      ∙ ap (take 480) (sym (append-assoc (h ++ t) (replicate (448 - length t) 0) post))
+      ∙ take-at ((h ++ t) ++ replicate (448 - length t) 0) post 480 l
+      ∙ append-assoc h t (replicate (448 - length t) 0)

@@ -1,0 +1,93 @@
+-- `journal_writer::is_allowed` meets its contract. Assumes nothing.
+use Prim.Native.Nat.{ℕ, _/_, _%_}
+use mathlib.Core.Path.{sym, ap, ap₂, _∙_}
+use native.Mathlib.Omega.{arith}
+use lib.Dec.{leb}
+use borrow.Author.Tests.{eq-eqb, ne-eqb, lt-ltb, le-ltb, le-leb, lt-leb}
+use borrow.Author.Needs.{needs}
+use Rattle.journal_reader.proofs.Sizes.{size-some}
+use Rattle.journal_reader.specs.Blocks.{itemSize}
+use Rattle.journal_writer.specs.Written.{allowed}
+use Rattle.wire.proofs.Lists.{every-one, every-skip, every-not}
+use Rattle.journal_writer.proofs.is_allowed.Statement.{statement}
+use Rattle.journal_writer.proofs.is_allowed.Tie as tie
+
+returns : tie.Need-returns
+unfolding allowed
+returns c =
+    sym (every-not 0 _ (ne-eqb _ _ (c .if1 .taken)))
+
+returns-2 : tie.Need-returns-2
+unfolding allowed
+returns-2 c =
+    sym (every-not 1 _ (lt-leb _ _ (c .if2 .taken)))
+
+kind-of-block-requires : tie.Need-kind-of-block-requires
+kind-of-block-requires c κs = search needs
+
+returns-3 : tie.Need-returns-3
+unfolding allowed
+returns-3 c =
+    sym (every-not 2 _ (ne-eqb _ _ (λ q. c .if3 .taken (q ∙ sym (c .before .kind-of-block .ensures)))))
+
+item-size-requires : tie.Need-item-size-requires
+item-size-requires c κs = search needs
+
+rem-if4 : tie.Need-rem-if4
+rem-if4 c =
+    omega (arith, size-some (c .before .before .before .before .before .args .k), c .item-size .ensures)
+
+returns-4 : tie.Need-returns-4
+unfolding allowed
+returns-4 c =
+    let a = c .before .before .before .before .before .before .args in
+    sym (every-not 3 _ (ne-eqb _ _ (λ q. c .if4 .taken (ap (λ (m : ℕ). a .n % m) (c .before .item-size .ensures) ∙ q))))
+
+div-if5 : tie.Need-div-if5
+div-if5 c =
+    omega (arith, size-some (c .before .before .before .before .before .before .args .k), c .before .item-size .ensures)
+
+returns-5 : tie.Need-returns-5
+unfolding allowed
+returns-5 c =
+    let a = c .before .before .before .before .before .before .before .args in
+    let e = ap (λ (m : ℕ). a .n / m) (c .before .before .item-size .ensures) in
+    sym (every-not 4 _ (le-ltb 0 (a .n / itemSize (a .k)) (omega (arith, e, c .if5 .taken))))
+
+div-result : tie.Need-div-result
+div-result c =
+    omega (arith, size-some (c .before .before .before .before .before .before .before .args .k), c .before .before .item-size .ensures)
+
+item-limit-requires : tie.Need-item-limit-requires
+item-limit-requires c κs = search needs
+
+returns-6 : tie.Need-returns-6
+unfolding allowed
+returns-6 c =
+    let a = c .before .before .before .before .before .before .before .before .args in
+    let e = ap (λ (m : ℕ). a .n / m) (c .before .before .before .item-size .ensures) in
+    ap₂ leb e (c .item-limit .ensures)
+    ∙ sym
+    (every-skip _ _ (eq-eqb _ _ (c .before .before .before .before .before .before .before .if1 .left))
+    ∙ every-skip _ _ (le-leb _ _ (c .before .before .before .before .before .before .if2 .left))
+    ∙ every-skip _ _ (eq-eqb _ _ (c .before .before .before .before .if3 .left ∙ c .before .before .before .before .before .kind-of-block .ensures))
+    ∙ every-skip _ _ (eq-eqb _ _ (ap (λ (m : ℕ). a .n % m) (sym (c .before .before .before .item-size .ensures)) ∙ c .before .before .if4 .left))
+    ∙ every-skip _ _ (lt-ltb 0 (a .n / itemSize (a .k)) (omega (arith, e, c .before .if5 .left)))
+    ∙ every-one _)
+
+pub is-allowed-spec : {M : Type 1} → statement M
+is-allowed-spec =
+    tie.close
+    (tie.spec
+    returns
+    returns-2
+    kind-of-block-requires
+    returns-3
+    item-size-requires
+    rem-if4
+    returns-4
+    div-if5
+    returns-5
+    div-result
+    item-limit-requires
+    returns-6)

@@ -1,0 +1,2 @@
+-- Laws of padded messages. Assumes nothing.
+pub mod Laws

@@ -1,0 +1,3 @@
+-- Laws of the compression function and of the digest. Assumes nothing.
+pub mod Laws
+pub mod Digests
