@@ -1,5 +1,6 @@
 -- The answer of a call (document 01, "Refusals"): its number and its place. Assumes nothing.
-use Prim.Native.Nat.{ℕ, zero, suc}
+use Prim.Native.Nat.{ℕ, zero, suc, _<_}
+use mathlib.Core.Path.{_≡_}
 use mathlib.Core.Bool.{Bool, true, false}
 pub use Rattle.answers.specs.declared.Answer.{Answer}
 pub use Rattle.answers.specs.declared.Answer.the-variants.{Passed, Refused}
@@ -16,10 +17,15 @@ placeOf (Refused n p) = p
 
 -- ## Which answer
 
--- the answer with document 01's number n and place p; a promise says by it which case comes back
+-- the case with document 01's number n and place p: passed for 0, and else that refusal. Every promise says by it which
+-- case comes back, so none gives a refusal with number 0
 abbrev pub answer : ℕ → ℕ → Answer
 answer zero p = Passed
 answer (suc n) p = Refused (suc n) p
+
+-- it tells its number, and where it is a refusal its place
+unfoldable pub Tells : Type 0
+Tells = (n p : ℕ) → (numberOf (answer n p) ≡ n) × (0 < n → placeOf (answer n p) ≡ p)
 
 -- ## The order of refusals
 

@@ -9,13 +9,14 @@ use lib.Dec.{leb}
 use lib.ListN.{length, take, drop, replicate, length-append, length-drop, length-replicate, take-append-drop}
 use lib.Seq.{drop-drop, length-take-le, take-at, drop-at}
 use Rattle.answers.specs.Answers.{unlessRefused}
-use Rattle.journal_reader.proofs.Judging.{Right, not-refused, WellFormed, well-formed-facts, facts-well-formed}
-use Rattle.journal_reader.proofs.Sizes.{items-room, kind-byte, limit-byte, count-back}
-use Rattle.journal_reader.specs.Blocks.{blockNumber, blockKind, itemCount, kindOfBlock, itemSize, itemLimit}
-use Rattle.journal_reader.specs.Judged.{maxBlock, checked, blockRefusal}
+use Rattle.block_format.proofs.Forming.{FormedBlock, formed-block-facts, facts-formed-block}
+use Rattle.block_format.proofs.Sizes.{items-room, kind-byte, limit-byte, count-back}
+use Rattle.block_format.specs.Blocks.{maxBlock, recordsPerBlock, blockNumber, blockKind, statedCount, kindOfBlock, itemSize, itemLimit}
+use Rattle.journal_reader.proofs.Judging.{Right, not-refused}
+use Rattle.journal_reader.specs.Judged.{checked, blockRefusal}
 use Rattle.journal_writer.proofs.Allowing.{facts-allowed, allowed-answer}
 use Rattle.journal_writer.proofs.Laying.{sealed}
-use Rattle.journal_writer.specs.Written.{header, body, block, writeRefusal, written}
+use Rattle.journal_writer.specs.Written.{header, body, journalBlock, writeRefusal, written}
 use Rattle.journal.specs.Journal.{numbered}
 use Rattle.sha256_core.proofs.Digests.{length-sha256, bytes-sha256}
 use Rattle.sha256_core.specs.Sha256.{sha256}
@@ -30,18 +31,18 @@ unfolding body bytesOf
 length-body k items h =
     omega (arith, length-append items (replicate (448 - length items) 0), length-replicate {A = ℕ} (448 - length items) 0)
 
-pub length-block : (k : ℕ) (items : List ℕ) → length items ≤ 448 → length (block k items) ≡ 512
-unfolding block
+pub length-block : (k : ℕ) (items : List ℕ) → length items ≤ 448 → length (journalBlock k items) ≡ 512
+unfolding journalBlock
 length-block k items h =
     omega (arith, length-append (body k items) (sha256 (body k items)), length-body k items h, length-sha256 (body k items))
 
 -- what stands from byte 32 on
-pub block-items : (k : ℕ) (items : List ℕ) → drop 32 (block k items) ≡ items ++ (replicate (448 - length items) 0 ++ sha256 (body k items))
-unfolding block body bytesOf
+pub block-items : (k : ℕ) (items : List ℕ) → drop 32 (journalBlock k items) ≡ items ++ (replicate (448 - length items) 0 ++ sha256 (body k items))
+unfolding journalBlock body bytesOf
 block-items k items = append-assoc items (replicate (448 - length items) 0) (sha256 (body k items))
 
-pub bytes-block : (k : ℕ) (items : List ℕ) → Bytes items → length items / itemSize k < 256 → Bytes (block k items)
-unfolding block body All
+pub bytes-block : (k : ℕ) (items : List ℕ) → Bytes items → length items / itemSize k < 256 → Bytes (journalBlock k items)
+unfolding journalBlock body All
 bytes-block k items h l =
     let c : ℕ = length items / itemSize k in
     let z : List ℕ = replicate (448 - length items) 0 in
@@ -57,34 +58,34 @@ bytes-block k items h l =
 
 -- the items of a block with number k
 abbrev pub itemBytes : ℕ → List ℕ → List ℕ
-itemBytes k b = take (itemCount b * itemSize k) (drop 32 b)
+itemBytes k b = take (statedCount b * itemSize k) (drop 32 b)
 
 module _ (b : List ℕ) (k before : ℕ) (y : Bytes b) (r : Right b k before) where
-  f : WellFormed b k before
-  f = well-formed-facts b k before (r .formed)
+  f : FormedBlock b k before
+  f = formed-block-facts b k before (r .formed)
 
   n : ℕ
-  n = itemCount b * itemSize k
+  n = statedCount b * itemSize k
 
   n-room : n ≤ 448
   unfolding n
-  n-room = items-room k (itemCount b) (f .fits)
+  n-room = items-room k (statedCount b) (f .fits)
 
-  n-count : n / itemSize k ≡ itemCount b
+  n-count : n / itemSize k ≡ statedCount b
   unfolding n
-  n-count = count-back k (itemCount b)
+  n-count = count-back k (statedCount b)
 
   its-length : length (itemBytes k b) ≡ n
   unfolding n
   its-length = length-take-le n (drop 32 b) (omega (arith, length-drop 32 b, r .long, n-room))
 
   -- the header, byte by byte
-  head-is : b ≡ header k (itemCount b) ++ drop 32 b
+  head-is : b ≡ header k (statedCount b) ++ drop 32 b
   unfolding bytesOf
   head-is =
       let l = r .long in
       let kind = one-byte (blockKind b) (subst (λ (x : ℕ). x < 256) (sym (f .kind)) (kind-byte k)) ∙ ap (λ (x : ℕ). x ∷ []) (f .kind) in
-      let count = one-byte (itemCount b) (omega (arith, f .fits, limit-byte k)) in
+      let count = one-byte (statedCount b) (omega (arith, f .fits, limit-byte k)) in
       let zs = zeros-are (take 26 (drop 6 b)) (f .head) ∙ ap (λ (x : ℕ). replicate x 0) (length-take-le 26 (drop 6 b) (omega (arith, length-drop 6 b))) in
       let rest = sym (take-append-drop 26 (drop 6 b)) ∙ ap₂ (λ (p q : List ℕ). p ++ q) zs (drop-drop 26 6 b) in
       drop-field 0 4 b y (omega arith)
@@ -110,7 +111,7 @@ module _ (b : List ℕ) (k before : ℕ) (y : Bytes b) (r : Right b k before) wh
   unfolding body
   body-is =
       let its : List ℕ = itemBytes k b in
-      let c : itemCount b ≡ length its / itemSize k = sym (ap (λ (x : ℕ). x / itemSize k) its-length ∙ n-count) in
+      let c : statedCount b ≡ length its / itemSize k = sym (ap (λ (x : ℕ). x / itemSize k) its-length ∙ n-count) in
       let e : b ≡ (header k (length its / itemSize k) ++ (its ++ replicate (448 - length its) 0)) ++ drop 480 b =
       head-is
       ∙ (λ i. header k (c i) ++ items-are i)
@@ -118,8 +119,8 @@ module _ (b : List ℕ) (k before : ℕ) (y : Bytes b) (r : Right b k before) wh
       ∙ sym (append-assoc (header k (length its / itemSize k)) (its ++ replicate (448 - length its) 0) (drop 480 b)) in
       ap (take 480) e ∙ take-at (body k its) (drop 480 b) 480 (length-body k its (omega (arith, its-length, n-room)))
 
-  pub block-is : b ≡ block k (itemBytes k b)
-  unfolding block checked
+  pub block-is : b ≡ journalBlock k (itemBytes k b)
+  unfolding journalBlock checked
   block-is =
       sym (take-append-drop 480 b)
       ∙ ap (λ (q : List ℕ). take 480 b ++ q) (sym (same-equal (sha256 (take 480 b)) (drop 480 b) (r .sealed)))
@@ -128,50 +129,50 @@ module _ (b : List ℕ) (k before : ℕ) (y : Bytes b) (r : Right b k before) wh
 -- ## From the items
 
 module _ (k before c : ℕ) (items : List ℕ) (low : k ≤ maxBlock) (some : 0 < c) (fits : c ≤ itemLimit k)
-    (whole : length items ≡ c * itemSize k) (follows : (leb k 2 || leb 14 before) ≡ true) where
+    (whole : length items ≡ c * itemSize k) (follows : (leb k 2 || leb recordsPerBlock before) ≡ true) where
   room : length items ≤ 448
   room = subst (λ (m : ℕ). m ≤ 448) (sym whole) (items-room k c fits)
 
   quotient : length items / itemSize k ≡ c
   quotient = ap (λ (m : ℕ). m / itemSize k) whole ∙ count-back k c
 
-  pub count-is : itemCount (block k items) ≡ c
-  unfolding field block body bytesOf valueAfter
+  pub count-is : statedCount (journalBlock k items) ≡ c
+  unfolding field journalBlock body bytesOf valueAfter
   count-is = omega (arith, quotient)
 
-  number-is : blockNumber (block k items) ≡ k
-  unfolding field block body bytesOf
+  number-is : blockNumber (journalBlock k items) ≡ k
+  unfolding field journalBlock body bytesOf
   number-is = value-back 4 k (omega (arith, low))
 
-  kind-is : blockKind (block k items) ≡ kindOfBlock k
-  unfolding field block body bytesOf valueAfter
+  kind-is : blockKind (journalBlock k items) ≡ kindOfBlock k
+  unfolding field journalBlock body bytesOf valueAfter
   kind-is = omega arith
 
-  head-zero : zeros (take 26 (drop 6 (block k items))) ≡ true
-  unfolding zeros block body bytesOf
+  head-zero : zeros (take 26 (drop 6 (journalBlock k items))) ≡ true
+  unfolding zeros journalBlock body bytesOf
   head-zero = refl
 
-  tail-zero : zeros (take (448 - c * itemSize k) (drop (32 + c * itemSize k) (block k items))) ≡ true
+  tail-zero : zeros (take (448 - c * itemSize k) (drop (32 + c * itemSize k) (journalBlock k items))) ≡ true
   tail-zero =
       let m : ℕ = c * itemSize k in
       let z : List ℕ = replicate (448 - length items) 0 in
-      let e : drop (32 + m) (block k items) ≡ z ++ sha256 (body k items) =
-      sym (drop-drop m 32 (block k items)) ∙ ap (drop m) (block-items k items) ∙ drop-at items (z ++ sha256 (body k items)) m whole in
+      let e : drop (32 + m) (journalBlock k items) ≡ z ++ sha256 (body k items) =
+      sym (drop-drop m 32 (journalBlock k items)) ∙ ap (drop m) (block-items k items) ∙ drop-at items (z ++ sha256 (body k items)) m whole in
       let l : length z ≡ 448 - m = length-replicate {A = ℕ} (448 - length items) 0 ∙ ap (λ (x : ℕ). 448 - x) whole in
       ap (λ (q : List ℕ). zeros (take (448 - m) q)) e
       ∙ ap zeros (take-at z (sha256 (body k items)) (448 - m) l)
       ∙ zeros-replicate (448 - length items)
 
-  check-is : checked (block k items) ≡ true
-  unfolding checked block
+  check-is : checked (journalBlock k items) ≡ true
+  unfolding checked journalBlock
   check-is =
       let p : List ℕ = body k items in
       let l = length-body k items room in
       ap₂ same (ap sha256 (take-at p (sha256 p) 480 l)) (drop-at p (sha256 p) 480 l) ∙ same-self (sha256 p)
 
-  pub block-right : blockRefusal (block k items) k before ≡ 0
+  pub block-right : blockRefusal (journalBlock k items) k before ≡ 0
   block-right =
-      let b : List ℕ = block k items in
+      let b : List ℕ = journalBlock k items in
       not-refused b k before
       (record {
         long = length-block k items room;
@@ -179,7 +180,7 @@ module _ (k before c : ℕ) (items : List ℕ) (low : k ≤ maxBlock) (some : 0 
         sealed = check-is;
         numbered = number-is;
         formed =
-            facts-well-formed b k before
+            facts-formed-block b k before
             (record {
               kind = kind-is;
               some = subst (λ (m : ℕ). 0 < m) (sym count-is) some;
@@ -191,7 +192,7 @@ module _ (k before c : ℕ) (items : List ℕ) (low : k ≤ maxBlock) (some : 0 
       })
 
   pub block-allowed : (out : List ℕ) → length out ≡ 512
-      → (writeRefusal (length out) k (kindOfBlock k) (length items) ≡ 0) × (written out k (kindOfBlock k) items ≡ block k items)
+      → (writeRefusal (length out) k (kindOfBlock k) (length items) ≡ 0) × (written out k (kindOfBlock k) items ≡ journalBlock k items)
   unfolding written
   block-allowed out l =
       let a =
@@ -205,4 +206,4 @@ module _ (k before c : ℕ) (items : List ℕ) (low : k ≤ maxBlock) (some : 0 
         fits = subst (λ (m : ℕ). m ≤ itemLimit k) (sym quotient) fits;
       }) in
       let z = allowed-answer (length out) k (kindOfBlock k) (length items) a in
-      (z, ap (λ (m : ℕ). unlessRefused m (block k items) out) z)
+      (z, ap (λ (m : ℕ). unlessRefused m (journalBlock k items) out) z)

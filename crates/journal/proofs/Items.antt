@@ -1,11 +1,15 @@
 -- Opening balances and records as the items of blocks: what is laid out reads back, and only that. Assumes nothing.
 use Prim.Native.Nat.{ℕ, zero, suc, _+_, _*_, _^_, _≤_, _<_}
 use mathlib.Core.Path.{_≡_, refl, sym, ap, ap₂, _∙_}
+use mathlib.Core.Bool.{Bool, true, false}
 use mathlib.Core.List.{List, [], _∷_, _++_, append-assoc, append-nil}
 use native.Mathlib.Omega.{arith}
-use lib.ListN.{length, take, drop, length-append, length-drop}
-use lib.Seq.{take-add, drop-drop, length-take-le, take-at, drop-at}
-use Rattle.journal_reader.specs.Blocks.{recordPart, recordsIn, balancesIn}
+use lib.Dec.{ltb}
+use lib.ListN.{length, take, drop, getD, length-append, length-drop, List·getD-append}
+use lib.Seq.{take-add, drop-drop, length-take-le, take-at, drop-at, getD-at}
+use borrow.Author.Tests.{ltb-true, ltb-false}
+use Rattle.block_format.proofs.Items.{length-records}
+use Rattle.block_format.specs.Blocks.{recordPart, recordsIn, balancesIn}
 use Rattle.journal.specs.Journal.{RecordBytes, joined, balanceBytes}
 use Rattle.wire.proofs.Lists.{all-append, all-take, all-drop, bytes-append}
 use Rattle.wire.proofs.Numbers.{field-fits, length-bytesOf, bytes-bytesOf, value-back, bytes-field}
@@ -30,15 +34,16 @@ same-heads n x y p q lx ly e =
 
 -- ## Records
 
-abbrev pub Long : List ℕ → Type 0
-Long r = length r ≡ 32
+-- a list of n elements
+abbrev pub Wide : ℕ → List ℕ → Type 0
+Wide n x = length x ≡ n
 
-pub all-long : (rs : List (List ℕ)) → All RecordBytes rs → All Long rs
+pub all-long : (rs : List (List ℕ)) → All RecordBytes rs → All (Wide 32) rs
 unfolding All
 all-long [] h = tt
 all-long (r ∷ rs) h = (h .0 .long, all-long rs (h .1))
 
-pub length-joined : (rs : List (List ℕ)) → All Long rs → length (joined rs) ≡ length rs * 32
+pub length-joined : (rs : List (List ℕ)) → All (Wide 32) rs → length (joined rs) ≡ length rs * 32
 unfolding joined All
 length-joined [] h = refl
 length-joined (r ∷ rs) h = omega (arith, length-append r (joined rs), h .0, length-joined rs (h .1))
@@ -48,15 +53,15 @@ unfolding joined All
 bytes-joined [] h = tt
 bytes-joined (r ∷ rs) h = bytes-append r (joined rs) (h .0 .bytes) (bytes-joined rs (h .1))
 
--- records of 32 bytes are told apart by their bytes in a row
-pub joined-only : (rs qs : List (List ℕ)) → All Long rs → All Long qs → joined rs ≡ joined qs → rs ≡ qs
+-- parts of one length are told apart by their elements in a row
+pub joined-only : (n : ℕ) → 0 < n → (xs ys : List (List ℕ)) → All (Wide n) xs → All (Wide n) ys → joined xs ≡ joined ys → xs ≡ ys
 unfolding joined All
-joined-only [] [] h k e = refl
-joined-only [] (q ∷ qs) h k e = absurd (omega (arith, ap length e, length-append q (joined qs), k .0))
-joined-only (r ∷ rs) [] h k e = absurd (omega (arith, ap length e, length-append r (joined rs), h .0))
-joined-only (r ∷ rs) (q ∷ qs) h k e =
-    let s = same-heads 32 r q (joined rs) (joined qs) (h .0) (k .0) e in
-    ap₂ (λ (x : List ℕ) (l : List (List ℕ)). x ∷ l) (s .0) (joined-only rs qs (h .1) (k .1) (s .1))
+joined-only n l [] [] h k e = refl
+joined-only n l [] (y ∷ ys) h k e = absurd (omega (arith, ap length e, length-append y (joined ys), k .0))
+joined-only n l (x ∷ xs) [] h k e = absurd (omega (arith, ap length e, length-append x (joined xs), h .0))
+joined-only n l (x ∷ xs) (y ∷ ys) h k e =
+    let s = same-heads n x y (joined xs) (joined ys) (h .0) (k .0) e in
+    ap₂ (λ (z : List ℕ) (t : List (List ℕ)). z ∷ t) (s .0) (joined-only n l xs ys (h .1) (k .1) (s .1))
 
 -- the first n records of a block, in a row
 pub records-joined : (n : ℕ) (b : List ℕ) → joined (recordsIn n b) ≡ take (n * 32) (drop 32 b)
@@ -81,6 +86,22 @@ records-whole (suc n) b y h =
       bytes = all-take _ 32 d (all-drop _ (32 + 32 * n) b y);
     } in
     all-append RecordBytes (recordsIn n b) (take 32 d ∷ []) (records-whole n b y (omega arith)) (one, tt)
+
+-- the record at each place
+pub record-at : (n : ℕ) (b : List ℕ) (place : ℕ) → place < n → getD (recordsIn n b) place [] ≡ recordPart b place
+unfolding recordsIn
+record-at zero b place h = absurd (omega arith)
+record-at (suc n) b place h = go (ltb place n) refl (record-at n b place)
+  where
+    go : (t : Bool) → ltb place n ≡ t → (place < n → getD (recordsIn n b) place [] ≡ recordPart b place)
+        → getD (recordsIn n b ++ recordPart b n ∷ []) place [] ≡ recordPart b place
+    go true e ih =
+        let l : place < n = ltb-true _ _ e in
+        List·getD-append (recordsIn n b) (recordPart b n ∷ []) [] place (omega (arith, length-records n b)) ∙ ih l
+    go false e ih =
+        let f : n ≤ place = ltb-false _ _ e in
+        let z : n ≡ place = omega arith in
+        getD-at (recordsIn n b) (recordPart b n) [] [] place (length-records n b ∙ z) ∙ ap (recordPart b) z
 
 -- ## Opening balances
 

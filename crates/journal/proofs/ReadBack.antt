@@ -8,16 +8,17 @@ use native.Mathlib.Omega.{arith}
 use lib.Dec.{ltb, leb}
 use lib.ListN.{length, take, drop, replicate, length-append, length-take, length-drop, take-append-drop, drop-of-length-le}
 use lib.Seq.{take-all, take-at, drop-at}
-use borrow.Author.Tests.{ltb-true, ltb-false, le-leb, lt-leb, leb-false}
-use Rattle.journal_reader.proofs.Items.{length-balances, length-records}
-use Rattle.journal_reader.proofs.Judging.{right-facts, well-formed-facts}
-use Rattle.journal_reader.proofs.Sizes.{balances-size, balances-limit, records-size, records-limit, limit-byte, count-back}
-use Rattle.journal_reader.specs.Blocks.{itemCount, kindOfBlock, itemSize, itemLimit, recordsOf, balancesOf}
-use Rattle.journal_reader.specs.Judged.{maxBlock, blockRefusal}
-use Rattle.journal_writer.specs.Written.{body, block, writeRefusal, written}
+use borrow.Author.Tests.{ltb-true, le-ltb, ltb-false, le-leb, lt-leb, leb-false}
+use Rattle.block_format.proofs.Forming.{formed-block-facts}
+use Rattle.block_format.proofs.Items.{length-balances, length-records}
+use Rattle.block_format.proofs.Sizes.{balances-size, balances-limit, records-size, records-limit, limit-byte, count-back}
+use Rattle.block_format.specs.Blocks.{maxBlock, recordsPerBlock, statedCount, kindOfBlock, itemSize, itemLimit, recordsOf, balancesOf}
+use Rattle.journal_reader.proofs.Judging.{right-facts}
+use Rattle.journal_reader.specs.Judged.{blockRefusal, placeRefusal, recordRefusal, balancesRefusal, partOf, countOf, openingOf}
+use Rattle.journal_writer.specs.Written.{body, journalBlock, writeRefusal, written}
 use Rattle.journal.proofs.Blocks.{block-items, bytes-block, itemBytes, block-is, count-is, block-right, block-allowed}
-use Rattle.journal.proofs.Items.{all-long, length-joined, bytes-joined, joined-only, records-joined, records-whole, length-balance-bytes, bytes-balances, balances-only, balances-joined, balances-fit}
-use Rattle.journal.specs.Journal.{Opening, RecordBytes, Within, joined, balanceBytes, blockCount, groups, itemsOf, numbered, journalOf, AllRight, allRecords, Reads, ReadsBack, AllAllowed, BlocksWritten}
+use Rattle.journal.proofs.Items.{Wide, all-long, length-joined, bytes-joined, joined-only, records-joined, records-whole, record-at, length-balance-bytes, bytes-balances, balances-only, balances-joined, balances-fit}
+use Rattle.journal.specs.Journal.{IsOpening, RecordBytes, recordLimit, Within, joined, balanceBytes, blockCount, groups, itemsOf, numbered, journalOf, AllPass, allRecords, Reads, ReadsBack, WrittenReads, ReadsOnce, CallsRead, AllAllowed, BlocksWritten}
 use Rattle.sha256_core.specs.Sha256.{sha256}
 use Rattle.wire.proofs.Lists.{all-append, all-take, all-drop, all-split}
 use Rattle.wire.specs.BigEndian.{All, Bytes}
@@ -26,20 +27,20 @@ use Rattle.wire.specs.BigEndian.{All, Bytes}
 
 -- what a right block of opening balances is
 pub record OpeningBlock (b : List ℕ) (k : ℕ) : Type 0 where
-  pub is : b ≡ block k (balanceBytes (balancesOf b))
-  pub opening : Opening (balancesOf b)
+  pub is : b ≡ journalBlock k (balanceBytes (balancesOf b))
+  pub opening : IsOpening (balancesOf b)
 
 opening-back : (b : List ℕ) (k before : ℕ) → k < 2 → Bytes b → blockRefusal b k before ≡ 0 → OpeningBlock b k
 opening-back b k before l y h =
     let r = right-facts b k before h in
-    let f = well-formed-facts b k before (r .formed) in
-    let c : ℕ = itemCount b in
+    let f = formed-block-facts b k before (r .formed) in
+    let c : ℕ = statedCount b in
     let most : c ≤ 56 = subst (λ (m : ℕ). c ≤ m) (balances-limit k l) (f .fits) in
     let room : 32 + c * 8 ≤ length b = omega (arith, r .long) in
     let e : itemBytes k b ≡ balanceBytes (balancesOf b) =
     ap (λ (m : ℕ). take (c * m) (drop 32 b)) (balances-size k l) ∙ sym (balances-joined c b y room) in
     record {
-      is = block-is b k before y r ∙ ap (block k) e;
+      is = block-is b k before y r ∙ ap (journalBlock k) e;
       opening =
           record {
             some = omega (arith, length-balances c b, f .some);
@@ -50,35 +51,35 @@ opening-back b k before l y h =
 
 -- what the block written from an opening is
 pub record OpeningWritten (xs : List ℕ) (k before : ℕ) : Type 0 where
-  pub passes : blockRefusal (block k (balanceBytes xs)) k before ≡ 0
-  pub reads : balancesOf (block k (balanceBytes xs)) ≡ xs
+  pub passes : blockRefusal (journalBlock k (balanceBytes xs)) k before ≡ 0
+  pub reads : balancesOf (journalBlock k (balanceBytes xs)) ≡ xs
   pub allowed : (out : List ℕ) → length out ≡ 512
       → (writeRefusal (length out) k (kindOfBlock k) (length (balanceBytes xs)) ≡ 0)
-      × (written out k (kindOfBlock k) (balanceBytes xs) ≡ block k (balanceBytes xs))
+      × (written out k (kindOfBlock k) (balanceBytes xs) ≡ journalBlock k (balanceBytes xs))
 
-opening-forth : (xs : List ℕ) (k before : ℕ) → k < 2 → Opening xs → OpeningWritten xs k before
+opening-forth : (xs : List ℕ) (k before : ℕ) → k < 2 → IsOpening xs → OpeningWritten xs k before
 opening-forth xs k before l o =
     let c : ℕ = length xs in
     let items : List ℕ = balanceBytes xs in
-    let b : List ℕ = block k items in
+    let b : List ℕ = journalBlock k items in
     let low : k ≤ maxBlock = omega arith in
     let fits : c ≤ itemLimit k = subst (λ (m : ℕ). c ≤ m) (sym (balances-limit k l)) (o .most) in
     let whole : length items ≡ c * itemSize k = length-balance-bytes xs ∙ ap (λ (m : ℕ). c * m) (sym (balances-size k l)) in
     let two : k ≤ 2 = omega arith in
-    let follows : (leb k 2 || leb 14 before) ≡ true = rw (le-leb k 2 two) in
+    let follows : (leb k 2 || leb recordsPerBlock before) ≡ true = rw (le-leb k 2 two) in
     let passes = block-right k before c items low (o .some) fits whole follows in
     let r = right-facts b k before passes in
-    let ci : itemCount b ≡ c = count-is k before c items low (o .some) fits whole follows in
+    let ci : statedCount b ≡ c = count-is k before c items low (o .some) fits whole follows in
     let quotient : length items / itemSize k ≡ c = ap (λ (m : ℕ). m / itemSize k) whole ∙ count-back k c in
     let y : Bytes b = bytes-block k items (bytes-balances xs) (omega (arith, quotient, fits, limit-byte k)) in
-    let room : 32 + itemCount b * 8 ≤ length b = omega (arith, r .long, ci, o .most) in
+    let room : 32 + statedCount b * 8 ≤ length b = omega (arith, r .long, ci, o .most) in
     let e : balanceBytes (balancesOf b) ≡ items =
-    balances-joined (itemCount b) b y room
+    balances-joined (statedCount b) b y room
     ∙ ap₂ (λ (m : ℕ) (t : List ℕ). take (m * 8) t) ci (block-items k items)
     ∙ take-at items (replicate (448 - length items) 0 ++ sha256 (body k items)) (c * 8) (length-balance-bytes xs) in
     record {
       passes = passes;
-      reads = balances-only (balancesOf b) xs (balances-fit (itemCount b) b y room) (o .fit) e;
+      reads = balances-only (balancesOf b) xs (balances-fit (statedCount b) b y room) (o .fit) e;
       allowed = block-allowed k before c items low (o .some) fits whole follows;
     }
 
@@ -86,23 +87,23 @@ opening-forth xs k before l o =
 
 -- what a right block of records is
 pub record RecordBlock (b : List ℕ) (k : ℕ) : Type 0 where
-  pub is : b ≡ block k (joined (recordsOf b))
+  pub is : b ≡ journalBlock k (joined (recordsOf b))
   pub whole : All RecordBytes (recordsOf b)
-  pub count : length (recordsOf b) ≡ itemCount b
-  pub some : 0 < itemCount b
-  pub most : itemCount b ≤ 14
+  pub count : length (recordsOf b) ≡ statedCount b
+  pub some : 0 < statedCount b
+  pub most : statedCount b ≤ 14
   pub low : k ≤ maxBlock
 
 record-back : (b : List ℕ) (k before : ℕ) → 2 ≤ k → Bytes b → blockRefusal b k before ≡ 0 → RecordBlock b k
 record-back b k before l y h =
     let r = right-facts b k before h in
-    let f = well-formed-facts b k before (r .formed) in
-    let c : ℕ = itemCount b in
+    let f = formed-block-facts b k before (r .formed) in
+    let c : ℕ = statedCount b in
     let most : c ≤ 14 = subst (λ (m : ℕ). c ≤ m) (records-limit k l) (f .fits) in
     let e : itemBytes k b ≡ joined (recordsOf b) =
     ap (λ (m : ℕ). take (c * m) (drop 32 b)) (records-size k l) ∙ sym (records-joined c b) in
     record {
-      is = block-is b k before y r ∙ ap (block k) e;
+      is = block-is b k before y r ∙ ap (journalBlock k) e;
       whole = records-whole c b y (omega (arith, r .long));
       count = length-records c b;
       some = f .some;
@@ -111,13 +112,13 @@ record-back b k before l y h =
     }
 
 -- no block from number 3 on is right after one of fewer than 14
-short-last : (k before : ℕ) (bs : List (List ℕ)) → 2 < k → before < 14 → AllRight k before bs → bs ≡ []
-unfolding AllRight
+short-last : (k before : ℕ) (bs : List (List ℕ)) → 2 < k → before < 14 → AllPass k before bs → bs ≡ []
+unfolding AllPass
 short-last k before [] l s h = refl
 short-last k before (b ∷ bs) l s h =
     let r = right-facts b k before (h .0) in
-    let f = well-formed-facts b k before (r .formed) .follows in
-    let z : (leb k 2 || leb 14 before) ≡ false = rw (lt-leb k 2 l, lt-leb 14 before s) in
+    let f = formed-block-facts b k before (r .formed) .follows in
+    let z : (leb k 2 || leb recordsPerBlock before) ≡ false = rw (lt-leb k 2 l, lt-leb recordsPerBlock before s) in
     let y : true ≡ false = sym f ∙ z in
     let w : _≡_ {A = ℕ} 0 1 = cc in
     absurd (omega arith)
@@ -149,12 +150,12 @@ pub record RecordBlocks (bs : List (List ℕ)) (k : ℕ) : Type 0 where
   pub limit : length (allRecords bs) ≤ 14 * (65536 - k)
   pub are : bs ≡ numbered k (groups (blockCount (allRecords bs)) (allRecords bs))
 
-records-back : (k before : ℕ) (bs : List (List ℕ)) → 2 ≤ k → All Bytes bs → AllRight k before bs → RecordBlocks bs k
-unfolding AllRight allRecords groups numbered All
+records-back : (k before : ℕ) (bs : List (List ℕ)) → 2 ≤ k → All Bytes bs → AllPass k before bs → RecordBlocks bs k
+unfolding AllPass allRecords groups numbered All
 records-back k before [] l y h = record { whole = tt; limit = omega arith; are = refl }
 records-back k before (b ∷ bs) l y h =
     let o = record-back b k before l (y .0) (h .0) in
-    let c : ℕ = itemCount b in
+    let c : ℕ = statedCount b in
     let later = records-back (suc k) c bs (omega arith) (y .1) (h .1) in
     let xs : List (List ℕ) = recordsOf b in
     let ys : List (List ℕ) = allRecords bs in
@@ -170,28 +171,28 @@ records-back k before (b ∷ bs) l y h =
       limit = omega (arith, la, o .count, o .most, o .low, later .limit);
       are =
           (λ i. o .is i ∷ later .are i)
-          ∙ (λ i. block k (joined (sym (cut .0) i)) ∷ numbered (suc k) (groups (blockCount ys) (sym (cut .1) i)))
+          ∙ (λ i. journalBlock k (joined (sym (cut .0) i)) ∷ numbered (suc k) (groups (blockCount ys) (sym (cut .1) i)))
           ∙ ap (λ (m : ℕ). numbered k (groups m (xs ++ ys))) (sym count);
     }
 
 -- ## Blocks of records, from the records
 
-follows-by : (k before : ℕ) → (2 < k → 14 ≤ before) → (leb k 2 || leb 14 before) ≡ true
+follows-by : (k before : ℕ) → (2 < k → 14 ≤ before) → (leb k 2 || leb recordsPerBlock before) ≡ true
 follows-by k before h = go (leb k 2) refl
   where
-    go : (t : Bool) → leb k 2 ≡ t → (leb k 2 || leb 14 before) ≡ true
+    go : (t : Bool) → leb k 2 ≡ t → (leb k 2 || leb recordsPerBlock before) ≡ true
     go true e = rw e
-    go false e = rw (e, le-leb 14 before (h (leb-false k 2 e)))
+    go false e = rw (e, le-leb recordsPerBlock before (h (leb-false k 2 e)))
 
 -- what the blocks written from records are
 pub record RecordsWritten (records : List (List ℕ)) (n k before : ℕ) : Type 0 where
-  pub pass : AllRight k before (numbered k (groups n records))
+  pub pass : AllPass k before (numbered k (groups n records))
   pub read : allRecords (numbered k (groups n records)) ≡ records
   pub allow : AllAllowed k (groups n records)
 
 records-forth : (n k before : ℕ) (rs : List (List ℕ)) → 2 ≤ k → k + n ≤ 65536 → All RecordBytes rs → n ≡ blockCount rs
     → (2 < k → 0 < n → 14 ≤ before) → RecordsWritten rs n k before
-unfolding AllRight allRecords groups numbered AllAllowed
+unfolding AllPass allRecords groups numbered AllAllowed
 records-forth zero k before [] l u w e f = record { pass = tt; read = refl; allow = tt }
 records-forth zero k before (r ∷ rs) l u w e f = absurd (omega arith)
 records-forth (suc n) k before rs l u w e f =
@@ -203,28 +204,28 @@ records-forth (suc n) k before rs l u w e f =
     let wx : All RecordBytes xs = all-take RecordBytes 14 rs w in
     let c : ℕ = length xs in
     let items : List ℕ = joined xs in
-    let b : List ℕ = block k items in
+    let b : List ℕ = journalBlock k items in
     let low : k ≤ maxBlock = omega arith in
     let some : 0 < c = omega (arith, lx) in
     let most : c ≤ 14 = omega (arith, lx) in
     let fits : c ≤ itemLimit k = subst (λ (m : ℕ). c ≤ m) (sym (records-limit k l)) most in
     let long : length items ≡ c * 32 = length-joined xs (all-long xs wx) in
     let whole : length items ≡ c * itemSize k = long ∙ ap (λ (m : ℕ). c * m) (sym (records-size k l)) in
-    let follows : (leb k 2 || leb 14 before) ≡ true = follows-by k before (λ g. f g (omega arith)) in
+    let follows : (leb k 2 || leb recordsPerBlock before) ≡ true = follows-by k before (λ g. f g (omega arith)) in
     let passes = block-right k before c items low some fits whole follows in
     let r = right-facts b k before passes in
-    let ci : itemCount b ≡ c = count-is k before c items low some fits whole follows in
+    let ci : statedCount b ≡ c = count-is k before c items low some fits whole follows in
     let quotient : length items / itemSize k ≡ c = ap (λ (m : ℕ). m / itemSize k) whole ∙ count-back k c in
     let y : Bytes b = bytes-block k items (bytes-joined xs wx) (omega (arith, quotient, most)) in
-    let room : 32 + itemCount b * 32 ≤ length b = omega (arith, r .long, ci, most) in
+    let room : 32 + statedCount b * 32 ≤ length b = omega (arith, r .long, ci, most) in
     let joins : joined (recordsOf b) ≡ items =
-    records-joined (itemCount b) b
+    records-joined (statedCount b) b
     ∙ ap₂ (λ (m : ℕ) (t : List ℕ). take (m * 32) t) ci (block-items k items)
     ∙ take-at items (replicate (448 - length items) 0 ++ sha256 (body k items)) (c * 32) long in
     let reads : recordsOf b ≡ xs =
-    joined-only (recordsOf b) xs (all-long (recordsOf b) (records-whole (itemCount b) b y room)) (all-long xs wx) joins in
+    joined-only 32 (omega arith) (recordsOf b) xs (all-long (recordsOf b) (records-whole (statedCount b) b y room)) (all-long xs wx) joins in
     let later =
-    records-forth n (suc k) (itemCount b) ys (omega arith) (omega arith) (all-drop RecordBytes 14 rs w) (omega (arith, ly))
+    records-forth n (suc k) (statedCount b) ys (omega arith) (omega arith) (all-drop RecordBytes 14 rs w) (omega (arith, ly))
     (λ g p. omega (arith, ci, lx)) in
     record {
       pass = (passes, later .pass);
@@ -235,20 +236,20 @@ records-forth (suc n) k before rs l u w e f =
 -- ## The theorem
 
 within-written : (home far : List ℕ) (records : List (List ℕ)) → (w : Within home far records)
-    → RecordsWritten records (blockCount records) 2 (itemCount (block 1 (balanceBytes far)))
+    → RecordsWritten records (blockCount records) 2 (statedCount (journalBlock 1 (balanceBytes far)))
 within-written home far records w =
-    records-forth (blockCount records) 2 (itemCount (block 1 (balanceBytes far))) records (omega arith) (omega (arith, w .limit)) (w .whole) refl
+    records-forth (blockCount records) 2 (statedCount (journalBlock 1 (balanceBytes far))) records (omega arith) (omega (arith, w .limit)) (w .whole) refl
     (λ p q. absurd (omega arith))
 
-written-reads : (home far : List ℕ) (records : List (List ℕ)) → Within home far records → Reads (journalOf home far records) home far records
-unfolding journalOf itemsOf numbered AllRight
+pub written-reads : WrittenReads
+unfolding WrittenReads journalOf itemsOf numbered AllPass
 written-reads home far records w =
     let h = opening-forth home 0 0 (omega arith) (w .home-opening) in
-    let f = opening-forth far 1 (itemCount (block 0 (balanceBytes home))) (omega arith) (w .far-opening) in
+    let f = opening-forth far 1 (statedCount (journalBlock 0 (balanceBytes home))) (omega arith) (w .far-opening) in
     let r = within-written home far records w in
     record {
-      first = block 0 (balanceBytes home);
-      second = block 1 (balanceBytes far);
+      first = journalBlock 0 (balanceBytes home);
+      second = journalBlock 1 (balanceBytes far);
       others = numbered 2 (groups (blockCount records) records);
       whole = refl;
       right = (h .passes, (f .passes, r .pass));
@@ -264,38 +265,70 @@ all-bytes (b ∷ bs) h = let s = all-split (λ (x : ℕ). x < 256) b (joined bs)
 
 read-written : (home far : List ℕ) (records : List (List ℕ)) (j : List ℕ) → Bytes j → Reads j home far records
     → Within home far records × (j ≡ journalOf home far records)
-unfolding journalOf itemsOf numbered AllRight All
+unfolding journalOf itemsOf numbered AllPass All
 read-written home far records j y r =
     let bs : List (List ℕ) = r .first ∷ r .second ∷ r .others in
     let ys : All Bytes bs = all-bytes bs (subst Bytes (r .whole) y) in
     let h = opening-back (r .first) 0 0 (omega arith) (ys .0) (r .right .0) in
-    let f = opening-back (r .second) 1 (itemCount (r .first)) (omega arith) (ys .1 .0) (r .right .1 .0) in
-    let o = records-back 2 (itemCount (r .second)) (r .others) (omega arith) (ys .1 .1) (r .right .1 .1) in
+    let f = opening-back (r .second) 1 (statedCount (r .first)) (omega arith) (ys .1 .0) (r .right .1 .0) in
+    let o = records-back 2 (statedCount (r .second)) (r .others) (omega arith) (ys .1 .1) (r .right .1 .1) in
     let e = r .record-list in (
       record {
-        home-opening = subst Opening (r .home-balances) (h .opening);
-        far-opening = subst Opening (r .far-balances) (f .opening);
+        home-opening = subst IsOpening (r .home-balances) (h .opening);
+        far-opening = subst IsOpening (r .far-balances) (f .opening);
         whole = subst (All RecordBytes) e (o .whole);
-        limit = subst (λ (q : List (List ℕ)). length q ≤ 917476) e (o .limit);
+        limit = subst (λ (q : List (List ℕ)). length q ≤ recordLimit) e (o .limit);
       },
       r .whole
           ∙ (λ i. joined (h .is i ∷ f .is i ∷ o .are i))
           ∙ (λ i.
-          joined (block 0 (balanceBytes (r .home-balances i)) ∷ block 1 (balanceBytes (r .far-balances i))
+          joined (journalBlock 0 (balanceBytes (r .home-balances i)) ∷ journalBlock 1 (balanceBytes (r .far-balances i))
           ∷ numbered 2 (groups (blockCount (e i)) (e i)))),
     )
 
 pub reads-back : ReadsBack
-unfolding ReadsBack
+unfolding ReadsBack WrittenReads
 reads-back home far records j y = (
   read-written home far records j y,
   λ h. subst (λ (x : List ℕ). Reads x home far records) (sym (h .1)) (written-reads home far records (h .0)),
 )
 
 pub blocks-written : BlocksWritten
-unfolding BlocksWritten itemsOf numbered AllRight AllAllowed
+unfolding BlocksWritten itemsOf numbered AllPass AllAllowed
 blocks-written home far records w =
     let h = opening-forth home 0 0 (omega arith) (w .home-opening) in
-    let f = opening-forth far 1 (itemCount (block 0 (balanceBytes home))) (omega arith) (w .far-opening) in
+    let f = opening-forth far 1 (statedCount (journalBlock 0 (balanceBytes home))) (omega arith) (w .far-opening) in
     let r = within-written home far records w in
     ((h .allowed, (f .allowed, r .allow)), (h .passes, (f .passes, r .pass)))
+
+-- blocks that pass have 512 bytes
+all-512 : (k before : ℕ) (bs : List (List ℕ)) → AllPass k before bs → All (Wide 512) bs
+unfolding AllPass All
+all-512 k before [] h = tt
+all-512 k before (b ∷ bs) h = (right-facts b k before (h .0) .long, all-512 (suc k) (statedCount b) bs (h .1))
+
+pub reads-once : ReadsOnce
+unfolding ReadsOnce
+reads-once j home far records home′ far′ records′ r s =
+    let xs : List (List ℕ) = r .first ∷ r .second ∷ r .others in
+    let ys : List (List ℕ) = s .first ∷ s .second ∷ s .others in
+    let e : xs ≡ ys = joined-only 512 (omega arith) xs ys (all-512 0 0 xs (r .right)) (all-512 0 0 ys (s .right)) (sym (r .whole) ∙ s .whole) in
+    let f : r .first ≡ s .first = cc in
+    let g : r .second ≡ s .second = cc in
+    let o : r .others ≡ s .others = cc in (
+      sym (r .home-balances) ∙ ap balancesOf f ∙ s .home-balances,
+      sym (r .far-balances) ∙ ap balancesOf g ∙ s .far-balances,
+      sym (r .record-list) ∙ ap allRecords o ∙ s .record-list,
+    )
+
+-- ## The calls
+
+pub calls-read : CallsRead
+unfolding CallsRead countOf openingOf partOf recordRefusal placeRefusal balancesRefusal
+calls-read b k before h =
+    record {
+      counts = rw h;
+      opens = λ l. rw (h, lt-leb 2 k l);
+      lists = λ l. take-at (balancesOf b) (replicate (56 - statedCount b) 0) (statedCount b) (length-balances (statedCount b) b);
+      parts = λ l place p. rw (h, le-ltb k 2 l, lt-leb (statedCount b) place p) (sym (record-at (statedCount b) b place p));
+    }

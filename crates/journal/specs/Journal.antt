@@ -1,20 +1,21 @@
 -- The journal as a whole (document 01, "The journal"; demand 2): what is written, what is read, and that these are the
 -- same. A record is here a string of 32 bytes, which is not judged. Assumes nothing.
-use Prim.Native.Nat.{ℕ, zero, suc, _+_, _/_, _^_, _≤_, _<_}
+use Prim.Native.Nat.{ℕ, zero, suc, _+_, _-_, _*_, _/_, _^_, _≤_, _<_}
 use mathlib.Core.List.{List, [], _∷_, _++_}
 use mathlib.Core.Logic.{_↔_}
 use mathlib.Core.Path.{_≡_}
-use lib.ListN.{length, take, drop}
+use lib.ListN.{length, take, drop, getD}
 use Rattle.wire.specs.BigEndian.{All, Bytes, bytesOf}
 use Rattle.ledgers.specs.Limits.{accountLimit}
-use Rattle.journal_reader.specs.Blocks.{itemCount, kindOfBlock, recordsOf, balancesOf}
-use Rattle.journal_reader.specs.Judged.{blockRefusal}
-use Rattle.journal_writer.specs.Written.{block, writeRefusal, written}
+use Rattle.block_format.specs.Blocks.{maxBlock, recordsPerBlock, statedCount, kindOfBlock, recordsOf, balancesOf, balanceTable}
+use Rattle.answers.specs.declared.Answer.the-variants.{Passed}
+use Rattle.journal_reader.specs.Judged.{blockRefusal, partOf, countOf, openingOf}
+use Rattle.journal_writer.specs.Written.{journalBlock, writeRefusal, written}
 
 -- ## Document 01's limits
 
 -- opening balances of a ledger: 1 to 56 numbers of 8 bytes
-pub record Opening (balances : List ℕ) : Type 0 where
+pub record IsOpening (balances : List ℕ) : Type 0 where
   pub some : 0 < length balances
   pub most : length balances ≤ accountLimit
   pub fit : All (λ (x : ℕ). x < 2 ^ 64) balances
@@ -24,12 +25,16 @@ pub record RecordBytes (r : List ℕ) : Type 0 where
   pub long : length r ≡ 32
   pub bytes : Bytes r
 
--- two openings and at most 917,476 records
+-- the most records: what blocks 2 to 65,535 hold, which is 917,476
+abbrev pub recordLimit : ℕ
+recordLimit = recordsPerBlock * (maxBlock - 1)
+
+-- two openings and records within the limit
 pub record Within (home far : List ℕ) (records : List (List ℕ)) : Type 0 where
-  pub home-opening : Opening home
-  pub far-opening : Opening far
+  pub home-opening : IsOpening home
+  pub far-opening : IsOpening far
   pub whole : All RecordBytes records
-  pub limit : length records ≤ 917476
+  pub limit : length records ≤ recordLimit
 
 -- ## What is written
 
@@ -45,12 +50,12 @@ balanceBytes (x ∷ xs) = bytesOf 8 x ++ balanceBytes xs
 
 -- as many blocks as records need: 14 in each but the last
 abbrev pub blockCount : List (List ℕ) → ℕ
-blockCount records = (length records + 13) / 14
+blockCount records = (length records + (recordsPerBlock - 1)) / recordsPerBlock
 
 -- the bytes of records in n groups of 14, the last with what is left
 unfoldable pub groups : ℕ → List (List ℕ) → List (List ℕ)
 groups zero records = []
-groups (suc n) records = joined (take 14 records) ∷ groups n (drop 14 records)
+groups (suc n) records = joined (take recordsPerBlock records) ∷ groups n (drop recordsPerBlock records)
 
 -- the items of each block of a journal
 unfoldable pub itemsOf : List ℕ → List ℕ → List (List ℕ) → List (List ℕ)
@@ -59,7 +64,7 @@ itemsOf home far records = balanceBytes home ∷ balanceBytes far ∷ groups (bl
 -- the blocks with these items, numbered from k on
 unfoldable pub numbered : ℕ → List (List ℕ) → List (List ℕ)
 numbered k [] = []
-numbered k (items ∷ others) = block k items ∷ numbered (suc k) others
+numbered k (items ∷ others) = journalBlock k items ∷ numbered (suc k) others
 
 -- the journal written from two openings and records
 unfoldable pub journalOf : List ℕ → List ℕ → List (List ℕ) → List ℕ
@@ -68,9 +73,9 @@ journalOf home far records = joined (numbered 0 (itemsOf home far records))
 -- ## What is read
 
 -- each block is right in turn: the first as number k after a block of `before` items, each next one after it
-unfoldable pub AllRight : ℕ → ℕ → List (List ℕ) → Type 0
-AllRight k before [] = Unit {0}
-AllRight k before (b ∷ bs) = (blockRefusal b k before ≡ 0) × AllRight (suc k) (itemCount b) bs
+unfoldable pub AllPass : ℕ → ℕ → List (List ℕ) → Type 0
+AllPass k before [] = Unit {0}
+AllPass k before (b ∷ bs) = (blockRefusal b k before ≡ 0) × AllPass (suc k) (statedCount b) bs
 
 -- the records of blocks, one block after the other
 unfoldable pub allRecords : List (List ℕ) → List (List ℕ)
@@ -84,7 +89,7 @@ pub record Reads (j home far : List ℕ) (records : List (List ℕ)) : Type 0 wh
   pub second : List ℕ
   pub others : List (List ℕ)
   pub whole : j ≡ joined (first ∷ second ∷ others)
-  pub right : AllRight 0 0 (first ∷ second ∷ others)
+  pub right : AllPass 0 0 (first ∷ second ∷ others)
   pub home-balances : balancesOf first ≡ home
   pub far-balances : balancesOf second ≡ far
   pub record-list : allRecords others ≡ records
@@ -98,12 +103,36 @@ ReadsBack =
     (home far : List ℕ) (records : List (List ℕ)) (j : List ℕ) → Bytes j
     → Reads j home far records ↔ (Within home far records × (j ≡ journalOf home far records))
 
+-- the journal written from openings and records within the limits reads as them
+unfoldable pub WrittenReads : Type 0
+WrittenReads =
+    (home far : List ℕ) (records : List (List ℕ)) → Within home far records → Reads (journalOf home far records) home far records
+
+-- what reads does so in one way only
+unfoldable pub ReadsOnce : Type 0
+ReadsOnce =
+    (j home far : List ℕ) (records : List (List ℕ)) (home′ far′ : List ℕ) (records′ : List (List ℕ))
+    → Reads j home far records → Reads j home′ far′ records′ → (home ≡ home′) × (far ≡ far′) × (records ≡ records′)
+
+-- ## The theorem and the calls
+
+-- what the calls hand out of a block that passes is what is read of it: the count, all opening balances of blocks 0 and 1,
+-- and the record at each place of the others
+pub record HandedOut (b : List ℕ) (k before : ℕ) : Type 0 where
+  pub counts : countOf b k before ≡ record { answer = Passed; count = statedCount b }
+  pub opens : k < 2 → openingOf b k before ≡ record { answer = Passed; count = statedCount b; balances = balanceTable b }
+  pub lists : k < 2 → take (statedCount b) (balanceTable b) ≡ balancesOf b
+  pub parts : 2 ≤ k → (place : ℕ) → place < statedCount b → partOf b k before place ≡ getD (recordsOf b) place []
+
+unfoldable pub CallsRead : Type 0
+CallsRead = (b : List ℕ) (k before : ℕ) → blockRefusal b k before ≡ 0 → HandedOut b k before
+
 -- each write of items, the first as block k, is one that the writer's call allows, and leaves the block in the output
 unfoldable pub AllAllowed : ℕ → List (List ℕ) → Type 0
 AllAllowed k [] = Unit {0}
 AllAllowed k (items ∷ others) =
     ((out : List ℕ) → length out ≡ 512
-    → (writeRefusal (length out) k (kindOfBlock k) (length items) ≡ 0) × (written out k (kindOfBlock k) items ≡ block k items))
+    → (writeRefusal (length out) k (kindOfBlock k) (length items) ≡ 0) × (written out k (kindOfBlock k) items ≡ journalBlock k items))
     × AllAllowed (suc k) others
 
 -- each block of a written journal is one that the writer's call allows and leaves in the output, and that the judging
@@ -111,4 +140,4 @@ AllAllowed k (items ∷ others) =
 unfoldable pub BlocksWritten : Type 0
 BlocksWritten =
     (home far : List ℕ) (records : List (List ℕ)) → Within home far records
-    → AllAllowed 0 (itemsOf home far records) × AllRight 0 0 (numbered 0 (itemsOf home far records))
+    → AllAllowed 0 (itemsOf home far records) × AllPass 0 0 (numbered 0 (itemsOf home far records))

@@ -1,4 +1,2 @@
--- Laws of blocks and of judging them. Assumes nothing.
-pub mod Sizes
+-- Laws of judging a block. Assumes nothing.
 pub mod Judging
-pub mod Items

@@ -1,61 +1,45 @@
 -- Judging a block (document 01, "Refusals": 11 to 14, and 4 for a place). Assumes nothing.
-use Prim.Native.Nat.{ℕ, zero, suc, _+_, _-_, _*_}
-use mathlib.Core.Bool.{Bool, not, _||_}
-use mathlib.Core.List.{List, [], _∷_}
+use Prim.Native.Nat.{ℕ}
+use mathlib.Core.Bool.{Bool, not}
+use mathlib.Core.List.{List, []}
 use lib.Dec.{eqb, ltb, leb}
 use lib.ListN.{length, take, drop, replicate}
-use Rattle.wire.specs.BigEndian.{every, zeros, same}
+use Rattle.wire.specs.BigEndian.{same}
 use Rattle.ledgers.specs.Limits.{accountLimit}
 use Rattle.answers.specs.Answers.{answer, refuse, orElse, unlessRefused}
 use Rattle.sha256_core.specs.Sha256.{sha256}
-use Rattle.journal_reader.specs.Blocks.{blockNumber, blockKind, itemCount, kindOfBlock, itemSize, itemLimit, recordPart, balanceTable}
+use Rattle.block_format.specs.Blocks.{maxBlock, blockNumber, statedCount, blockFormed, recordPart, balanceTable}
 pub use Rattle.journal_reader.specs.declared.Counted.{Counted}
 pub use Rattle.journal_reader.specs.declared.Balances.{Balances}
 
--- the greatest block number
-abbrev pub maxBlock : ℕ
-maxBlock = 65535
-
--- 12: bytes 480-511 are the SHA-256 of bytes 0-479
+-- what 12 asks: bytes 480-511 are the SHA-256 of bytes 0-479
 unfoldable pub checked : List ℕ → Bool
 checked b = same (sha256 (take 480 b)) (drop 480 b)
 
--- 14, of block k after a block of `before` items: kind, count and zero bytes are right, and a block from number 3 on
--- follows one of not fewer than 14
-unfoldable pub wellFormed : List ℕ → ℕ → ℕ → Bool
-wellFormed b k before =
-    every
-    (eqb (blockKind b) (kindOfBlock k)
-    ∷ ltb 0 (itemCount b)
-    ∷ leb (itemCount b) (itemLimit k)
-    ∷ zeros (take 26 (drop 6 b))
-    ∷ zeros (take (448 - itemCount b * itemSize k) (drop (32 + itemCount b * itemSize k) b))
-    ∷ (leb k 2 || leb 14 before)
-    ∷ []
-    )
-
--- the refusal of a block that is wanted as number k after a block of `before` items, or 0
+-- the refusal of a block that is wanted as number k after a block of `before` items, or 0: 11 where it is not 512 bytes
+-- long (a missing one has none) or wanted above 65,535, then 12, 13 and 14
 unfoldable pub blockRefusal : List ℕ → ℕ → ℕ → ℕ
 blockRefusal b k before =
     refuse (not (eqb (length b) 512)) 11
     (refuse (ltb maxBlock k) 11
     (refuse (not (checked b)) 12
     (refuse (not (eqb (blockNumber b) k)) 13
-    (refuse (not (wellFormed b k before)) 14
+    (refuse (not (blockFormed b k before)) 14
     0))))
 
 -- the refusal of a place at which a record is wanted: 4 in a block of opening balances, and not below the count
 unfoldable pub placeRefusal : List ℕ → ℕ → ℕ → ℕ
 placeRefusal b k place =
     refuse (ltb k 2) 4
-    (refuse (leb (itemCount b) place) 4
+    (refuse (leb (statedCount b) place) 4
     0)
 
 -- the refusal of block and place: 4 after 11 to 14
 unfoldable pub recordRefusal : List ℕ → ℕ → ℕ → ℕ → ℕ
 recordRefusal b k before place = orElse (blockRefusal b k before) (placeRefusal b k place)
 
--- the refusal of a block of which opening balances are wanted: 4, after 11 to 14, in a block of records
+-- the refusal of a block of which opening balances are wanted: 4, after 11 to 14, in a block of records (document 01 leaves
+-- this call free; 4 is the number of a maker who wants of a block what its kind does not hold)
 unfoldable pub balancesRefusal : List ℕ → ℕ → ℕ → ℕ
 balancesRefusal b k before = orElse (blockRefusal b k before) (refuse (leb 2 k) 4 0)
 
@@ -68,7 +52,7 @@ unfoldable pub countOf : List ℕ → ℕ → ℕ → Counted
 countOf b k before =
     record {
       answer = answer (blockRefusal b k before) k;
-      count = unlessRefused (blockRefusal b k before) (itemCount b) 0;
+      count = unlessRefused (blockRefusal b k before) (statedCount b) 0;
     }
 
 -- what the call for the opening balances hands out
@@ -76,6 +60,6 @@ unfoldable pub openingOf : List ℕ → ℕ → ℕ → Balances
 openingOf b k before =
     record {
       answer = answer (balancesRefusal b k before) k;
-      count = unlessRefused (balancesRefusal b k before) (itemCount b) 0;
+      count = unlessRefused (balancesRefusal b k before) (statedCount b) 0;
       balances = unlessRefused (balancesRefusal b k before) (balanceTable b) (replicate accountLimit 0);
     }

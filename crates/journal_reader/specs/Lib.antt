@@ -1,2 +1,2 @@
-pub mod Blocks
+-- The definitions that the contracts cite. Assumes nothing.
 pub mod Judged

@@ -1,25 +1,23 @@
 // The journal's block reader: judging a block, handing out its count, its opening balances and the part of a record.
 // The functions named judged_.. are for a block that `judge` has passed: they do not hash it again.
 ghost use mathlib.Core.Path.{_≡_};
-ghost use Prim.Native.Nat.{_+_, _*_, _<_, _≤_};
-ghost use mathlib.Core.Bool.{_||_};
-ghost use lib.Dec.{leb};
+ghost use Prim.Native.Nat.{_<_, _≤_};
 ghost use lib.ListN.{length};
 ghost use Rattle.answers.specs.Answers.{answer};
-ghost use Rattle.journal_reader.specs.Blocks.{itemCount, kindOfBlock, itemSize, itemLimit, recordPart, balanceTable};
-ghost use Rattle.journal_reader.specs.Judged.{checked, wellFormed, blockRefusal, placeRefusal, recordRefusal, partOf, countOf, openingOf};
+ghost use Rattle.ledgers.specs.Limits.{accountLimit};
+ghost use Rattle.block_format.specs.Blocks.{recordsPerBlock, statedCount, recordPart, balanceTable};
+ghost use Rattle.journal_reader.specs.Judged.{checked, blockRefusal, placeRefusal, recordRefusal, partOf, countOf};
+ghost use Rattle.journal_reader.specs.Judged.{openingOf};
 use answers::Answer;
 use answers::first_refusal;
 use answers::refusal_if;
+use block_format::BLOCK_SIZE;
+use block_format::MAX_BLOCK;
+use block_format::is_block_formed;
+use block_format::stated_count;
 use ledgers::Ledger;
-use wire::all_zero;
 use wire::u32_at;
 use wire::u64_at;
-
-// The bytes of a block.
-pub const BLOCK_SIZE: usize = 512;
-// The greatest block number.
-pub const MAX_BLOCK: u64 = 65535;
 
 // A block's answer, and the count of its items; 0 where it is refused.
 pub struct Counted {
@@ -34,102 +32,13 @@ pub struct Balances {
     pub balances: [u64; Ledger::ACCOUNTS],
 }
 
-fn wide(x: u8) -> usize
-    ensures { λ r. ⌜ (r ≡ x) × (r < 256) ⌝ }
-{
-    x as usize
-}
-
-// The kind of the block with number k.
-pub fn kind_of_block(k: u64) -> u8
-    ensures { λ r. ⌜ r ≡ kindOfBlock k ⌝ }
-{
-    if k == 0 {
-        return 1;
-    }
-    if k == 1 {
-        return 2;
-    }
-    3
-}
-
-// The bytes of an item in the block with number k.
-pub fn item_size(k: u64) -> usize
-    ensures { λ r. ⌜ r ≡ itemSize k ⌝ }
-{
-    if k < 2 { 8 } else { 32 }
-}
-
-// The most items in the block with number k.
-pub fn item_limit(k: u64) -> usize
-    ensures { λ r. ⌜ r ≡ itemLimit k ⌝ }
-{
-    if k < 2 { Ledger::ACCOUNTS } else { 14 }
-}
-
-// The count that a block states: its byte 5, and 0 where it has none.
-pub fn stated_count(block: &[u8]) -> u64
-    ensures { λ r. ⌜ r ≡ itemCount (now (block .entry)) ⌝ }
-{
-    if block.len() <= 5 {
-        return 0;
-    }
-    wide(block[5]) as u64
-}
-
-// Refusal 12 has nothing against the block.
+// Whether refusal 12 has nothing against the block.
 fn is_checked(block: &[u8]) -> bool
     requires { ⌜ length (now block) ≡ 512 ⌝ }
     ensures { λ r. ⌜ r ≡ checked (now (block .entry)) ⌝ }
 {
     let d = sha256::digest(&block[..480]);
     wire::equal(&d, &block[480..])
-}
-
-// The end of the items in the block with number k and a count that it can have.
-fn items_end(k: u64, count: usize) -> usize
-    requires { ⌜ count ≤ itemLimit k ⌝ }
-    ensures { λ r. ⌜ (r ≡ 32 + count * itemSize k) × (r ≤ 480) ⌝ }
-{
-    if k < 2 {
-        32 + count * 8
-    } else {
-        32 + count * 32
-    }
-}
-
-// Whether the block with number k may come after a block of `before` items.
-fn follows(k: u64, before: u64) -> bool
-    ensures { λ r. ⌜ r ≡ (leb k 2 || leb 14 before) ⌝ }
-{
-    if k <= 2 {
-        return true;
-    }
-    14 <= before
-}
-
-// Refusal 14 has nothing against the block with number k after a block of `before` items.
-fn is_well_formed(block: &[u8], k: u64, before: u64) -> bool
-    requires { ⌜ length (now block) ≡ 512 ⌝ }
-    ensures { λ r. ⌜ r ≡ wellFormed (now (block .entry)) k before ⌝ }
-{
-    if block[4] != kind_of_block(k) {
-        return false;
-    }
-    let count = wide(block[5]);
-    if count == 0 {
-        return false;
-    }
-    if item_limit(k) < count {
-        return false;
-    }
-    if !all_zero(block, 6, 32) {
-        return false;
-    }
-    if !all_zero(block, items_end(k, count), 480) {
-        return false;
-    }
-    follows(k, before)
 }
 
 // The refusal of the block that is wanted as number k, after a block of `before` items; 0 for none.
@@ -142,7 +51,7 @@ fn block_refusal(block: &[u8], k: u64, before: u64) -> u32
     let low = refusal_if(MAX_BLOCK < k, 11);
     let check = refusal_if(!is_checked(block), 12);
     let number = refusal_if(u32_at(block, 0) as u64 != k, 13);
-    let form = refusal_if(!is_well_formed(block, k, before), 14);
+    let form = refusal_if(!is_block_formed(block, k, before), 14);
     first_refusal(low, first_refusal(check, first_refusal(number, form)))
 }
 
@@ -166,16 +75,14 @@ pub fn judge(block: &[u8], k: u64, before: u64) -> Answer
 pub fn judge_record(block: &[u8], k: u64, before: u64, place: u64) -> Answer
     ensures { λ r. ⌜ r ≡ answer (recordRefusal (now (block .entry)) k before place) k ⌝ }
 {
-    let n = first_refusal(
-        block_refusal(block, k, before),
-        place_refusal(block, k, place),
-    );
-    Answer::new(n, k)
+    let whole = block_refusal(block, k, before);
+    let place_wanted = place_refusal(block, k, place);
+    Answer::new(first_refusal(whole, place_wanted), k)
 }
 
 // The 32 bytes of the record at a place of a judged block.
 pub fn judged_part(block: &[u8], place: u64) -> &[u8]
-    requires { ⌜ (length (now block) ≡ 512) × (place < 14) ⌝ }
+    requires { ⌜ (length (now block) ≡ 512) × (place < recordsPerBlock) ⌝ }
     ensures { λ r. ⌜ now r ≡ recordPart (now (block .entry)) place ⌝ }
 {
     let a = 32 + 32 * (place as usize);
@@ -208,11 +115,11 @@ pub fn item_count(block: &[u8], k: u64, before: u64) -> Counted
 }
 
 // The opening balances of a judged block, and zeros after them.
-pub fn judged_balances(block: &[u8]) -> [u64; 56]
-    requires { ⌜ (length (now block) ≡ 512) × (itemCount (now block) ≤ 56) ⌝ }
+pub fn judged_balances(block: &[u8]) -> [u64; Ledger::ACCOUNTS]
+    requires { ⌜ (length (now block) ≡ 512) × (statedCount (now block) ≤ accountLimit) ⌝ }
     ensures { λ r. ⌜ r ≡ balanceTable (now (block .entry)) ⌝ }
 {
-    let n = wide(block[5]);
+    let n = stated_count(block) as usize;
     let mut out = [0u64; Ledger::ACCOUNTS];
     let mut i = 0;
     while i < n {
@@ -226,7 +133,9 @@ pub fn judged_balances(block: &[u8]) -> [u64; 56]
 pub fn opening_balances(block: &[u8], k: u64, before: u64) -> Balances
     ensures { λ r. ⌜ r ≡ openingOf (now (block .entry)) k before ⌝ }
 {
-    let n = first_refusal(block_refusal(block, k, before), refusal_if(2 <= k, 4));
+    let whole = block_refusal(block, k, before);
+    let kind = refusal_if(2 <= k, 4);
+    let n = first_refusal(whole, kind);
     if n != 0 {
         let balances = [0u64; Ledger::ACCOUNTS];
         return Balances {

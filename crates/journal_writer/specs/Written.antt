@@ -7,8 +7,7 @@ use lib.ListN.{length, replicate}
 use Rattle.wire.specs.BigEndian.{every, bytesOf}
 use Rattle.answers.specs.Answers.{refuse, unlessRefused}
 use Rattle.sha256_core.specs.Sha256.{sha256}
-use Rattle.journal_reader.specs.Blocks.{kindOfBlock, itemSize, itemLimit}
-use Rattle.journal_reader.specs.Judged.{maxBlock}
+use Rattle.block_format.specs.Blocks.{maxBlock, kindOfBlock, itemSize, itemLimit}
 
 -- bytes 0-31 of block k: number, kind, count and zeros
 abbrev pub header : ℕ → ℕ → List ℕ
@@ -19,8 +18,8 @@ unfoldable pub body : ℕ → List ℕ → List ℕ
 body k items = header k (length items / itemSize k) ++ (items ++ replicate (448 - length items) 0)
 
 -- the block with number k and these items, its check last
-unfoldable pub block : ℕ → List ℕ → List ℕ
-block k items = body k items ++ sha256 (body k items)
+unfoldable pub journalBlock : ℕ → List ℕ → List ℕ
+journalBlock k items = body k items ++ sha256 (body k items)
 
 -- what a write of n bytes of items as block k of a kind into an output of o bytes asks: 512 bytes of output, a number not
 -- above 65,535, the kind of that number, and a whole number of 1 to 14 records (1 to 56 balances)
@@ -42,4 +41,4 @@ writeRefusal o k kind n = refuse (not (allowed o k kind n)) 4 0
 
 -- what the output holds after a write: the block, or where it is refused what it held
 unfoldable pub written : List ℕ → ℕ → ℕ → List ℕ → List ℕ
-written out k kind items = unlessRefused (writeRefusal (length out) k kind (length items)) (block k items) out
+written out k kind items = unlessRefused (writeRefusal (length out) k kind (length items)) (journalBlock k items) out

@@ -5,14 +5,14 @@ ghost use Prim.Native.Nat.{_-_, _<_, _≤_};
 ghost use lib.ListN.{length, take, replicate};
 ghost use Rattle.answers.specs.Answers.{answer};
 ghost use Rattle.sha256_core.specs.Sha256.{sha256};
-ghost use Rattle.journal_reader.specs.Blocks.{kindOfBlock};
+ghost use Rattle.block_format.specs.Blocks.{kindOfBlock};
 ghost use Rattle.journal_writer.specs.Written.{header, allowed, writeRefusal, written};
 use answers::Answer;
-use journal_reader::BLOCK_SIZE;
-use journal_reader::MAX_BLOCK;
-use journal_reader::item_limit;
-use journal_reader::item_size;
-use journal_reader::kind_of_block;
+use block_format::BLOCK_SIZE;
+use block_format::MAX_BLOCK;
+use block_format::item_limit;
+use block_format::item_size;
+use block_format::kind_of_block;
 use wire::u32_bytes;
 
 // Refusal 4 has nothing against a write.

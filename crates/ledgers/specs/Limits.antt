@@ -1,4 +1,4 @@
--- The numbers that bound the part (document 01). Each stands here alone. Assumes nothing.
+-- The limits of ledgers and amounts (document 01). Assumes nothing.
 use Prim.Native.Nat.{ℕ, _-_, _^_}
 
 -- the most accounts of a ledger

@@ -28,6 +28,7 @@ impl Ledger {
         }
     }
 
+    // The byte of a record that this ledger holds.
     pub fn byte(self) -> u8
         ensures { λ r. ⌜ r ≡ ledgerByte self ⌝ }
     {
@@ -47,12 +48,14 @@ pub enum Kind {
 }
 
 impl Kind {
+    // The byte of a record that says its kind.
     pub const LOCAL: u8 = 1;
 
     pub const SENDING: u8 = 2;
 
     pub const RECEIVING: u8 = 3;
 
+    // The byte of a record of this kind.
     pub fn byte(self) -> u8
         ensures { λ r. ⌜ r ≡ kindByte self ⌝ }
     {

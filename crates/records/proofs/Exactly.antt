@@ -7,14 +7,15 @@ use native.Mathlib.Omega.{arith}
 use lib.Dec.{eqb}
 use lib.ListN.{length, drop, drop-of-length-le}
 use Rattle.ledgers.specs.Ledgers.{ledgerByte, ledgerAt, kindByte, kindAt, ledgerOf}
+use Rattle.ledgers.specs.Limits.{maxAmount}
+use Rattle.records.proofs.Formed.{Formed, formed-facts, facts-formed, read-formed, formed-reads}
+use Rattle.records.specs.Records.{Record, Read, recordIn, reading, encoding, Encodable, Readable, ReadsExactly, EncodingReads, EncodedOnce}
+use Rattle.wire.proofs.Numbers.{field-fits, value-back, drop-field}
+use Rattle.wire.specs.BigEndian.{Bytes, valueAfter, field, bytesOf}
 use Rattle.ledgers.specs.declared.Kind.the-variants.{Local, Sending, Receiving}
 use Rattle.ledgers.specs.declared.Kind.{Kind}
 use Rattle.ledgers.specs.declared.Ledger.the-variants.{Home, Far}
 use Rattle.ledgers.specs.declared.Ledger.{Ledger}
-use Rattle.records.proofs.Formed.{Formed, formed-facts, facts-formed, read-formed, formed-reads}
-use Rattle.records.specs.Records.{Record, Read, recordIn, reading, encoding, Encodable, ReadsExactly, EncodedOnce}
-use Rattle.wire.proofs.Numbers.{field-fits, value-back, drop-field}
-use Rattle.wire.specs.BigEndian.{Bytes, valueAfter, field, bytesOf}
 
 -- ## From the bytes
 
@@ -90,16 +91,20 @@ module _ (b : List ℕ) (y : Bytes b) (f : Formed b) where
       k i ++ (o i ++ (bytesOf 2 (field 2 2 b) ++ (bytesOf 2 (field 4 2 b) ++ (z i
       ++ (bytesOf 8 (field 8 8 b) ++ (bytesOf 8 (field 16 8 b) ++ (v i ++ (e i ++ [])))))))))
 
-  pub formed-encodable : Encodable (recordIn b)
+  pub formed-readable : Readable (recordIn b)
   unfolding recordIn
-  formed-encodable =
+  formed-readable =
       let l = f .long in
       record {
-        sender-fits = field-fits 2 2 b y (omega arith);
-        receiver-fits = field-fits 4 2 b y (omega arith);
-        number-fits = field-fits 8 8 b y (omega arith);
-        amount-some = f .amount-some;
-        amount-fits = f .amount-most;
+        fits =
+            record {
+              sender-fits = field-fits 2 2 b y (omega arith);
+              receiver-fits = field-fits 4 2 b y (omega arith);
+              number-fits = field-fits 8 8 b y (omega arith);
+              amount-fits = field-fits 16 8 b y (omega arith);
+            };
+        amount-some = omega (arith, f .amount-some);
+        amount-most = omega (arith, f .amount-most);
       }
 
 -- ## From the record
@@ -156,7 +161,7 @@ module _ (r : Record) (g : Encodable r) where
 
   f-amount : field 16 8 (encoding r) ≡ r .amount
   unfolding field encoding bytesOf
-  f-amount = value-back 8 (r .amount) (omega (arith, g .amount-fits))
+  f-amount = value-back 8 (r .amount) (g .amount-fits)
 
   f-verdict : field 24 1 (encoding r) ≡ cond (r .verified) 1 0
   unfolding field encoding bytesOf valueAfter
@@ -166,47 +171,48 @@ module _ (r : Record) (g : Encodable r) where
   unfolding field encoding bytesOf valueAfter
   f-last = refl
 
-  encoding-facts : Formed (encoding r)
-  encoding-facts =
-      record {
-        long = f-length;
-        kind-some = rw f-kind (kind-bounds (r .kind) .0);
-        kind-most = rw f-kind (kind-bounds (r .kind) .1);
-        ledger-most = rw f-ledger (ledger-bound (ledgerOf (r .kind)));
-        zeros-first = f-first;
-        amount-some = rw f-amount (g .amount-some);
-        amount-most = rw f-amount (g .amount-fits);
-        verdict-most = rw f-verdict (verdict-back (r .verified) .1);
-        zeros-last = f-last;
-      }
-
-  encoding-holds : recordIn (encoding r) ≡ r
+  pub encoding-holds : recordIn (encoding r) ≡ r
   unfolding recordIn
   encoding-holds =
       let k = ap₂ (λ (x y : ℕ). kindAt x (ledgerAt y)) f-kind f-ledger ∙ kind-back (r .kind) in
       let v = ap (λ (x : ℕ). eqb x 1) f-verdict ∙ verdict-back (r .verified) .0 in
       λ i. record { kind = k i; sender = f-sender i; receiver = f-receiver i; number = f-number i; amount = f-amount i; verified = v i }
 
-  pub encoding-reads : reading (encoding r) ≡ Read r
-  encoding-reads = formed-reads (encoding r) (facts-formed (encoding r) encoding-facts) ∙ ap Read encoding-holds
+  pub encoding-formed : 0 < r .amount → r .amount ≤ maxAmount → Formed (encoding r)
+  encoding-formed some most =
+      record {
+        long = f-length;
+        kind-some = rw f-kind (kind-bounds (r .kind) .0);
+        kind-most = rw f-kind (kind-bounds (r .kind) .1);
+        ledger-most = rw f-ledger (ledger-bound (ledgerOf (r .kind)));
+        zeros-first = f-first;
+        amount-some = rw f-amount some;
+        amount-most = rw f-amount most;
+        verdict-most = rw f-verdict (verdict-back (r .verified) .1);
+        zeros-last = f-last;
+      }
 
 -- ## The theorem
 
-pub reads-exactly : ReadsExactly
-unfolding ReadsExactly
-reads-exactly b y r = (there, back)
-  where
-    there : reading b ≡ Read r → Encodable r × (b ≡ encoding r)
-    there h =
-        let f = read-formed b r h in
-        let g = formed-facts b (f .0) in
-        (subst Encodable (f .1) (formed-encodable b y g), formed-encoded b y g ∙ ap encoding (f .1))
-
-    back : Encodable r × (b ≡ encoding r) → reading b ≡ Read r
-    back h = ap reading (h .1) ∙ encoding-reads r (h .0)
+pub encoding-reads : EncodingReads
+unfolding EncodingReads
+encoding-reads r g =
+    let f = encoding-formed r (g .fits) (g .amount-some) (g .amount-most) in
+    formed-reads (encoding r) (facts-formed (encoding r) f) ∙ ap Read (encoding-holds r (g .fits))
 
 pub encoded-once : EncodedOnce
 unfolding EncodedOnce
-encoded-once r q g h e =
-    let k : Read r ≡ Read q = sym (encoding-reads r g) ∙ ap reading e ∙ encoding-reads q h in
-    cc
+encoded-once r q g h e = sym (encoding-holds r g) ∙ ap recordIn e ∙ encoding-holds q h
+
+pub reads-exactly : ReadsExactly
+unfolding ReadsExactly EncodingReads
+reads-exactly b y r = (there, back)
+  where
+    there : reading b ≡ Read r → Readable r × (b ≡ encoding r)
+    there h =
+        let f = read-formed b r h in
+        let g = formed-facts b (f .0) in
+        (subst Readable (f .1) (formed-readable b y g), formed-encoded b y g ∙ ap encoding (f .1))
+
+    back : Readable r × (b ≡ encoding r) → reading b ≡ Read r
+    back h = ap reading (h .1) ∙ encoding-reads r (h .0)

@@ -15,7 +15,7 @@ pub use Rattle.records.specs.declared.Reading.the-variants.{Read, Unread
 
 -- ## Reading
 
--- what refusal 21 asks of bytes: 32 of them; kind, ledger, verdict and zero bytes right; an amount that is not 0 and not
+-- what refusal 21 asks of bytes (all 2^64 numbers of transfers are right, 0 too): 32 of them; kind, ledger, verdict and zero bytes right; an amount that is not 0 and not
 -- above 2^63-1
 unfoldable pub formed : List ℕ → Bool
 formed b =
@@ -61,18 +61,29 @@ encoding r =
     ++ (bytesOf 8 (r .amount)
     ++ (cond (r .verified) 1 0 ∷ replicate 7 0))))))
 
--- the records that 32 bytes can hold
+-- ## Reading and encoding
+
+-- a record whose fields fit in their bytes, as those of the code's struct always do
 pub record Encodable (r : Record) : Type 0 where
   pub sender-fits : r .sender < 2 ^ 16
   pub receiver-fits : r .receiver < 2 ^ 16
   pub number-fits : r .number < 2 ^ 64
+  pub amount-fits : r .amount < 2 ^ 64
+
+-- one that can be read: its amount is right too
+pub record Readable (r : Record) : Type 0 where
+  pub fits : Encodable r
   pub amount-some : 0 < r .amount
-  pub amount-fits : r .amount ≤ maxAmount
+  pub amount-most : r .amount ≤ maxAmount
 
--- bytes read as a record exactly when they are its encoding, and only records that 32 bytes can hold are read
+-- bytes read as a record exactly when it can be read and they are its encoding
 unfoldable pub ReadsExactly : Type 0
-ReadsExactly = (b : List ℕ) → Bytes b → (r : Record) → (reading b ≡ Read r) ↔ (Encodable r × (b ≡ encoding r))
+ReadsExactly = (b : List ℕ) → Bytes b → (r : Record) → (reading b ≡ Read r) ↔ (Readable r × (b ≡ encoding r))
 
--- two records that 32 bytes can hold do not share their bytes
+-- the encoding of a record that can be read reads as it
+unfoldable pub EncodingReads : Type 0
+EncodingReads = (r : Record) → Readable r → reading (encoding r) ≡ Read r
+
+-- no two records have one encoding
 unfoldable pub EncodedOnce : Type 0
 EncodedOnce = (r q : Record) → Encodable r → Encodable q → encoding r ≡ encoding q → r ≡ q

@@ -111,8 +111,10 @@ impl Record {
     // The bytes of a record.
     pub const SIZE: usize = 32;
 
+    // The greatest amount.
     pub const MAX_AMOUNT: u64 = 9223372036854775807;
 
+    // What bytes read as.
     pub fn read(s: &[u8]) -> Reading
         ensures { λ r. ⌜ r ≡ reading (now (s .entry)) ⌝ }
     {
@@ -122,7 +124,7 @@ impl Record {
         Reading::Unreadable
     }
 
-    // The 32 bytes of a record.
+    // The 32 bytes of a record, also where its amount is 0 or above 2^63-1; such bytes do not read.
     pub fn encode(self) -> [u8; 32]
         ensures { λ r. ⌜ r ≡ encoding self ⌝ }
     {

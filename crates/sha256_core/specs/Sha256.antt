@@ -59,7 +59,7 @@ K =
 
 -- ## 5.1.1: padding
 
--- the least k with n bytes, the byte 0x80, k zero bytes and 8 bytes of length a multiple of 64
+-- the least k (119 is 64 + 56 - 1) with n bytes, the byte 0x80, k zero bytes and 8 bytes of length a multiple of 64
 abbrev pub zeroCount : ℕ → ℕ
 zeroCount n = (119 - n % 64) % 64
 
@@ -83,6 +83,7 @@ word m t = field (4 * t) 4 m
 
 -- ## 5.3.3: the initial hash value
 
+-- the fields a to h are H0 to H7 here
 abbrev pub initial : Hash
 initial =
     record {

@@ -1,4 +1,8 @@
 -- Byte strings, and the numbers in them, highest byte first. A byte string is a list of numbers. Assumes nothing.
+--
+-- Of the language's library: `eqb`, `ltb` and `leb` test =, < and ≤; `cond t x y` is x where t holds and else y; `take n s`
+-- and `drop n s` are the first n elements of s and those after them; `getD s i d` is the element at index i, or d past the
+-- end; `replicate n x` is n times x.
 use Prim.Native.Nat.{ℕ, zero, suc, _+_, _*_, _/_, _%_, _^_, _<_}
 use mathlib.Core.Bool.{Bool, true, false, _&&_}
 use mathlib.Core.List.{List, [], _∷_}

@@ -6,9 +6,9 @@ use lib.Dec.{eqb, ltb}
 use borrow.Author.Tests.{eq-eqb, ne-eqb}
 use borrow.Author.Needs.{needs}
 use Rattle.answers.specs.Answers.{refuse, orElse}
+use Rattle.block_format.specs.Blocks.{maxBlock, blockNumber, blockFormed}
 use Rattle.journal_reader.proofs.Judging.{in-order}
-use Rattle.journal_reader.specs.Blocks.{blockNumber}
-use Rattle.journal_reader.specs.Judged.{maxBlock, checked, wellFormed, blockRefusal}
+use Rattle.journal_reader.specs.Judged.{checked, blockRefusal}
 use Rattle.journal_reader.proofs.block_refusal.Statement.{statement}
 use Rattle.journal_reader.proofs.block_refusal.Tie as tie
 
@@ -35,8 +35,8 @@ cast-refusal-if c = search needs
 refusal-if-requires-3 : tie.Need-refusal-if-requires-3
 refusal-if-requires-3 c κs = search needs
 
-is-well-formed-requires : tie.Need-is-well-formed-requires
-is-well-formed-requires c κs = search needs
+is-block-formed-requires : tie.Need-is-block-formed-requires
+is-block-formed-requires c κs = search needs
 
 refusal-if-requires-4 : tie.Need-refusal-if-requires-4
 refusal-if-requires-4 c κs = search needs
@@ -58,11 +58,11 @@ returns-2 c =
     let low = c .before .before .before .before .before .before .before .before .before .refusal-if .ensures in
     let check = c .before .before .before .before .before .before .before .refusal-if2 .ensures ∙ ap (λ (t : Bool). refuse (not t) 12 0) (c .before .before .before .before .before .before .before .before .is-checked .ensures) in
     let number = c .before .before .before .before .before .refusal-if3 .ensures ∙ ap (λ (n : ℕ). refuse (not (eqb n (a .k))) 13 0) (c .before .before .before .before .before .before .u32-at .ensures) in
-    let form = c .before .before .before .refusal-if4 .ensures ∙ ap (λ (t : Bool). refuse (not t) 14 0) (c .before .before .before .before .is-well-formed .ensures) in
+    let form = c .before .before .before .refusal-if4 .ensures ∙ ap (λ (t : Bool). refuse (not t) 14 0) (c .before .before .before .before .is-block-formed .ensures) in
     rw (eq-eqb _ _ (c .before .before .before .before .before .before .before .before .before .before .if1 .left))
     (c .first-refusal3 .ensures
     ∙ ap₂ orElse low (c .before .first-refusal2 .ensures ∙ ap₂ orElse check (c .before .before .first-refusal .ensures ∙ ap₂ orElse number form))
-    ∙ in-order (ltb maxBlock (a .k)) (not (checked b)) (not (eqb (blockNumber b) (a .k))) (not (wellFormed b (a .k) (a .before))))
+    ∙ in-order (ltb maxBlock (a .k)) (not (checked b)) (not (eqb (blockNumber b) (a .k))) (not (blockFormed b (a .k) (a .before))))
 
 pub block-refusal-spec : {M : Type 1} → statement M
 block-refusal-spec =
@@ -75,7 +75,7 @@ block-refusal-spec =
     u32-at-requires
     cast-refusal-if
     refusal-if-requires-3
-    is-well-formed-requires
+    is-block-formed-requires
     refusal-if-requires-4
     first-refusal-requires
     first-refusal-requires-2

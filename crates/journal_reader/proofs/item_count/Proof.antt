@@ -4,7 +4,7 @@ use mathlib.Core.Path.{sym, ap, _∙_}
 use borrow.Author.Needs.{needs}
 use Rattle.answers.proofs.Answers.{passed-zero, refused-instead}
 use Rattle.answers.specs.Answers.{answer, unlessRefused}
-use Rattle.journal_reader.specs.Blocks.{itemCount}
+use Rattle.block_format.specs.Blocks.{statedCount}
 use Rattle.journal_reader.specs.Judged.{blockRefusal, countOf}
 use Rattle.journal_reader.proofs.item_count.Statement.{statement}
 use Rattle.journal_reader.proofs.item_count.Tie as tie
@@ -24,7 +24,7 @@ returns c =
     let a = c .before .before .before .before .args in
     let b = a .block .now in
     let e = sym (c .before .before .judge .ensures) ∙ c .enum-told2 .given .1 in
-    let n = refused-instead (blockRefusal b (a .k) (a .before)) (a .k) _ _ (itemCount b) 0 e in
+    let n = refused-instead (blockRefusal b (a .k) (a .before)) (a .k) _ _ (statedCount b) 0 e in
     λ i. record { answer = c .before .before .judge .ensures i; count = sym n i }
 
 stated-count-requires : tie.Need-stated-count-requires
@@ -36,7 +36,7 @@ returns-2 c =
     let a = c .before .before .before .before .before .args in
     let b = a .block .now in
     let z = passed-zero (blockRefusal b (a .k) (a .before)) (a .k) (sym (c .before .before .before .judge .ensures) ∙ c .before .enum-told .given .1) in
-    let n = c .stated-count .ensures ∙ ap (λ (m : ℕ). unlessRefused m (itemCount b) 0) (sym z) in
+    let n = c .stated-count .ensures ∙ ap (λ (m : ℕ). unlessRefused m (statedCount b) 0) (sym z) in
     λ i. record { answer = c .before .before .before .judge .ensures i; count = n i }
 
 pub item-count-spec : {M : Type 1} → statement M

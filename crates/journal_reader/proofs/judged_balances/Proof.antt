@@ -5,9 +5,9 @@ use mathlib.Core.List.{List, _++_}
 use native.Mathlib.Omega.{arith}
 use lib.ListN.{set, replicate}
 use borrow.Author.Needs.{needs}
-use Rattle.journal_reader.proofs.Items.{table-on}
-use Rattle.journal_reader.specs.Blocks.{itemCount, balancesIn}
-use Rattle.wire.proofs.Numbers.{field-one}
+use Rattle.block_format.proofs.Items.{table-on}
+use Rattle.block_format.specs.Blocks.{statedCount, balancesIn}
+use Rattle.sha256_core.specs.Sha256.{block}
 use Rattle.journal_reader.proofs.judged_balances.Statement.{statement}
 use Rattle.journal_reader.proofs.judged_balances.Tie as tie
 
@@ -17,17 +17,13 @@ Inv-loop block n out₀ i₀ out i = (i ≤ n) × (n ≤ 56) × (out ≡ balance
 abbrev μ-loop : tie.MeasureT-loop
 μ-loop block n out₀ i₀ out i = n - i
 
-shared-slice-read-wide : tie.Need-shared-slice-read-wide Inv-loop μ-loop
-shared-slice-read-wide c = search needs
-
-wide-requires : tie.Need-wide-requires Inv-loop μ-loop
-wide-requires c κs = search needs
+stated-count-requires : tie.Need-stated-count-requires Inv-loop μ-loop
+stated-count-requires c κs = search needs
 
 loop-holds : tie.Need-loop-holds Inv-loop μ-loop
 unfolding balancesIn
 loop-holds c =
-    let b = c .before .before .before .args .block .now in
-    (search needs, omega (arith, field-one 5 b (omega arith), c .wide .ensures .0), refl)
+    (search needs, omega (arith, c .stated-count .ensures), refl)
 
 mul-u64-at : tie.Need-mul-u64-at Inv-loop μ-loop
 mul-u64-at c = search needs
@@ -53,14 +49,15 @@ loop-less c = search needs
 loop-again : tie.Need-loop-again Inv-loop μ-loop
 loop-again c =
     let l = c .before .before .loop in
-    let e : l .out ≡ balancesIn (l .i) (c .before .before .before .before .before .before .args .block .now) ++ replicate (56 - l .i) 0 = l .inv .2 in
-    (search needs, search needs, ap (λ (o : List ℕ). set o (l .i) (c .u64-at .result)) e ∙ table-on (c .before .before .before .before .before .before .args .block .now) (l .i) (c .u64-at .result) (omega arith) (c .u64-at .ensures))
+    let v = c .u64-at in
+    let e = ap (λ (o : List ℕ). set o (l .i) (v .result)) (l .inv .2) in
+    (search needs, search needs, e ∙ table-on (c .before .before .before .before .before .args .block .now) (l .i) (v .result) (omega arith) (v .ensures))
 
 returns : tie.Need-returns Inv-loop μ-loop
 returns c =
-    let b = c .before .before .before .before .before .args .block .now in
+    let b = c .before .before .before .before .args .block .now in
     let l = c .before .loop in
-    let z : l .i ≡ itemCount b = omega (arith, field-one 5 b (omega arith), c .before .before .wide .ensures .0) in
+    let z : l .i ≡ statedCount b = omega (arith, c .before .before .stated-count .ensures) in
     l .inv .2 ∙ ap (λ (i : ℕ). balancesIn i b ++ replicate (56 - i) 0) z
 
 pub judged-balances-spec : {M : Type 1} → statement M
@@ -69,8 +66,7 @@ judged-balances-spec =
     (tie.spec
     Inv-loop
     μ-loop
-    shared-slice-read-wide
-    wide-requires
+    stated-count-requires
     loop-holds
     mul-u64-at
     add-u64-at

@@ -5,8 +5,8 @@ use lib.ListN.{replicate}
 use borrow.Author.Needs.{needs}
 use Rattle.answers.proofs.Answers.{instead-refused}
 use Rattle.answers.specs.Answers.{answer, orElse, unlessRefused}
+use Rattle.block_format.specs.Blocks.{statedCount, balanceTable}
 use Rattle.journal_reader.proofs.Judging.{opened}
-use Rattle.journal_reader.specs.Blocks.{itemCount, balanceTable}
 use Rattle.journal_reader.specs.Judged.{balancesRefusal, openingOf}
 use Rattle.ledgers.specs.Limits.{accountLimit}
 use Rattle.answers.specs.declared.Answer.the-variants.{Passed}
@@ -32,7 +32,7 @@ returns c =
     let b = a .block .now in
     let n : ℕ = c .before .before .first-refusal .result in
     let e = c .before .before .first-refusal .ensures ∙ ap₂ orElse (c .before .before .before .before .block-refusal .ensures) (c .before .before .before .refusal-if .ensures) in
-    let count = instead-refused n (itemCount b) 0 (c .before .if1 .taken) ∙ ap (λ (m : ℕ). unlessRefused m (itemCount b) 0) e in
+    let count = instead-refused n (statedCount b) 0 (c .before .if1 .taken) ∙ ap (λ (m : ℕ). unlessRefused m (statedCount b) 0) e in
     let table = instead-refused n (balanceTable b) (replicate accountLimit 0) (c .before .if1 .taken) ∙ ap (λ (m : ℕ). unlessRefused m (balanceTable b) (replicate accountLimit 0)) e in
     let told = c .new .ensures ∙ ap (λ (m : ℕ). answer m (a .k)) e in
     λ i. record { answer = told i; count = count i; balances = table i }

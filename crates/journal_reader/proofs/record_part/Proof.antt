@@ -4,8 +4,8 @@ use mathlib.Core.Path.{_≡_, sym, _∙_}
 use mathlib.Core.List.{[]}
 use borrow.Author.Needs.{needs}
 use Rattle.answers.proofs.Answers.{passed-zero, refused-instead}
+use Rattle.block_format.specs.Blocks.{recordPart}
 use Rattle.journal_reader.proofs.Judging.{placed}
-use Rattle.journal_reader.specs.Blocks.{recordPart}
 use Rattle.journal_reader.specs.Judged.{recordRefusal, partOf}
 use Rattle.journal_reader.proofs.record_part.Statement.{statement}
 use Rattle.journal_reader.proofs.record_part.Tie as tie

@@ -5,8 +5,8 @@ use native.Mathlib.Omega.{arith}
 use lib.Dec.{leb}
 use borrow.Author.Tests.{eq-eqb, ne-eqb, lt-ltb, le-ltb, le-leb, lt-leb}
 use borrow.Author.Needs.{needs}
-use Rattle.journal_reader.proofs.Sizes.{size-some}
-use Rattle.journal_reader.specs.Blocks.{itemSize}
+use Rattle.block_format.proofs.Sizes.{size-some}
+use Rattle.block_format.specs.Blocks.{itemSize}
 use Rattle.journal_writer.specs.Written.{allowed}
 use Rattle.wire.proofs.Lists.{every-one, every-skip, every-not}
 use Rattle.journal_writer.proofs.is_allowed.Statement.{statement}

@@ -6,9 +6,9 @@ use native.Mathlib.Omega.{arith}
 use lib.ListN.{length, take, replicate}
 use borrow.Author.Needs.{needs}
 use Rattle.answers.specs.Answers.{answer, unlessRefused}
-use Rattle.journal_reader.proofs.Sizes.{size-some, limit-byte}
+use Rattle.block_format.proofs.Sizes.{size-some, limit-byte}
 use Rattle.journal_writer.proofs.Allowing.{allowed-facts, allowed-room, allowed-answer, refused-answer}
-use Rattle.journal_writer.specs.Written.{header, body, block, written}
+use Rattle.journal_writer.specs.Written.{header, body, journalBlock, written}
 use Rattle.sha256_core.specs.Sha256.{sha256}
 use Rattle.journal_writer.proofs.write.Statement.{statement}
 use Rattle.journal_writer.proofs.write.Tie as tie
@@ -59,7 +59,7 @@ same-length : tie.Need-same-length
 same-length c = search needs
 
 returns : tie.Need-returns
-unfolding written block body
+unfolding written journalBlock body
 returns c =
     let a = c .before .before .before .before .before .before .before .before .before .before .before .before .before .before .args in
     let o = a .out .now in
@@ -80,7 +80,7 @@ returns-2 c =
     let a = c .before .before .before .before .args in
     let o = a .out .now in
     let z = refused-answer (length o) (a .k) (a .kind) (length (a .items .now)) (sym (c .before .is-allowed .ensures) ∙ c .if1 .left) in
-    (ap (λ (n : ℕ). answer n (a .k)) (sym z), ap (λ (n : ℕ). unlessRefused n (block (a .k) (a .items .now)) o) (sym z))
+    (ap (λ (n : ℕ). answer n (a .k)) (sym z), ap (λ (n : ℕ). unlessRefused n (journalBlock (a .k) (a .items .now)) o) (sym z))
 
 pub write-spec : {M : Type 1} → statement M
 write-spec =

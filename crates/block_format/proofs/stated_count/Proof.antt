@@ -1,0 +1,24 @@
+-- `block_format::stated_count` meets its contract. Assumes nothing.
+use mathlib.Core.Path.{sym, _∙_}
+use native.Mathlib.Omega.{arith}
+use borrow.Author.Needs.{needs}
+use Rattle.wire.proofs.Numbers.{field-one, field-none}
+use Rattle.block_format.proofs.stated_count.Statement.{statement}
+use Rattle.block_format.proofs.stated_count.Tie as tie
+
+returns : tie.Need-returns
+returns c =
+    sym (field-none 5 1 (c .before .before .args .block .now) (c .if1 .taken))
+
+shared-slice-read-wide : tie.Need-shared-slice-read-wide
+shared-slice-read-wide c = search needs
+
+wide-requires : tie.Need-wide-requires
+wide-requires c κs = search needs
+
+returns-2 : tie.Need-returns-2
+returns-2 c =
+    c .wide .ensures .0 ∙ sym (field-one 5 (c .before .before .before .before .args .block .now) (omega arith))
+
+pub stated-count-spec : {M : Type 1} → statement M
+stated-count-spec = tie.close (tie.spec returns shared-slice-read-wide wide-requires returns-2)
