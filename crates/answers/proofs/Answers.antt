@@ -42,10 +42,12 @@ pub answer-refused : (n p : ℕ) → (n ≡ 0 → ⊥) → Refused n p ≡ answe
 answer-refused zero p h = absurd (h refl)
 answer-refused (suc n) p h = refl
 
+-- a refusal stays whatever the later tests say
 pub else-refused : (n later : ℕ) → (n ≡ 0 → ⊥) → n ≡ orElse n later
 else-refused zero later h = absurd (h refl)
 else-refused (suc n) later h = refl
 
+-- nothing is handed out with a refusal
 pub instead-refused : {A : Type 0} (n : ℕ) (given instead : A) → (n ≡ 0 → ⊥) → instead ≡ unlessRefused n given instead
 instead-refused zero given instead h = absurd (h refl)
 instead-refused (suc n) given instead h = refl

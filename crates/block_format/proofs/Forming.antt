@@ -11,6 +11,7 @@ use Rattle.block_format.specs.Blocks.{recordsPerBlock, blockKind, stated
 use Rattle.wire.proofs.Lists.{every-none, every-one, every-first, every-both, every-skip}
 use Rattle.wire.specs.BigEndian.{zeros}
 
+-- the facts, one for each test
 pub record FormedBlock (b : List ℕ) (k before : ℕ) : Type 0 where
   pub kind : blockKind b ≡ kindOfBlock k
   pub some : 0 < statedCount b
@@ -19,6 +20,7 @@ pub record FormedBlock (b : List ℕ) (k before : ℕ) : Type 0 where
   pub tail : zeros (take (448 - statedCount b * itemSize k) (drop (32 + statedCount b * itemSize k) b)) ≡ true
   pub follows : (leb k 2 || leb recordsPerBlock before) ≡ true
 
+-- from the tests to the facts
 pub formed-block-facts : (b : List ℕ) (k before : ℕ) → blockFormed b k before ≡ true → FormedBlock b k before
 unfolding blockFormed
 formed-block-facts b k before h =
@@ -37,6 +39,7 @@ formed-block-facts b k before h =
       follows = h6 .0;
     }
 
+-- and back
 pub facts-formed-block : (b : List ℕ) (k before : ℕ) → FormedBlock b k before → blockFormed b k before ≡ true
 unfolding blockFormed
 facts-formed-block b k before f =

@@ -9,12 +9,14 @@ use lib.Seq.{set-at}
 use Rattle.block_format.specs.Blocks.{recordPart, recordsIn, balancesIn}
 use Rattle.wire.specs.BigEndian.{field}
 
+-- n opening balances are n
 pub length-balances : (n : ℕ) (b : List ℕ) → length (balancesIn n b) ≡ n
 unfolding balancesIn
 length-balances zero b = refl
 length-balances (suc n) b =
     omega (arith, length-append (balancesIn n b) (field (32 + 8 * n) 8 b ∷ []), length-balances n b)
 
+-- n records are n
 pub length-records : (n : ℕ) (b : List ℕ) → length (recordsIn n b) ≡ n
 unfolding recordsIn
 length-records zero b = refl

@@ -12,6 +12,7 @@ balances-size zero h = refl
 balances-size (suc zero) h = refl
 balances-size (suc (suc k)) h = absurd (omega arith)
 
+-- as many as a ledger has accounts
 pub balances-limit : (k : ℕ) → k < 2 → itemLimit k ≡ accountLimit
 balances-limit zero h = refl
 balances-limit (suc zero) h = refl
@@ -23,11 +24,13 @@ records-size zero h = absurd (omega arith)
 records-size (suc zero) h = absurd (omega arith)
 records-size (suc (suc k)) h = refl
 
+-- as many as a block has records
 pub records-limit : (k : ℕ) → 2 ≤ k → itemLimit k ≡ 14
 records-limit zero h = absurd (omega arith)
 records-limit (suc zero) h = absurd (omega arith)
 records-limit (suc (suc k)) h = refl
 
+-- of one kind
 pub records-kind : (k : ℕ) → 2 ≤ k → kindOfBlock k ≡ 3
 records-kind zero h = absurd (omega arith)
 records-kind (suc zero) h = absurd (omega arith)
@@ -39,16 +42,19 @@ items-room zero n h = omega arith
 items-room (suc zero) n h = omega arith
 items-room (suc (suc k)) n h = omega arith
 
+-- an item has bytes
 pub size-some : (k : ℕ) → 0 < itemSize k
 size-some zero = omega arith
 size-some (suc zero) = omega arith
 size-some (suc (suc k)) = omega arith
 
+-- a kind is a byte
 pub kind-byte : (k : ℕ) → kindOfBlock k < 256
 kind-byte zero = omega arith
 kind-byte (suc zero) = omega arith
 kind-byte (suc (suc k)) = omega arith
 
+-- no block has more than 56 items
 pub limit-byte : (k : ℕ) → itemLimit k ≤ 56
 limit-byte zero = omega arith
 limit-byte (suc zero) = omega arith

@@ -26,21 +26,25 @@ use Rattle.wire.specs.BigEndian.{All, Bytes, zeros, same, valueAfter, field, by
 
 -- ## Lengths
 
+-- 480 bytes before the check
 pub length-body : (k : ℕ) (items : List ℕ) → length items ≤ 448 → length (body k items) ≡ 480
 unfolding body bytesOf
 length-body k items h =
     omega (arith, length-append items (replicate (448 - length items) 0), length-replicate {A = ℕ} (448 - length items) 0)
 
+-- 512 with it
 pub length-block : (k : ℕ) (items : List ℕ) → length items ≤ 448 → length (journalBlock k items) ≡ 512
 unfolding journalBlock
 length-block k items h =
     omega (arith, length-append (body k items) (sha256 (body k items)), length-body k items h, length-sha256 (body k items))
 
 -- what stands from byte 32 on
-pub block-items : (k : ℕ) (items : List ℕ) → drop 32 (journalBlock k items) ≡ items ++ (replicate (448 - length items) 0 ++ sha256 (body k items))
+pub block-items : (k : ℕ) (items : List ℕ)
+    → drop 32 (journalBlock k items) ≡ items ++ (replicate (448 - length items) 0 ++ sha256 (body k items))
 unfolding journalBlock body bytesOf
 block-items k items = append-assoc items (replicate (448 - length items) 0) (sha256 (body k items))
 
+-- a block of bytes is bytes
 pub bytes-block : (k : ℕ) (items : List ℕ) → Bytes items → length items / itemSize k < 256 → Bytes (journalBlock k items)
 unfolding journalBlock body All
 bytes-block k items h l =
@@ -61,20 +65,25 @@ abbrev pub itemBytes : ℕ → List ℕ → List ℕ
 itemBytes k b = take (statedCount b * itemSize k) (drop 32 b)
 
 module _ (b : List ℕ) (k before : ℕ) (y : Bytes b) (r : Right b k before) where
+  -- the facts of its form
   f : FormedBlock b k before
   f = formed-block-facts b k before (r .formed)
 
+  -- the bytes of its items
   n : ℕ
   n = statedCount b * itemSize k
 
+  -- they have room
   n-room : n ≤ 448
   unfolding n
   n-room = items-room k (statedCount b) (f .fits)
 
+  -- they are as many items as it states
   n-count : n / itemSize k ≡ statedCount b
   unfolding n
   n-count = count-back k (statedCount b)
 
+  -- they are all there
   its-length : length (itemBytes k b) ≡ n
   unfolding n
   its-length = length-take-le n (drop 32 b) (omega (arith, length-drop 32 b, r .long, n-room))
@@ -86,7 +95,9 @@ module _ (b : List ℕ) (k before : ℕ) (y : Bytes b) (r : Right b k before) wh
       let l = r .long in
       let kind = one-byte (blockKind b) (subst (λ (x : ℕ). x < 256) (sym (f .kind)) (kind-byte k)) ∙ ap (λ (x : ℕ). x ∷ []) (f .kind) in
       let count = one-byte (statedCount b) (omega (arith, f .fits, limit-byte k)) in
-      let zs = zeros-are (take 26 (drop 6 b)) (f .head) ∙ ap (λ (x : ℕ). replicate x 0) (length-take-le 26 (drop 6 b) (omega (arith, length-drop 6 b))) in
+      let zs =
+      zeros-are (take 26 (drop 6 b)) (f .head)
+      ∙ ap (λ (x : ℕ). replicate x 0) (length-take-le 26 (drop 6 b) (omega (arith, length-drop 6 b))) in
       let rest = sym (take-append-drop 26 (drop 6 b)) ∙ ap₂ (λ (p q : List ℕ). p ++ q) zs (drop-drop 26 6 b) in
       drop-field 0 4 b y (omega arith)
       ∙ ap₂ (λ (x : ℕ) (q : List ℕ). bytesOf 4 x ++ q) (r .numbered)
@@ -107,6 +118,7 @@ module _ (b : List ℕ) (k before : ℕ) (y : Bytes b) (r : Right b k before) wh
       ∙ ap (λ (q : List ℕ). itemBytes k b ++ q) (drop-drop n 32 b ∙ sym (take-append-drop (448 - n) d) ∙ ap₂ (λ (p q : List ℕ). p ++ q) z t)
       ∙ sym (append-assoc (itemBytes k b) (replicate (448 - n) 0) (drop 480 b))
 
+  -- its first 480 bytes
   body-is : take 480 b ≡ body k (itemBytes k b)
   unfolding body
   body-is =
@@ -119,6 +131,7 @@ module _ (b : List ℕ) (k before : ℕ) (y : Bytes b) (r : Right b k before) wh
       ∙ sym (append-assoc (header k (length its / itemSize k)) (its ++ replicate (448 - length its) 0) (drop 480 b)) in
       ap (take 480) e ∙ take-at (body k its) (drop 480 b) 480 (length-body k its (omega (arith, its-length, n-room)))
 
+  -- the block
   pub block-is : b ≡ journalBlock k (itemBytes k b)
   unfolding journalBlock checked
   block-is =
@@ -130,39 +143,49 @@ module _ (b : List ℕ) (k before : ℕ) (y : Bytes b) (r : Right b k before) wh
 
 module _ (k before c : ℕ) (items : List ℕ) (low : k ≤ maxBlock) (some : 0 < c) (fits : c ≤ itemLimit k)
     (whole : length items ≡ c * itemSize k) (follows : (leb k 2 || leb recordsPerBlock before) ≡ true) where
+  -- the items have room
   room : length items ≤ 448
   room = subst (λ (m : ℕ). m ≤ 448) (sym whole) (items-room k c fits)
 
+  -- they are c items
   quotient : length items / itemSize k ≡ c
   quotient = ap (λ (m : ℕ). m / itemSize k) whole ∙ count-back k c
 
+  -- the block states c items
   pub count-is : statedCount (journalBlock k items) ≡ c
   unfolding field journalBlock body bytesOf valueAfter
   count-is = omega (arith, quotient)
 
+  -- its number
   number-is : blockNumber (journalBlock k items) ≡ k
   unfolding field journalBlock body bytesOf
   number-is = value-back 4 k (omega (arith, low))
 
+  -- its kind
   kind-is : blockKind (journalBlock k items) ≡ kindOfBlock k
   unfolding field journalBlock body bytesOf valueAfter
   kind-is = omega arith
 
+  -- zeros after the count
   head-zero : zeros (take 26 (drop 6 (journalBlock k items))) ≡ true
   unfolding zeros journalBlock body bytesOf
   head-zero = refl
 
+  -- zeros after the items
   tail-zero : zeros (take (448 - c * itemSize k) (drop (32 + c * itemSize k) (journalBlock k items))) ≡ true
   tail-zero =
       let m : ℕ = c * itemSize k in
       let z : List ℕ = replicate (448 - length items) 0 in
       let e : drop (32 + m) (journalBlock k items) ≡ z ++ sha256 (body k items) =
-      sym (drop-drop m 32 (journalBlock k items)) ∙ ap (drop m) (block-items k items) ∙ drop-at items (z ++ sha256 (body k items)) m whole in
+      sym (drop-drop m 32 (journalBlock k items))
+      ∙ ap (drop m) (block-items k items)
+      ∙ drop-at items (z ++ sha256 (body k items)) m whole in
       let l : length z ≡ 448 - m = length-replicate {A = ℕ} (448 - length items) 0 ∙ ap (λ (x : ℕ). 448 - x) whole in
       ap (λ (q : List ℕ). zeros (take (448 - m) q)) e
       ∙ ap zeros (take-at z (sha256 (body k items)) (448 - m) l)
       ∙ zeros-replicate (448 - length items)
 
+  -- its check
   check-is : checked (journalBlock k items) ≡ true
   unfolding checked journalBlock
   check-is =
@@ -170,6 +193,7 @@ module _ (k before c : ℕ) (items : List ℕ) (low : k ≤ maxBlock) (some : 0 
       let l = length-body k items room in
       ap₂ same (ap sha256 (take-at p (sha256 p) 480 l)) (drop-at p (sha256 p) 480 l) ∙ same-self (sha256 p)
 
+  -- the judging call passes it
   pub block-right : blockRefusal (journalBlock k items) k before ≡ 0
   block-right =
       let b : List ℕ = journalBlock k items in
@@ -191,6 +215,7 @@ module _ (k before c : ℕ) (items : List ℕ) (low : k ≤ maxBlock) (some : 0 
             });
       })
 
+  -- the writer's call allows it
   pub block-allowed : (out : List ℕ) → length out ≡ 512
       → (writeRefusal (length out) k (kindOfBlock k) (length items) ≡ 0) × (written out k (kindOfBlock k) items ≡ journalBlock k items)
   unfolding written

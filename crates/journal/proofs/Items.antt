@@ -17,11 +17,13 @@ use Rattle.wire.specs.BigEndian.{All, Bytes, value, field, bytesOf}
 
 -- ## Lists one after the other
 
+-- one more at the end
 joined-snoc : {A : Type 0} (xs : List (List A)) (x : List A) → joined (xs ++ x ∷ []) ≡ joined xs ++ x
 unfolding joined
 joined-snoc [] x = append-nil x
 joined-snoc (y ∷ ys) x = ap (λ (t : List _). y ++ t) (joined-snoc ys x) ∙ sym (append-assoc y (joined ys) x)
 
+-- lists joined and joined
 pub joined-append : {A : Type 0} (xs ys : List (List A)) → joined (xs ++ ys) ≡ joined xs ++ joined ys
 unfolding joined
 joined-append [] ys = refl
@@ -38,16 +40,19 @@ same-heads n x y p q lx ly e =
 abbrev pub Wide : ℕ → List ℕ → Type 0
 Wide n x = length x ≡ n
 
+-- records of bytes have 32 each
 pub all-long : (rs : List (List ℕ)) → All RecordBytes rs → All (Wide 32) rs
 unfolding All
 all-long [] h = tt
 all-long (r ∷ rs) h = (h .0 .long, all-long rs (h .1))
 
+-- and 32 each in a row
 pub length-joined : (rs : List (List ℕ)) → All (Wide 32) rs → length (joined rs) ≡ length rs * 32
 unfolding joined All
 length-joined [] h = refl
 length-joined (r ∷ rs) h = omega (arith, length-append r (joined rs), h .0, length-joined rs (h .1))
 
+-- in a row they are bytes
 pub bytes-joined : (rs : List (List ℕ)) → All RecordBytes rs → Bytes (joined rs)
 unfolding joined All
 bytes-joined [] h = tt
@@ -71,10 +76,12 @@ records-joined (suc n) b =
     let z : suc n * 32 ≡ n * 32 + 32 = omega arith in
     let w : 32 + n * 32 ≡ 32 + 32 * n = omega arith in
     joined-snoc (recordsIn n b) (take 32 (drop (32 + 32 * n) b))
-    ∙ ap₂ (λ (x y : List ℕ). x ++ y) (records-joined n b) (ap (λ (m : ℕ). take 32 (drop m b)) (sym w) ∙ ap (take 32) (sym (drop-drop (n * 32) 32 b)))
+    ∙ ap₂ (λ (x y : List ℕ). x ++ y) (records-joined n b)
+    (ap (λ (m : ℕ). take 32 (drop m b)) (sym w) ∙ ap (take 32) (sym (drop-drop (n * 32) 32 b)))
     ∙ sym (take-add (n * 32) 32 (drop 32 b))
     ∙ ap (λ (m : ℕ). take m (drop 32 b)) (sym z)
 
+-- the first n records of a block are records of bytes
 pub records-whole : (n : ℕ) (b : List ℕ) → Bytes b → 32 + n * 32 ≤ length b → All RecordBytes (recordsIn n b)
 unfolding recordsIn recordPart All
 records-whole zero b y h = tt
@@ -105,23 +112,29 @@ record-at (suc n) b place h = go (ltb place n) refl (record-at n b place)
 
 -- ## Opening balances
 
+-- a number of 8 bytes
 abbrev pub Fit : ℕ → Type 0
 Fit x = x < 2 ^ 64
 
+-- 8 bytes a balance
 pub length-balance-bytes : (xs : List ℕ) → length (balanceBytes xs) ≡ length xs * 8
 unfolding balanceBytes
 length-balance-bytes [] = refl
 length-balance-bytes (x ∷ xs) = omega (arith, length-append (bytesOf 8 x) (balanceBytes xs), length-bytesOf 8 x, length-balance-bytes xs)
 
+-- they are bytes
 pub bytes-balances : (xs : List ℕ) → Bytes (balanceBytes xs)
 unfolding balanceBytes All
 bytes-balances [] = tt
 bytes-balances (x ∷ xs) = bytes-append (bytesOf 8 x) (balanceBytes xs) (bytes-bytesOf 8 x) (bytes-balances xs)
 
+-- one more balance at the end
 balance-snoc : (xs : List ℕ) (x : ℕ) → balanceBytes (xs ++ x ∷ []) ≡ balanceBytes xs ++ bytesOf 8 x
 unfolding balanceBytes
 balance-snoc [] x = append-nil (bytesOf 8 x)
-balance-snoc (y ∷ ys) x = ap (λ (t : List ℕ). bytesOf 8 y ++ t) (balance-snoc ys x) ∙ sym (append-assoc (bytesOf 8 y) (balanceBytes ys) (bytesOf 8 x))
+balance-snoc (y ∷ ys) x =
+    ap (λ (t : List ℕ). bytesOf 8 y ++ t) (balance-snoc ys x)
+    ∙ sym (append-assoc (bytesOf 8 y) (balanceBytes ys) (bytesOf 8 x))
 
 -- balances of 8 bytes are told apart by their bytes in a row
 pub balances-only : (xs ys : List ℕ) → All Fit xs → All Fit ys → balanceBytes xs ≡ balanceBytes ys → xs ≡ ys
@@ -147,8 +160,10 @@ balances-joined (suc n) b y h =
     ∙ sym (take-add (n * 8) 8 (drop 32 b))
     ∙ ap (λ (m : ℕ). take m (drop 32 b)) (sym z)
 
+-- the first n opening balances of a block are numbers of 8 bytes
 pub balances-fit : (n : ℕ) (b : List ℕ) → Bytes b → 32 + n * 8 ≤ length b → All Fit (balancesIn n b)
 unfolding balancesIn All
 balances-fit zero b y h = tt
 balances-fit (suc n) b y h =
-    all-append Fit (balancesIn n b) (field (32 + 8 * n) 8 b ∷ []) (balances-fit n b y (omega arith)) (field-fits (32 + 8 * n) 8 b y (omega arith), tt)
+    all-append Fit (balancesIn n b) (field (32 + 8 * n) 8 b ∷ []) (balances-fit n b y (omega arith))
+    (field-fits (32 + 8 * n) 8 b y (omega arith), tt)

@@ -17,8 +17,11 @@ use Rattle.journal_reader.proofs.Judging.{right-facts}
 use Rattle.journal_reader.specs.Judged.{blockRefusal, placeRefusal, recordRefusal, balancesRefusal, partOf, countOf, openingOf}
 use Rattle.journal_writer.specs.Written.{body, journalBlock, writeRefusal, written}
 use Rattle.journal.proofs.Blocks.{block-items, bytes-block, itemBytes, block-is, count-is, block-right, block-allowed}
-use Rattle.journal.proofs.Items.{Wide, all-long, length-joined, bytes-joined, joined-only, records-joined, records-whole, record-at, length-balance-bytes, bytes-balances, balances-only, balances-joined, balances-fit}
-use Rattle.journal.specs.Journal.{IsOpening, RecordBytes, recordLimit, Within, joined, balanceBytes, blockCount, groups, itemsOf, numbered, journalOf, AllPass, allRecords, Reads, ReadsBack, WrittenReads, ReadsOnce, CallsRead, AllAllowed, BlocksWritten}
+use Rattle.journal.proofs.Items.{Wide, all-long, length-joined, bytes-joined, joined-only, records-joined, records-whole}
+use Rattle.journal.proofs.Items.{record-at, length-balance-bytes, bytes-balances, balances-only, balances-joined, balances-fit}
+use Rattle.journal.specs.Journal.{IsOpening, RecordBytes, recordLimit, Within, joined, balanceBytes, blockCount, groups, itemsOf}
+use Rattle.journal.specs.Journal.{numbered, journalOf, AllPass, allRecords, Reads, ReadsBack, WrittenReads, ReadsOnce, CallsRead}
+use Rattle.journal.specs.Journal.{AllAllowed, BlocksWritten}
 use Rattle.sha256_core.specs.Sha256.{sha256}
 use Rattle.wire.proofs.Lists.{all-append, all-take, all-drop, all-split}
 use Rattle.wire.specs.BigEndian.{All, Bytes}
@@ -30,6 +33,7 @@ pub record OpeningBlock (b : List ℕ) (k : ℕ) : Type 0 where
   pub is : b ≡ journalBlock k (balanceBytes (balancesOf b))
   pub opening : IsOpening (balancesOf b)
 
+-- from the bytes
 opening-back : (b : List ℕ) (k before : ℕ) → k < 2 → Bytes b → blockRefusal b k before ≡ 0 → OpeningBlock b k
 opening-back b k before l y h =
     let r = right-facts b k before h in
@@ -57,6 +61,7 @@ pub record OpeningWritten (xs : List ℕ) (k before : ℕ) : Type 0 where
       → (writeRefusal (length out) k (kindOfBlock k) (length (balanceBytes xs)) ≡ 0)
       × (written out k (kindOfBlock k) (balanceBytes xs) ≡ journalBlock k (balanceBytes xs))
 
+-- from the balances
 opening-forth : (xs : List ℕ) (k before : ℕ) → k < 2 → IsOpening xs → OpeningWritten xs k before
 opening-forth xs k before l o =
     let c : ℕ = length xs in
@@ -94,6 +99,7 @@ pub record RecordBlock (b : List ℕ) (k : ℕ) : Type 0 where
   pub most : statedCount b ≤ 14
   pub low : k ≤ maxBlock
 
+-- from its bytes
 record-back : (b : List ℕ) (k before : ℕ) → 2 ≤ k → Bytes b → blockRefusal b k before ≡ 0 → RecordBlock b k
 record-back b k before l y h =
     let r = right-facts b k before h in
@@ -137,6 +143,7 @@ cut-14 xs ys l h = go (ltb (length xs) 14) refl
         let g : length xs ≡ 14 = omega arith in
         (take-at xs ys 14 g, drop-at xs ys 14 g)
 
+-- the blocks that records need, with those of one block more
 count-14 : (x y : ℕ) → 0 < x → x ≤ 14 → (x < 14 → y ≡ 0) → (x + y + 13) / 14 ≡ suc ((y + 13) / 14)
 count-14 x y p q h = go (ltb x 14) refl
   where
@@ -150,6 +157,7 @@ pub record RecordBlocks (bs : List (List ℕ)) (k : ℕ) : Type 0 where
   pub limit : length (allRecords bs) ≤ 14 * (65536 - k)
   pub are : bs ≡ numbered k (groups (blockCount (allRecords bs)) (allRecords bs))
 
+-- from the bytes of the blocks
 records-back : (k before : ℕ) (bs : List (List ℕ)) → 2 ≤ k → All Bytes bs → AllPass k before bs → RecordBlocks bs k
 unfolding AllPass allRecords groups numbered All
 records-back k before [] l y h = record { whole = tt; limit = omega arith; are = refl }
@@ -177,6 +185,7 @@ records-back k before (b ∷ bs) l y h =
 
 -- ## Blocks of records, from the records
 
+-- a block may follow where the one before has 14 records or the number is low
 follows-by : (k before : ℕ) → (2 < k → 14 ≤ before) → (leb k 2 || leb recordsPerBlock before) ≡ true
 follows-by k before h = go (leb k 2) refl
   where
@@ -190,6 +199,7 @@ pub record RecordsWritten (records : List (List ℕ)) (n k before : ℕ) : Type 
   pub read : allRecords (numbered k (groups n records)) ≡ records
   pub allow : AllAllowed k (groups n records)
 
+-- from the records
 records-forth : (n k before : ℕ) (rs : List (List ℕ)) → 2 ≤ k → k + n ≤ 65536 → All RecordBytes rs → n ≡ blockCount rs
     → (2 < k → 0 < n → 14 ≤ before) → RecordsWritten rs n k before
 unfolding AllPass allRecords groups numbered AllAllowed
@@ -223,7 +233,8 @@ records-forth (suc n) k before rs l u w e f =
     ∙ ap₂ (λ (m : ℕ) (t : List ℕ). take (m * 32) t) ci (block-items k items)
     ∙ take-at items (replicate (448 - length items) 0 ++ sha256 (body k items)) (c * 32) long in
     let reads : recordsOf b ≡ xs =
-    joined-only 32 (omega arith) (recordsOf b) xs (all-long (recordsOf b) (records-whole (statedCount b) b y room)) (all-long xs wx) joins in
+    joined-only 32 (omega arith) (recordsOf b) xs
+    (all-long (recordsOf b) (records-whole (statedCount b) b y room)) (all-long xs wx) joins in
     let later =
     records-forth n (suc k) (statedCount b) ys (omega arith) (omega arith) (all-drop RecordBytes 14 rs w) (omega (arith, ly))
     (λ g p. omega (arith, ci, lx)) in
@@ -235,12 +246,15 @@ records-forth (suc n) k before rs l u w e f =
 
 -- ## The theorem
 
+-- the record blocks of a journal
 within-written : (home far : List ℕ) (records : List (List ℕ)) → (w : Within home far records)
     → RecordsWritten records (blockCount records) 2 (statedCount (journalBlock 1 (balanceBytes far)))
 within-written home far records w =
-    records-forth (blockCount records) 2 (statedCount (journalBlock 1 (balanceBytes far))) records (omega arith) (omega (arith, w .limit)) (w .whole) refl
+    records-forth (blockCount records) 2 (statedCount (journalBlock 1 (balanceBytes far))) records (omega arith)
+    (omega (arith, w .limit)) (w .whole) refl
     (λ p q. absurd (omega arith))
 
+-- a written journal reads
 pub written-reads : WrittenReads
 unfolding WrittenReads journalOf itemsOf numbered AllPass
 written-reads home far records w =
@@ -258,11 +272,13 @@ written-reads home far records w =
       record-list = r .read;
     }
 
+-- blocks in a row of bytes are bytes
 all-bytes : (bs : List (List ℕ)) → Bytes (joined bs) → All Bytes bs
 unfolding joined All
 all-bytes [] h = tt
 all-bytes (b ∷ bs) h = let s = all-split (λ (x : ℕ). x < 256) b (joined bs) h in (s .0, all-bytes bs (s .1))
 
+-- what reads is the written journal
 read-written : (home far : List ℕ) (records : List (List ℕ)) (j : List ℕ) → Bytes j → Reads j home far records
     → Within home far records × (j ≡ journalOf home far records)
 unfolding journalOf itemsOf numbered AllPass All
@@ -286,6 +302,7 @@ read-written home far records j y r =
           ∷ numbered 2 (groups (blockCount (e i)) (e i)))),
     )
 
+-- the journal theorem
 pub reads-back : ReadsBack
 unfolding ReadsBack WrittenReads
 reads-back home far records j y = (
@@ -293,6 +310,7 @@ reads-back home far records j y = (
   λ h. subst (λ (x : List ℕ). Reads x home far records) (sym (h .1)) (written-reads home far records (h .0)),
 )
 
+-- what each block of a written journal is to the calls
 pub blocks-written : BlocksWritten
 unfolding BlocksWritten itemsOf numbered AllPass AllAllowed
 blocks-written home far records w =
@@ -307,12 +325,14 @@ unfolding AllPass All
 all-512 k before [] h = tt
 all-512 k before (b ∷ bs) h = (right-facts b k before (h .0) .long, all-512 (suc k) (statedCount b) bs (h .1))
 
+-- what reads does so in one way
 pub reads-once : ReadsOnce
 unfolding ReadsOnce
 reads-once j home far records home′ far′ records′ r s =
     let xs : List (List ℕ) = r .first ∷ r .second ∷ r .others in
     let ys : List (List ℕ) = s .first ∷ s .second ∷ s .others in
-    let e : xs ≡ ys = joined-only 512 (omega arith) xs ys (all-512 0 0 xs (r .right)) (all-512 0 0 ys (s .right)) (sym (r .whole) ∙ s .whole) in
+    let e : xs ≡ ys =
+    joined-only 512 (omega arith) xs ys (all-512 0 0 xs (r .right)) (all-512 0 0 ys (s .right)) (sym (r .whole) ∙ s .whole) in
     let f : r .first ≡ s .first = cc in
     let g : r .second ≡ s .second = cc in
     let o : r .others ≡ s .others = cc in (
@@ -323,6 +343,7 @@ reads-once j home far records home′ far′ records′ r s =
 
 -- ## The calls
 
+-- what the calls hand out of a block
 pub calls-read : CallsRead
 unfolding CallsRead countOf openingOf partOf recordRefusal placeRefusal balancesRefusal
 calls-read b k before h =

@@ -124,6 +124,7 @@ pub record HandedOut (b : List ℕ) (k before : ℕ) : Type 0 where
   pub lists : k < 2 → take (statedCount b) (balanceTable b) ≡ balancesOf b
   pub parts : 2 ≤ k → (place : ℕ) → place < statedCount b → partOf b k before place ≡ getD (recordsOf b) place []
 
+-- so it is for every block that passes
 unfoldable pub CallsRead : Type 0
 CallsRead = (b : List ℕ) (k before : ℕ) → blockRefusal b k before ≡ 0 → HandedOut b k before
 

@@ -14,6 +14,7 @@ use Rattle.block_format.proofs.Sizes.{records-limit, limit-byte}
 use Rattle.block_format.specs.Blocks.{maxBlock, blockNumber, statedCount, blockFormed}
 use Rattle.journal_reader.specs.Judged.{checked, blockRefusal, placeRefusal, recordRefusal, balancesRefusal}
 
+-- the facts, one for each test
 pub record Right (b : List ℕ) (k before : ℕ) : Type 0 where
   pub long : length b ≡ 512
   pub low : k ≤ maxBlock
@@ -21,6 +22,7 @@ pub record Right (b : List ℕ) (k before : ℕ) : Type 0 where
   pub numbered : blockNumber b ≡ k
   pub formed : blockFormed b k before ≡ true
 
+-- from the refusal to the facts
 pub right-facts : (b : List ℕ) (k before : ℕ) → blockRefusal b k before ≡ 0 → Right b k before
 unfolding blockRefusal
 right-facts b k before h =
@@ -37,6 +39,7 @@ right-facts b k before h =
       formed = not-false _ (h5 .0);
     }
 
+-- and back
 pub not-refused : (b : List ℕ) (k before : ℕ) → Right b k before → blockRefusal b k before ≡ 0
 unfolding blockRefusal
 not-refused b k before r =
@@ -57,6 +60,7 @@ pub record Placed (b : List ℕ) (place : ℕ) : Type 0 where
   pub long : length b ≡ 512
   pub low : place < 14
 
+-- from the refusal
 pub placed : (b : List ℕ) (k before place : ℕ) → recordRefusal b k before place ≡ 0 → Placed b place
 unfolding recordRefusal placeRefusal
 placed b k before place h =
@@ -72,6 +76,7 @@ pub record Opened (b : List ℕ) : Type 0 where
   pub long : length b ≡ 512
   pub most : statedCount b ≤ 56
 
+-- from the refusal
 pub opened : (b : List ℕ) (k before : ℕ) → balancesRefusal b k before ≡ 0 → Opened b
 unfolding balancesRefusal
 opened b k before h =

@@ -10,6 +10,7 @@ use Rattle.block_format.specs.Blocks.{maxBlock, kindOfBlock, itemSize, itemLimi
 use Rattle.journal_writer.specs.Written.{allowed, writeRefusal}
 use Rattle.wire.proofs.Lists.{every-none, every-first, every-both}
 
+-- the facts, one for each test
 pub record Allowed (o k kind n : ℕ) : Type 0 where
   pub long : o ≡ 512
   pub low : k ≤ maxBlock
@@ -18,6 +19,7 @@ pub record Allowed (o k kind n : ℕ) : Type 0 where
   pub some : 0 < n / itemSize k
   pub fits : n / itemSize k ≤ itemLimit k
 
+-- from the tests to the facts
 pub allowed-facts : (o k kind n : ℕ) → allowed o k kind n ≡ true → Allowed o k kind n
 unfolding allowed
 allowed-facts o k kind n h =
@@ -36,6 +38,7 @@ allowed-facts o k kind n h =
       fits = leb-true _ _ (h6 .0);
     }
 
+-- and back
 pub facts-allowed : (o k kind n : ℕ) → Allowed o k kind n → allowed o k kind n ≡ true
 unfolding allowed
 facts-allowed o k kind n a =
@@ -57,6 +60,7 @@ pub allowed-answer : (o k kind n : ℕ) → allowed o k kind n ≡ true → writ
 unfolding writeRefusal
 allowed-answer o k kind n h = rw h
 
+-- and 4 where it is not
 pub refused-answer : (o k kind n : ℕ) → allowed o k kind n ≡ false → writeRefusal o k kind n ≡ 4
 unfolding writeRefusal
 refused-answer o k kind n h = rw h

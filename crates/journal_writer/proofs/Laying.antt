@@ -27,18 +27,23 @@ sealed o d x lo ld e =
 module _ (o h t x1 x2 x3 : List ℕ) (lo : length o ≡ 512) (lh : length h ≡ 32) (lt : length t ≤ 448)
     (e1 : x1 ≡ take (length h) h ++ drop (length h) o)
     (e2 : x2 ≡ take (length t) t ++ drop (length t) (take (length x1 - 32) (drop 32 x1))) where
+  -- the output after the header
   x1-is : x1 ≡ h ++ drop (length h) o
   x1-is = e1 ∙ ap (λ (y : List ℕ). y ++ drop (length h) o) (take-length h)
 
+  -- its first 32 bytes
   x1-head : take 32 x1 ≡ h
   x1-head = ap (take 32) x1-is ∙ take-at h (drop (length h) o) 32 lh
 
+  -- the output after the items
   abbrev o2 : List ℕ
   o2 = putMid 32 (length x1 - 32) x1 x2
 
+  -- what stands after them
   rest : List ℕ
   rest = drop (length t) (take (length x1 - 32) (drop 32 x1)) ++ drop (length x1 - 32) (drop 32 x1)
 
+  -- header, items and that
   o2-is : o2 ≡ (h ++ t) ++ rest
   unfolding rest
   o2-is =
@@ -46,13 +51,16 @@ module _ (o h t x1 x2 x3 : List ℕ) (lo : length o ≡ 512) (lh : length h ≡ 
       (e2 ∙ ap (λ (y : List ℕ). y ++ drop (length t) (take (length x1 - 32) (drop 32 x1))) (take-length t))
       ∙ simp append-assoc
 
+  -- its beginning
   o2-head : take (32 + length t) o2 ≡ h ++ t
   o2-head =
       ap (take (32 + length t)) o2-is ∙ take-at (h ++ t) rest (32 + length t) (omega (arith, length-append h t))
 
+  -- 512 bytes still
   x1-length : length x1 ≡ 512
   x1-length = omega (arith, ap length x1-is, length-append h (drop (length h) o), length-drop (length h) o)
 
+  -- and still
   o2-length : length o2 ≡ 512
   o2-length =
       let p : List ℕ = drop 32 x1 in
@@ -61,7 +69,13 @@ module _ (o h t x1 x2 x3 : List ℕ) (lo : length o ≡ 512) (lh : length h ≡ 
       let lp : length p ≡ 480 = omega (arith, length-drop 32 x1, x1-length) in
       let lm : length m ≡ 480 = omega (arith, length-take (length x1 - 32) p, x1-length) in
       let l2 : length x2 ≡ 480 =
-      omega (arith, ap length e2, length-append (take (length t) t) (drop (length t) m), length-take (length t) t, length-drop (length t) m) in
+      omega (
+        arith,
+        ap length e2,
+        length-append (take (length t) t) (drop (length t) m),
+        length-take (length t) t,
+        length-drop (length t) m,
+      ) in
       omega (
         arith,
         length-append (take 32 x1) (x2 ++ post),
@@ -71,6 +85,7 @@ module _ (o h t x1 x2 x3 : List ℕ) (lo : length o ≡ 512) (lh : length h ≡ 
         x1-length,
       )
 
+  -- the first 480 bytes after the zeros
   pub laid : x3 ≡ replicate (length (take (480 - (32 + length t)) (drop (32 + length t) o2))) 0
       → take 480 (putMid (32 + length t) (480 - (32 + length t)) o2 x3) ≡ h ++ (t ++ replicate (448 - length t) 0)
   laid e3 =
@@ -79,7 +94,12 @@ module _ (o h t x1 x2 x3 : List ℕ) (lo : length o ≡ 512) (lh : length h ≡ 
       omega (arith, length-take (480 - n) (drop n o2), length-drop n o2, o2-length) in
       let z : x3 ≡ replicate (448 - length t) 0 = e3 ∙ ap (λ (k : ℕ). replicate k 0) m in
       let l : length ((h ++ t) ++ replicate (448 - length t) 0) ≡ 480 =
-      omega (arith, length-append (h ++ t) (replicate (448 - length t) 0), length-append h t, length-replicate {A = ℕ} (448 - length t) 0) in
+      omega (
+        arith,
+        length-append (h ++ t) (replicate (448 - length t) 0),
+        length-append h t,
+        length-replicate {A = ℕ} (448 - length t) 0,
+      ) in
       let post : List ℕ = drop (480 - n) (drop n o2) in
       ap₂ (λ (y w : List ℕ). take 480 (y ++ (w ++ post))) o2-head z
       ∙ ap (take 480) (sym (append-assoc (h ++ t) (replicate (448 - length t) 0) post))

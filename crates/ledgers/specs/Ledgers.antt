@@ -48,6 +48,7 @@ senderLedger (Local l) = l
 senderLedger (Sending l) = l
 senderLedger (Receiving l) = counterpart l
 
+-- the receiver's likewise
 abbrev pub receiverLedger : Kind → Ledger
 receiverLedger (Local l) = l
 receiverLedger (Sending l) = counterpart l

@@ -9,7 +9,8 @@ use lib.ListN.{length, drop, drop-of-length-le}
 use Rattle.ledgers.specs.Ledgers.{ledgerByte, ledgerAt, kindByte, kindAt, ledgerOf}
 use Rattle.ledgers.specs.Limits.{maxAmount}
 use Rattle.records.proofs.Formed.{Formed, formed-facts, facts-formed, read-formed, formed-reads}
-use Rattle.records.specs.Records.{Record, Read, recordIn, reading, encoding, Encodable, Readable, ReadsExactly, EncodingReads, EncodedOnce}
+use Rattle.records.specs.Records.{Record, Read, recordIn, reading, encoding, Encodable, Readable, ReadsExactly, EncodingReads}
+use Rattle.records.specs.Records.{EncodedOnce}
 use Rattle.wire.proofs.Numbers.{field-fits, value-back, drop-field}
 use Rattle.wire.specs.BigEndian.{Bytes, valueAfter, field, bytesOf}
 use Rattle.ledgers.specs.declared.Kind.the-variants.{Local, Sending, Receiving}
@@ -28,6 +29,7 @@ kind-byte (suc (suc zero)) l p q = refl
 kind-byte (suc (suc (suc zero))) l p q = refl
 kind-byte (suc (suc (suc (suc k)))) l p q = absurd (omega arith)
 
+-- the ledger of a kind is the one it was made with
 pub kind-ledger : (k : ℕ) (l : Ledger) → ledgerOf (kindAt k l) ≡ l
 kind-ledger k l = go (eqb k 1) (eqb k 2)
   where
@@ -36,12 +38,14 @@ kind-ledger k l = go (eqb k 1) (eqb k 2)
     go false true = refl
     go false false = refl
 
+-- the ledger byte
 ledger-byte : (n : ℕ) → n ≤ 1 → bytesOf 1 n ≡ ledgerByte (ledgerAt n) ∷ []
 unfolding bytesOf
 ledger-byte zero h = refl
 ledger-byte (suc zero) h = refl
 ledger-byte (suc (suc n)) h = absurd (omega arith)
 
+-- the verdict byte
 verdict-byte : (n : ℕ) → n ≤ 1 → bytesOf 1 n ≡ cond (eqb n 1) 1 0 ∷ []
 unfolding bytesOf
 verdict-byte zero h = refl
@@ -49,6 +53,7 @@ verdict-byte (suc zero) h = refl
 verdict-byte (suc (suc n)) h = absurd (omega arith)
 
 module _ (b : List ℕ) (y : Bytes b) (f : Formed b) where
+  -- one field more
   next : (i n : ℕ) → i + n ≤ length b → {t : List ℕ} → drop (i + n) b ≡ t → drop i b ≡ bytesOf n (field i n b) ++ t
   next i n h {t} e = drop-field i n b y h ∙ ap (λ (q : List ℕ). bytesOf n (field i n b) ++ q) e
 
@@ -77,6 +82,7 @@ module _ (b : List ℕ) (y : Bytes b) (f : Formed b) where
       (next 24 1 (omega arith)
       (next 25 7 (omega arith) (drop-of-length-le b {i = 32} (omega arith))))))))))
 
+  -- they are the encoding of the record in them
   pub formed-encoded : b ≡ encoding (recordIn b)
   unfolding encoding recordIn bytesOf
   formed-encoded =
@@ -91,6 +97,7 @@ module _ (b : List ℕ) (y : Bytes b) (f : Formed b) where
       k i ++ (o i ++ (bytesOf 2 (field 2 2 b) ++ (bytesOf 2 (field 4 2 b) ++ (z i
       ++ (bytesOf 8 (field 8 8 b) ++ (bytesOf 8 (field 16 8 b) ++ (v i ++ (e i ++ [])))))))))
 
+  -- which can be read
   pub formed-readable : Readable (recordIn b)
   unfolding recordIn
   formed-readable =
@@ -109,6 +116,7 @@ module _ (b : List ℕ) (y : Bytes b) (f : Formed b) where
 
 -- ## From the record
 
+-- a kind reads back from its bytes
 kind-back : (k : Kind) → kindAt (kindByte k) (ledgerAt (ledgerByte (ledgerOf k))) ≡ k
 kind-back (Local Home) = refl
 kind-back (Local Far) = refl
@@ -117,60 +125,74 @@ kind-back (Sending Far) = refl
 kind-back (Receiving Home) = refl
 kind-back (Receiving Far) = refl
 
+-- a kind byte is 1, 2 or 3
 kind-bounds : (k : Kind) → (0 < kindByte k) × (kindByte k ≤ 3)
 kind-bounds (Local l) = (omega arith, omega arith)
 kind-bounds (Sending l) = (omega arith, omega arith)
 kind-bounds (Receiving l) = (omega arith, omega arith)
 
+-- a ledger byte is 0 or 1
 ledger-bound : (l : Ledger) → ledgerByte l ≤ 1
 ledger-bound Home = omega arith
 ledger-bound Far = omega arith
 
+-- a verdict reads back from its byte
 verdict-back : (t : Bool) → (eqb (cond t 1 0) 1 ≡ t) × (cond t 1 0 ≤ 1)
 verdict-back true = (refl, omega arith)
 verdict-back false = (refl, omega arith)
 
 module _ (r : Record) (g : Encodable r) where
+  -- the fields of an encoding, one by one
   f-length : length (encoding r) ≡ 32
   unfolding encoding bytesOf
   f-length = refl
 
+  -- byte 0
   f-kind : field 0 1 (encoding r) ≡ kindByte (r .kind)
   unfolding field encoding bytesOf valueAfter
   f-kind = omega arith
 
+  -- byte 1
   f-ledger : field 1 1 (encoding r) ≡ ledgerByte (ledgerOf (r .kind))
   unfolding field encoding bytesOf valueAfter
   f-ledger = omega arith
 
+  -- bytes 2-3
   f-sender : field 2 2 (encoding r) ≡ r .sender
   unfolding field encoding bytesOf
   f-sender = value-back 2 (r .sender) (g .sender-fits)
 
+  -- bytes 4-5
   f-receiver : field 4 2 (encoding r) ≡ r .receiver
   unfolding field encoding bytesOf
   f-receiver = value-back 2 (r .receiver) (g .receiver-fits)
 
+  -- bytes 6-7
   f-first : field 6 2 (encoding r) ≡ 0
   unfolding field encoding bytesOf valueAfter
   f-first = refl
 
+  -- bytes 8-15
   f-number : field 8 8 (encoding r) ≡ r .number
   unfolding field encoding bytesOf
   f-number = value-back 8 (r .number) (g .number-fits)
 
+  -- bytes 16-23
   f-amount : field 16 8 (encoding r) ≡ r .amount
   unfolding field encoding bytesOf
   f-amount = value-back 8 (r .amount) (g .amount-fits)
 
+  -- byte 24
   f-verdict : field 24 1 (encoding r) ≡ cond (r .verified) 1 0
   unfolding field encoding bytesOf valueAfter
   f-verdict = omega arith
 
+  -- bytes 25-31
   f-last : field 25 7 (encoding r) ≡ 0
   unfolding field encoding bytesOf valueAfter
   f-last = refl
 
+  -- the record in the encoding
   pub encoding-holds : recordIn (encoding r) ≡ r
   unfolding recordIn
   encoding-holds =
@@ -178,6 +200,7 @@ module _ (r : Record) (g : Encodable r) where
       let v = ap (λ (x : ℕ). eqb x 1) f-verdict ∙ verdict-back (r .verified) .0 in
       λ i. record { kind = k i; sender = f-sender i; receiver = f-receiver i; number = f-number i; amount = f-amount i; verified = v i }
 
+  -- refusal 21 has nothing against it
   pub encoding-formed : 0 < r .amount → r .amount ≤ maxAmount → Formed (encoding r)
   encoding-formed some most =
       record {
@@ -194,16 +217,19 @@ module _ (r : Record) (g : Encodable r) where
 
 -- ## The theorem
 
+-- encoding reads back
 pub encoding-reads : EncodingReads
 unfolding EncodingReads
 encoding-reads r g =
     let f = encoding-formed r (g .fits) (g .amount-some) (g .amount-most) in
     formed-reads (encoding r) (facts-formed (encoding r) f) ∙ ap Read (encoding-holds r (g .fits))
 
+-- no two records share their bytes
 pub encoded-once : EncodedOnce
 unfolding EncodedOnce
 encoded-once r q g h e = sym (encoding-holds r g) ∙ ap recordIn e ∙ encoding-holds q h
 
+-- bytes read exactly when they are an encoding
 pub reads-exactly : ReadsExactly
 unfolding ReadsExactly EncodingReads
 reads-exactly b y r = (there, back)

@@ -10,6 +10,7 @@ use Rattle.records.specs.Records.{Record, Read, Unreadable, formed, reco
 use Rattle.wire.proofs.Lists.{every-none, every-first, every-both}
 use Rattle.wire.specs.BigEndian.{field}
 
+-- the facts, one for each test
 pub record Formed (b : List ℕ) : Type 0 where
   pub long : length b ≡ 32
   pub kind-some : 0 < field 0 1 b
@@ -21,6 +22,7 @@ pub record Formed (b : List ℕ) : Type 0 where
   pub verdict-most : field 24 1 b ≤ 1
   pub zeros-last : field 25 7 b ≡ 0
 
+-- from the tests to the facts
 pub formed-facts : (b : List ℕ) → formed b ≡ true → Formed b
 unfolding formed
 formed-facts b h =
@@ -45,6 +47,7 @@ formed-facts b h =
       zeros-last = eqb-true _ _ (h9 .0);
     }
 
+-- and back
 pub facts-formed : (b : List ℕ) → Formed b → formed b ≡ true
 unfolding formed
 facts-formed b f =
@@ -68,6 +71,7 @@ read-formed b r h = go (formed b) refl
     go true q = let k : Read (recordIn b) ≡ Read r = rw q at h in (q, cc)
     go false q = let k : Unreadable ≡ Read r = rw q at h in (cc, cc)
 
+-- such bytes read as the record in them
 pub formed-reads : (b : List ℕ) → formed b ≡ true → reading b ≡ Read (recordIn b)
 unfolding reading
 formed-reads b h = rw h

@@ -15,8 +15,8 @@ pub use Rattle.records.specs.declared.Reading.the-variants.{Read, Unread
 
 -- ## Reading
 
--- what refusal 21 asks of bytes (all 2^64 numbers of transfers are right, 0 too): 32 of them; kind, ledger, verdict and zero bytes right; an amount that is not 0 and not
--- above 2^63-1
+-- what refusal 21 asks of bytes: 32 of them; kind, ledger, verdict and zero bytes right; an amount that is not 0 and not
+-- above 2^63-1. All 2^64 numbers of transfers are right, 0 too
 unfoldable pub formed : List ℕ → Bool
 formed b =
     every

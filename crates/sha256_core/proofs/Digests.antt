@@ -17,6 +17,7 @@ length-sha256 m = refl
 next : (x : ℕ) (s : List ℕ) → Bytes s → Bytes (bytesOf 4 x ++ s)
 next x s h = bytes-append (bytesOf 4 x) s (bytes-bytesOf 4 x) h
 
+-- and they are bytes
 pub bytes-sha256 : (m : List ℕ) → Bytes (sha256 m)
 unfolding sha256 hashBytes
 bytes-sha256 m = next _ _ (next _ _ (next _ _ (next _ _ (next _ _ (next _ _ (next _ _ (bytes-bytesOf 4 _)))))))

@@ -32,20 +32,25 @@ Ch x y z = bitXor (bitAnd x y) (bitAnd (2 ^ 32 - 1 - x) z)
 unfoldable pub Maj : ℕ → ℕ → ℕ → ℕ
 Maj x y z = bitXor (bitXor (bitAnd x y) (bitAnd x z)) (bitAnd y z)
 
+-- rotations by 2, 13 and 22
 unfoldable pub Σ₀ : ℕ → ℕ
 Σ₀ x = bitXor (bitXor (ROTR 2 x) (ROTR 13 x)) (ROTR 22 x)
 
+-- rotations by 6, 11 and 25
 unfoldable pub Σ₁ : ℕ → ℕ
 Σ₁ x = bitXor (bitXor (ROTR 6 x) (ROTR 11 x)) (ROTR 25 x)
 
+-- rotations by 7 and 18, and a shift by 3
 unfoldable pub σ₀ : ℕ → ℕ
 σ₀ x = bitXor (bitXor (ROTR 7 x) (ROTR 18 x)) (SHR 3 x)
 
+-- rotations by 17 and 19, and a shift by 10
 unfoldable pub σ₁ : ℕ → ℕ
 σ₁ x = bitXor (bitXor (ROTR 17 x) (ROTR 19 x)) (SHR 10 x)
 
 -- ## 4.2.2: the constants
 
+-- the first 32 bits of the fractions of the cube roots of the first 64 primes
 unfoldable pub K : List ℕ
 K =
     0x428a2f98 ∷ 0x71374491 ∷ 0xb5c0fbcf ∷ 0xe9b5dba5 ∷ 0x3956c25b ∷ 0x59f111f1 ∷ 0x923f82a4 ∷ 0xab1c5ed5 ∷
@@ -68,6 +73,7 @@ zeroCount n = (119 - n % 64) % 64
 unfoldable pub padding : ℕ → List ℕ
 padding n = 0x80 ∷ (replicate (zeroCount n) 0 ++ bytesOf 8 (8 * n % 2 ^ 64))
 
+-- a message with its padding
 unfoldable pub padded : List ℕ → List ℕ
 padded m = m ++ padding (length m)
 
@@ -115,9 +121,11 @@ schedule m (suc n) = schedule m n ++ nextWord (schedule m n) (16 + n) ∷ []
 
 -- ## 6.2.2, steps 2 and 3: the rounds
 
+-- the first sum of a round
 unfoldable pub T₁ : Hash → ℕ → ℕ → ℕ
 T₁ v k w = v .h ⊞ Σ₁ (v .e) ⊞ Ch (v .e) (v .f) (v .g) ⊞ k ⊞ w
 
+-- the second sum of a round
 unfoldable pub T₂ : Hash → ℕ
 T₂ v = Σ₀ (v .a) ⊞ Maj (v .a) (v .b) (v .c)
 
@@ -142,6 +150,7 @@ rounds v w (suc n) = round (rounds v w n) (getD K n 0) (getD w n 0)
 
 -- ## 6.2.2, step 4: the hash value after a block
 
+-- the sums of hash value and working variables, word by word
 unfoldable pub sums : Hash → Hash → Hash
 sums x v =
     record {
@@ -155,6 +164,7 @@ sums x v =
       h = x .h ⊞ v .h;
     }
 
+-- the hash value after a block m
 unfoldable pub compressed : Hash → List ℕ → Hash
 compressed x m = sums x (rounds x (schedule m 48) 64)
 

@@ -80,6 +80,7 @@ module _ {A : Type 0} (P : A → Type 0) where
   all-drop (suc n) [] h = tt
   all-drop (suc n) (x ∷ xs) h = all-drop n xs (h .1)
 
+  -- of each of two lists joined
   pub all-split : (xs ys : List A) → All P (xs ++ ys) → All P xs × All P ys
   unfolding All
   all-split [] ys h = (tt, h)
@@ -92,6 +93,7 @@ module _ {A : Type 0} (P : A → Type 0) where
   all-at d zero (x ∷ xs) p h = h .0
   all-at d (suc i) (x ∷ xs) p h = all-at d i xs p (h .1)
 
+  -- of what holds at every index
   pub all-of : (d : A) (xs : List A) → ((i : ℕ) → P (getD xs i d)) → All P xs
   unfolding All
   all-of d [] h = tt
@@ -137,11 +139,13 @@ zeros-end s i e h = let z : e - i ≡ 0 = omega arith in ap (λ (n : ℕ). zeros
 
 -- ## The same bytes
 
+-- every byte string is the same as itself
 pub same-self : (xs : List ℕ) → same xs xs ≡ true
 unfolding same
 same-self [] = refl
 same-self (x ∷ xs) = rw (eq-eqb x x refl) (same-self xs)
 
+-- those that are the same are equal
 pub same-equal : (xs ys : List ℕ) → same xs ys ≡ true → xs ≡ ys
 unfolding same
 same-equal [] [] h = refl
@@ -153,16 +157,20 @@ same-equal (x ∷ xs) (y ∷ ys) h =
 
 -- the test from index i on, where the bytes there differ, where they do not, and at the end
 module _ (xs ys : List ℕ) (i : ℕ) (h : i < length xs) (k : i < length ys) where
+  -- the test from one byte on
   same-cons : same (drop i xs) (drop i ys) ≡ (eqb (getD xs i 0) (getD ys i 0) && same (drop (i + 1) xs) (drop (i + 1) ys))
   unfolding same
   same-cons = ap₂ same (drop-cons xs i 0 h) (drop-cons ys i 0 k) ∙ rw add-one
 
+  -- where the bytes there differ
   pub same-here : (getD xs i 0 ≡ getD ys i 0 → ⊥) → same (drop i xs) (drop i ys) ≡ false
   same-here n = same-cons ∙ rw (ne-eqb _ _ n)
 
+  -- where they do not
   pub same-on : getD xs i 0 ≡ getD ys i 0 → same (drop i xs) (drop i ys) ≡ same (drop (i + 1) xs) (drop (i + 1) ys)
   same-on e = same-cons ∙ rw (eq-eqb _ _ e)
 
+-- and at the end
 pub same-end : (xs ys : List ℕ) (i : ℕ) → length xs ≤ i → length ys ≤ i → same (drop i xs) (drop i ys) ≡ true
 unfolding same
 same-end xs ys i h k = ap₂ same (drop-of-length-le xs {i = i} h) (drop-of-length-le ys {i = i} k)
@@ -173,5 +181,6 @@ unfolding All
 bytes-zeros zero = tt
 bytes-zeros (suc n) = (omega arith, bytes-zeros n)
 
+-- bytes after bytes are bytes
 pub bytes-append : (xs ys : List ℕ) → Bytes xs → Bytes ys → Bytes (xs ++ ys)
 bytes-append xs ys h k = all-append (λ (x : ℕ). x < 256) xs ys h k

@@ -77,12 +77,15 @@ field-fits i n s b h =
 
 -- the first m of m + n bytes, and the last n
 module _ (i m n : ℕ) (s : List ℕ) (b : Bytes s) (h : i + (m + n) ≤ length s) where
+  -- the last n bytes write a number below 256 ^ n
   low-fits : field (i + m) n s < 256 ^ n
   low-fits = field-fits (i + m) n s b (omega arith)
 
+  -- the number of the first m
   pub field-high : field i (m + n) s / 256 ^ n ≡ field i m s
   field-high = ap (λ (x : ℕ). x / 256 ^ n) (field-split i m n s h) ∙ digits-div (field i m s) low-fits
 
+  -- the number of the last n
   pub field-low : field i (m + n) s % 256 ^ n ≡ field (i + m) n s
   field-low = ap (λ (x : ℕ). x % 256 ^ n) (field-split i m n s h) ∙ digits-mod (field i m s) low-fits
 
@@ -134,7 +137,9 @@ unfolding bytesOf valueAfter All
 bytes-back [] h = refl
 bytes-back (x ∷ xs) h =
     let l : ℕ = length xs in
-    let p : value (x ∷ xs) ≡ x * 256 ^ l + value xs = after-splits (0 * 256 + x) xs ∙ ap (λ (y : ℕ). y * 256 ^ l + value xs) (omega arith) in
+    let p : value (x ∷ xs) ≡ x * 256 ^ l + value xs =
+    after-splits (0 * 256 + x) xs
+    ∙ ap (λ (y : ℕ). y * 256 ^ l + value xs) (omega arith) in
     let q : value (x ∷ xs) / 256 ^ l ≡ x = ap (λ (y : ℕ). y / 256 ^ l) p ∙ digits-div x (value-fits xs (h .1)) in
     ap₂ (λ (y : ℕ) (t : List ℕ). y ∷ t)
     (ap (λ (y : ℕ). y % 256) q ∙ mod-eq-of-lt (h .0))

@@ -18,7 +18,8 @@ wide-requires c κs = search needs
 
 returns-2 : tie.Need-returns-2
 returns-2 c =
-    c .wide .ensures .0 ∙ sym (field-one 5 (c .before .before .before .before .args .block .now) (omega arith))
+    let c4 = c .before .before .before .before in
+    c .wide .ensures .0 ∙ sym (field-one 5 (c4 .args .block .now) (omega arith))
 
 pub stated-count-spec : {M : Type 1} → statement M
 stated-count-spec = tie.close (tie.spec returns shared-slice-read-wide wide-requires returns-2)

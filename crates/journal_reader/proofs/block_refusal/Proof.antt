@@ -53,15 +53,25 @@ first-refusal-requires-3 c κs = search needs
 returns-2 : tie.Need-returns-2
 unfolding blockRefusal
 returns-2 c =
-    let a = c .before .before .before .before .before .before .before .before .before .before .before .before .args in
+    let c3 = c .before .before .before in
+    let c4 = c3 .before in
+    let c5 = c4 .before in
+    let c6 = c5 .before in
+    let c7 = c6 .before in
+    let c8 = c7 .before in
+    let c9 = c8 .before in
+    let c10 = c9 .before in
+    let c12 = c10 .before .before in
+    let a = c12 .args in
     let b = a .block .now in
-    let low = c .before .before .before .before .before .before .before .before .before .refusal-if .ensures in
-    let check = c .before .before .before .before .before .before .before .refusal-if2 .ensures ∙ ap (λ (t : Bool). refuse (not t) 12 0) (c .before .before .before .before .before .before .before .before .is-checked .ensures) in
-    let number = c .before .before .before .before .before .refusal-if3 .ensures ∙ ap (λ (n : ℕ). refuse (not (eqb n (a .k))) 13 0) (c .before .before .before .before .before .before .u32-at .ensures) in
-    let form = c .before .before .before .refusal-if4 .ensures ∙ ap (λ (t : Bool). refuse (not t) 14 0) (c .before .before .before .before .is-block-formed .ensures) in
-    rw (eq-eqb _ _ (c .before .before .before .before .before .before .before .before .before .before .if1 .left))
+    let low = c9 .refusal-if .ensures in
+    let check = c7 .refusal-if2 .ensures ∙ ap (λ (t : Bool). refuse (not t) 12 0) (c8 .is-checked .ensures) in
+    let number = c5 .refusal-if3 .ensures ∙ ap (λ (n : ℕ). refuse (not (eqb n (a .k))) 13 0) (c6 .u32-at .ensures) in
+    let form = c3 .refusal-if4 .ensures ∙ ap (λ (t : Bool). refuse (not t) 14 0) (c4 .is-block-formed .ensures) in
+    rw (eq-eqb _ _ (c10 .if1 .left))
     (c .first-refusal3 .ensures
-    ∙ ap₂ orElse low (c .before .first-refusal2 .ensures ∙ ap₂ orElse check (c .before .before .first-refusal .ensures ∙ ap₂ orElse number form))
+    ∙ ap₂ orElse low
+    (c .before .first-refusal2 .ensures ∙ ap₂ orElse check (c .before .before .first-refusal .ensures ∙ ap₂ orElse number form))
     ∙ in-order (ltb maxBlock (a .k)) (not (checked b)) (not (eqb (blockNumber b) (a .k))) (not (blockFormed b (a .k) (a .before))))
 
 pub block-refusal-spec : {M : Type 1} → statement M

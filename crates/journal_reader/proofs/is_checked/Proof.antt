@@ -35,8 +35,10 @@ equal-requires c κs = search needs
 returns : tie.Need-returns
 unfolding checked
 returns c =
-    let b = c .before .before .before .before .before .before .args .block .now in
-    c .equal .ensures ∙ ap₂ same (c .before .before .before .digest .ensures) (take-all (length b - 480) (drop 480 b) (omega (arith, length-drop 480 b)))
+    let c3 = c .before .before .before in
+    let c6 = c3 .before .before .before in
+    let b = c6 .args .block .now in
+    c .equal .ensures ∙ ap₂ same (c3 .digest .ensures) (take-all (length b - 480) (drop 480 b) (omega (arith, length-drop 480 b)))
 
 pub is-checked-spec : {M : Type 1} → statement M
 is-checked-spec =

@@ -21,7 +21,8 @@ enum-told-2 c = search needs
 returns : tie.Need-returns
 unfolding countOf
 returns c =
-    let a = c .before .before .before .before .args in
+    let c4 = c .before .before .before .before in
+    let a = c4 .args in
     let b = a .block .now in
     let e = sym (c .before .before .judge .ensures) ∙ c .enum-told2 .given .1 in
     let n = refused-instead (blockRefusal b (a .k) (a .before)) (a .k) _ _ (statedCount b) 0 e in
@@ -33,11 +34,13 @@ stated-count-requires c κs = search needs
 returns-2 : tie.Need-returns-2
 unfolding countOf
 returns-2 c =
-    let a = c .before .before .before .before .before .args in
+    let c3 = c .before .before .before in
+    let c5 = c3 .before .before in
+    let a = c5 .args in
     let b = a .block .now in
-    let z = passed-zero (blockRefusal b (a .k) (a .before)) (a .k) (sym (c .before .before .before .judge .ensures) ∙ c .before .enum-told .given .1) in
+    let z = passed-zero (blockRefusal b (a .k) (a .before)) (a .k) (sym (c3 .judge .ensures) ∙ c .before .enum-told .given .1) in
     let n = c .stated-count .ensures ∙ ap (λ (m : ℕ). unlessRefused m (statedCount b) 0) (sym z) in
-    λ i. record { answer = c .before .before .before .judge .ensures i; count = n i }
+    λ i. record { answer = c3 .judge .ensures i; count = n i }
 
 pub item-count-spec : {M : Type 1} → statement M
 item-count-spec =

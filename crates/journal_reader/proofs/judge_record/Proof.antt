@@ -22,8 +22,11 @@ new-requires c κs = search needs
 returns : tie.Need-returns
 unfolding recordRefusal
 returns c =
+    let c3 = c .before .before .before in
+    let c5 = c3 .before .before in
     c .new .ensures
-    ∙ ap (λ (n : ℕ). answer n (c .before .before .before .before .before .args .k)) (c .before .first-refusal .ensures ∙ ap₂ orElse (c .before .before .before .block-refusal .ensures) (c .before .before .place-refusal .ensures))
+    ∙ ap (λ (n : ℕ). answer n (c5 .args .k))
+    (c .before .first-refusal .ensures ∙ ap₂ orElse (c3 .block-refusal .ensures) (c .before .before .place-refusal .ensures))
 
 pub judge-record-spec : {M : Type 1} → statement M
 judge-record-spec =

@@ -48,14 +48,16 @@ loop-less c = search needs
 
 loop-again : tie.Need-loop-again Inv-loop μ-loop
 loop-again c =
+    let c5 = c .before .before .before .before .before in
     let l = c .before .before .loop in
     let v = c .u64-at in
     let e = ap (λ (o : List ℕ). set o (l .i) (v .result)) (l .inv .2) in
-    (search needs, search needs, e ∙ table-on (c .before .before .before .before .before .args .block .now) (l .i) (v .result) (omega arith) (v .ensures))
+    (search needs, search needs, e ∙ table-on (c5 .args .block .now) (l .i) (v .result) (omega arith) (v .ensures))
 
 returns : tie.Need-returns Inv-loop μ-loop
 returns c =
-    let b = c .before .before .before .before .args .block .now in
+    let c4 = c .before .before .before .before in
+    let b = c4 .args .block .now in
     let l = c .before .loop in
     let z : l .i ≡ statedCount b = omega (arith, c .before .before .stated-count .ensures) in
     l .inv .2 ∙ ap (λ (i : ℕ). balancesIn i b ++ replicate (56 - i) 0) z

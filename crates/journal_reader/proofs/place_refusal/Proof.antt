@@ -25,9 +25,13 @@ first-refusal-requires c κs = search needs
 returns : tie.Need-returns
 unfolding placeRefusal
 returns c =
-    let a = c .before .before .before .before .before .args in
-    let count = c .before .refusal-if2 .ensures ∙ ap (λ (n : ℕ). refuse (leb n (a .place)) 4 0) (c .before .before .stated-count .ensures) in
-    c .first-refusal .ensures ∙ ap₂ orElse (c .before .before .before .refusal-if .ensures) count ∙ refuse-else (ltb (a .k) 2) 4 _ (omega arith)
+    let c3 = c .before .before .before in
+    let c5 = c3 .before .before in
+    let a = c5 .args in
+    let count =
+    c .before .refusal-if2 .ensures
+    ∙ ap (λ (n : ℕ). refuse (leb n (a .place)) 4 0) (c .before .before .stated-count .ensures) in
+    c .first-refusal .ensures ∙ ap₂ orElse (c3 .refusal-if .ensures) count ∙ refuse-else (ltb (a .k) 2) 4 _ (omega arith)
 
 pub place-refusal-spec : {M : Type 1} → statement M
 place-refusal-spec =

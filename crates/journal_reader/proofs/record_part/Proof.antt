@@ -31,26 +31,32 @@ part-result-end c = search needs
 returns : tie.Need-returns
 unfolding partOf
 returns c =
-    let a = c .before .before .before .before .before .args in
+    let c3 = c .before .before .before in
+    let c5 = c3 .before .before in
+    let a = c5 .args in
     let b = a .block .now in
     let n : ℕ = recordRefusal b (a .k) (a .before) (a .place) in
-    sym (refused-instead n (a .k) _ _ (recordPart b (a .place)) [] (sym (c .before .before .before .judge-record .ensures) ∙ c .before .enum-told2 .given .1))
+    sym (refused-instead n (a .k) _ _ (recordPart b (a .place)) [] (sym (c3 .judge-record .ensures) ∙ c .before .enum-told2 .given .1))
 
 judged-part-requires : tie.Need-judged-part-requires
 judged-part-requires c κs =
-    let a = c .before .before .before .before .args in
+    let c4 = c .before .before .before .before in
+    let a = c4 .args in
     let b = a .block .now in
     let n : ℕ = recordRefusal b (a .k) (a .before) (a .place) in
-    let p = placed b (a .k) (a .before) (a .place) (passed-zero n (a .k) (sym (c .before .before .judge-record .ensures) ∙ c .enum-told .given .1)) in
+    let z : n ≡ 0 = passed-zero n (a .k) (sym (c .before .before .judge-record .ensures) ∙ c .enum-told .given .1) in
+    let p = placed b (a .k) (a .before) (a .place) z in
     (p .long, p .low)
 
 returns-2 : tie.Need-returns-2
 unfolding partOf
 returns-2 c =
-    let a = c .before .before .before .before .before .args in
+    let c3 = c .before .before .before in
+    let c5 = c3 .before .before in
+    let a = c5 .args in
     let b = a .block .now in
     let n : ℕ = recordRefusal b (a .k) (a .before) (a .place) in
-    let z : n ≡ 0 = passed-zero n (a .k) (sym (c .before .before .before .judge-record .ensures) ∙ c .before .enum-told .given .1) in
+    let z : n ≡ 0 = passed-zero n (a .k) (sym (c3 .judge-record .ensures) ∙ c .before .enum-told .given .1) in
     rw (z, c .judged-part .ensures)
 
 pub record-part-spec : {M : Type 1} → statement M

@@ -33,7 +33,8 @@ loop-again : tie.Need-loop-again Inv-loop μ-loop
 loop-again c =
     let d = c .before .before .args .s .now in
     let l = c .before .loop in
-    (simp length-set (omega arith), simp length-set (l .inv .1), ap (λ (o : List ℕ). set o (l .i) 0) (l .inv .2) ∙ fill-more (l .i) 0 d (omega arith))
+    let e = ap (λ (o : List ℕ). set o (l .i) 0) (l .inv .2) in
+    (simp length-set (omega arith), simp length-set (l .inv .1), e ∙ fill-more (l .i) 0 d (omega arith))
 
 same-length : tie.Need-same-length Inv-loop μ-loop
 same-length c = search needs

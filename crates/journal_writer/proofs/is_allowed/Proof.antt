@@ -35,28 +35,33 @@ item-size-requires c κs = search needs
 
 rem-if4 : tie.Need-rem-if4
 rem-if4 c =
-    omega (arith, size-some (c .before .before .before .before .before .args .k), c .item-size .ensures)
+    let c5 = c .before .before .before .before .before in
+    omega (arith, size-some (c5 .args .k), c .item-size .ensures)
 
 returns-4 : tie.Need-returns-4
 unfolding allowed
 returns-4 c =
-    let a = c .before .before .before .before .before .before .args in
+    let c6 = c .before .before .before .before .before .before in
+    let a = c6 .args in
     sym (every-not 3 _ (ne-eqb _ _ (λ q. c .if4 .taken (ap (λ (m : ℕ). a .n % m) (c .before .item-size .ensures) ∙ q))))
 
 div-if5 : tie.Need-div-if5
 div-if5 c =
-    omega (arith, size-some (c .before .before .before .before .before .before .args .k), c .before .item-size .ensures)
+    let c6 = c .before .before .before .before .before .before in
+    omega (arith, size-some (c6 .args .k), c .before .item-size .ensures)
 
 returns-5 : tie.Need-returns-5
 unfolding allowed
 returns-5 c =
-    let a = c .before .before .before .before .before .before .before .args in
+    let c7 = c .before .before .before .before .before .before .before in
+    let a = c7 .args in
     let e = ap (λ (m : ℕ). a .n / m) (c .before .before .item-size .ensures) in
     sym (every-not 4 _ (le-ltb 0 (a .n / itemSize (a .k)) (omega (arith, e, c .if5 .taken))))
 
 div-result : tie.Need-div-result
 div-result c =
-    omega (arith, size-some (c .before .before .before .before .before .before .before .args .k), c .before .before .item-size .ensures)
+    let c7 = c .before .before .before .before .before .before .before in
+    omega (arith, size-some (c7 .args .k), c .before .before .item-size .ensures)
 
 item-limit-requires : tie.Need-item-limit-requires
 item-limit-requires c κs = search needs
@@ -64,14 +69,20 @@ item-limit-requires c κs = search needs
 returns-6 : tie.Need-returns-6
 unfolding allowed
 returns-6 c =
-    let a = c .before .before .before .before .before .before .before .before .args in
-    let e = ap (λ (m : ℕ). a .n / m) (c .before .before .before .item-size .ensures) in
+    let c3 = c .before .before .before in
+    let c4 = c3 .before in
+    let c5 = c4 .before in
+    let c6 = c5 .before in
+    let c7 = c6 .before in
+    let c8 = c7 .before in
+    let a = c8 .args in
+    let e = ap (λ (m : ℕ). a .n / m) (c3 .item-size .ensures) in
     ap₂ leb e (c .item-limit .ensures)
     ∙ sym
-    (every-skip _ _ (eq-eqb _ _ (c .before .before .before .before .before .before .before .if1 .left))
-    ∙ every-skip _ _ (le-leb _ _ (c .before .before .before .before .before .before .if2 .left))
-    ∙ every-skip _ _ (eq-eqb _ _ (c .before .before .before .before .if3 .left ∙ c .before .before .before .before .before .kind-of-block .ensures))
-    ∙ every-skip _ _ (eq-eqb _ _ (ap (λ (m : ℕ). a .n % m) (sym (c .before .before .before .item-size .ensures)) ∙ c .before .before .if4 .left))
+    (every-skip _ _ (eq-eqb _ _ (c7 .if1 .left))
+    ∙ every-skip _ _ (le-leb _ _ (c6 .if2 .left))
+    ∙ every-skip _ _ (eq-eqb _ _ (c4 .if3 .left ∙ c5 .kind-of-block .ensures))
+    ∙ every-skip _ _ (eq-eqb _ _ (ap (λ (m : ℕ). a .n % m) (sym (c3 .item-size .ensures)) ∙ c .before .before .if4 .left))
     ∙ every-skip _ _ (lt-ltb 0 (a .n / itemSize (a .k)) (omega (arith, e, c .before .if5 .left)))
     ∙ every-one _)
 

@@ -44,9 +44,16 @@ same-length c = search needs
 
 returns : tie.Need-returns
 returns c =
-    let a = c .before .before .before .before .before .before .before .before .before .before .before .before .before .before .before .args in
+    let c6 = c .before .before .before .before .before .before in
+    let c10 = c6 .before .before .before .before in
+    let c15 = c10 .before .before .before .before .before in
+    let a = c15 .args in
     let lh : length (a .t2) ≡ 32 = search needs in
-    laid (a .out .now) (a .t2) (a .items .now) (c .before .before .before .before .before .before .before .before .before .before .copy .last .1 .0) (c .before .before .before .before .before .before .copy2 .last .1 .0) (c .before .before .clear .last .0) (c .before .before .before .before .before .before .before .before .before .before .before .before .before .before .before .pre .0) lh (c .before .before .before .before .before .before .before .before .before .before .before .before .before .before .before .pre .1) (c .before .before .before .before .before .before .before .before .before .before .copy .ensures .1) (c .before .before .before .before .before .before .copy2 .ensures .1) (c .before .before .clear .ensures)
+    let x1 = c10 .copy in
+    let x2 = c6 .copy2 in
+    let x3 = c .before .before .clear in
+    laid (a .out .now) (a .t2) (a .items .now) (x1 .last .1 .0) (x2 .last .1 .0) (x3 .last .0) (c15 .pre .0) lh (c15 .pre .1)
+    (x1 .ensures .1) (x2 .ensures .1) (x3 .ensures)
 
 pub lay-spec : {M : Type 1} → statement M
 lay-spec =

@@ -41,10 +41,14 @@ same-length c = search needs
 
 returns : tie.Need-returns
 returns c =
-    let o = c .before .before .before .before .before .before .before .before .args .out .now in
-    let d : List ℕ = c .before .before .before .before .before .digest .result in
-    let e : d ≡ sha256 (take 480 o) = c .before .before .before .before .before .digest .ensures in
-    sealed o d (c .before .before .copy .last .1 .0) (c .before .before .before .before .before .before .before .before .pre) (ap length e ∙ length-sha256 (take 480 o)) (c .before .before .copy .ensures .1) ∙ ap (λ (y : List ℕ). take 480 o ++ y) e
+    let c5 = c .before .before .before .before .before in
+    let c8 = c5 .before .before .before in
+    let o = c8 .args .out .now in
+    let d : List ℕ = c5 .digest .result in
+    let e : d ≡ sha256 (take 480 o) = c5 .digest .ensures in
+    let x = c .before .before .copy in
+    sealed o d (x .last .1 .0) (c8 .pre) (ap length e ∙ length-sha256 (take 480 o)) (x .ensures .1)
+    ∙ ap (λ (y : List ℕ). take 480 o ++ y) e
 
 pub seal-spec : {M : Type 1} → statement M
 seal-spec =

@@ -25,7 +25,8 @@ shared-slice-read-if2 c = search needs
 returns-2 : tie.Need-returns-2
 unfolding formed
 returns-2 c =
-    let s = c .before .before .before .before .args .s .now in
+    let c4 = c .before .before .before .before in
+    let s = c4 .args .s .now in
     sym (every-not 1 _ (le-ltb 0 (field 0 1 s) (omega (arith, field-one 0 s (omega arith)))))
 
 shared-slice-read-if3 : tie.Need-shared-slice-read-if3
@@ -34,7 +35,8 @@ shared-slice-read-if3 c = search needs
 returns-3 : tie.Need-returns-3
 unfolding formed
 returns-3 c =
-    let s = c .before .before .before .before .before .before .args .s .now in
+    let c6 = c .before .before .before .before .before .before in
+    let s = c6 .args .s .now in
     sym (every-not 2 _ (lt-leb (field 0 1 s) 3 (omega (arith, field-one 0 s (omega arith)))))
 
 shared-slice-read-if4 : tie.Need-shared-slice-read-if4
@@ -43,7 +45,8 @@ shared-slice-read-if4 c = search needs
 returns-4 : tie.Need-returns-4
 unfolding formed
 returns-4 c =
-    let s = c .before .before .before .before .before .before .before .before .args .s .now in
+    let c8 = c .before .before .before .before .before .before .before .before in
+    let s = c8 .args .s .now in
     sym (every-not 3 _ (lt-leb (field 1 1 s) 1 (omega (arith, field-one 1 s (omega arith)))))
 
 u16-at-requires : tie.Need-u16-at-requires
@@ -60,13 +63,15 @@ u64-at-requires c κs = search needs
 returns-6 : tie.Need-returns-6
 unfolding formed
 returns-6 c =
-    let s = c .before .before .before .before .before .before .before .before .before .before .before .before .args .s .now in
+    let c12 = c .before .before .before .before .before .before .before .before .before .before .before .before in
+    let s = c12 .args .s .now in
     sym (every-not 5 _ (le-ltb 0 (field 16 8 s) (omega (arith, c .before .u64-at .ensures))))
 
 returns-7 : tie.Need-returns-7
 unfolding formed
 returns-7 c =
-    let s = c .before .before .before .before .before .before .before .before .before .before .before .before .before .args .s .now in
+    let c13 = c .before .before .before .before .before .before .before .before .before .before .before .before .before in
+    let s = c13 .args .s .now in
     sym (every-not 6 _ (lt-leb (field 16 8 s) maxAmount (omega (arith, c .before .before .u64-at .ensures))))
 
 u64-at-requires-2 : tie.Need-u64-at-requires-2
@@ -75,28 +80,44 @@ u64-at-requires-2 c κs = search needs
 returns-8 : tie.Need-returns-8
 unfolding formed
 returns-8 c =
-    let s = c .before .before .before .before .before .before .before .before .before .before .before .before .before .before .before .args .s .now in
-    let b : Bytes s = all-of _ 0 s (λ i. c .before .before .before .before .before .before .before .before .before .before .before .before .before .before .shared-slice-known .given i .fits) in
+    let c14 = c .before .before .before .before .before .before .before .before .before .before .before .before .before .before in
+    let c15 = c14 .before in
+    let s = c15 .args .s .now in
+    let b : Bytes s = all-of _ 0 s (λ i. c14 .shared-slice-known .given i .fits) in
     sym (every-not 7 _ (lt-leb (field 24 1 s) 1 (omega (arith, field-high 24 1 7 s b (omega arith), c .before .u64-at2 .ensures))))
 
 returns-9 : tie.Need-returns-9
 unfolding formed
 returns-9 c =
-    let s = c .before .before .before .before .before .before .before .before .before .before .before .before .before .before .before .args .s .now in
-    let l : length s ≡ 32 = c .before .before .before .before .before .before .before .before .before .before .before .before .before .if1 .left in
-    let b : Bytes s = all-of _ 0 s (λ i. c .before .before .before .before .before .before .before .before .before .before .before .before .before .before .shared-slice-known .given i .fits) in
+    let c3 = c .before .before .before in
+    let c4 = c3 .before in
+    let c5 = c4 .before in
+    let c6 = c5 .before in
+    let c7 = c6 .before in
+    let c9 = c7 .before .before in
+    let c11 = c9 .before .before in
+    let c13 = c11 .before .before in
+    let c14 = c13 .before in
+    let c15 = c14 .before in
+    let s = c15 .args .s .now in
+    let l : length s ≡ 32 = c13 .if1 .left in
+    let b : Bytes s = all-of _ 0 s (λ i. c14 .shared-slice-known .given i .fits) in
     let k : field 0 1 s ≡ getD s 0 0 = field-one 0 s (omega arith) in
-    let h : field 24 1 s ≡ c .before .u64-at2 .result / 256 ^ 7 = sym (field-high 24 1 7 s b (omega arith)) ∙ ap (λ (x : ℕ). x / 256 ^ 7) (sym (c .before .u64-at2 .ensures)) in
-    let e : c .before .u64-at2 .result % 256 ^ 7 ≡ field 25 7 s = ap (λ (x : ℕ). x % 256 ^ 7) (c .before .u64-at2 .ensures) ∙ field-low 24 1 7 s b (omega arith) in
+    let h : field 24 1 s ≡ c .before .u64-at2 .result / 256 ^ 7 =
+    sym (field-high 24 1 7 s b (omega arith))
+    ∙ ap (λ (x : ℕ). x / 256 ^ 7) (sym (c .before .u64-at2 .ensures)) in
+    let e : c .before .u64-at2 .result % 256 ^ 7 ≡ field 25 7 s =
+    ap (λ (x : ℕ). x % 256 ^ 7) (c .before .u64-at2 .ensures)
+    ∙ field-low 24 1 7 s b (omega arith) in
     ap (λ (x : ℕ). eqb x 0) e
     ∙ sym
     (every-skip _ _ (eq-eqb _ _ l)
-    ∙ every-skip _ _ (lt-ltb 0 (field 0 1 s) (omega (arith, c .before .before .before .before .before .before .before .before .before .before .before .if2 .left)))
-    ∙ every-skip _ _ (le-leb (field 0 1 s) 3 (omega (arith, c .before .before .before .before .before .before .before .before .before .if3 .left)))
-    ∙ every-skip _ _ (le-leb (field 1 1 s) 1 (omega (arith, field-one 1 s (omega arith), c .before .before .before .before .before .before .before .if4 .left)))
-    ∙ every-skip _ _ (eq-eqb _ _ (sym (c .before .before .before .before .before .before .u16-at .ensures) ∙ c .before .before .before .before .before .if5 .left))
-    ∙ every-skip _ _ (lt-ltb 0 (field 16 8 s) (omega (arith, c .before .before .before .before .u64-at .ensures, c .before .before .before .if6 .left)))
-    ∙ every-skip _ _ (le-leb (field 16 8 s) maxAmount (omega (arith, c .before .before .before .before .u64-at .ensures, c .before .before .if7 .left)))
+    ∙ every-skip _ _ (lt-ltb 0 (field 0 1 s) (omega (arith, c11 .if2 .left)))
+    ∙ every-skip _ _ (le-leb (field 0 1 s) 3 (omega (arith, c9 .if3 .left)))
+    ∙ every-skip _ _ (le-leb (field 1 1 s) 1 (omega (arith, field-one 1 s (omega arith), c7 .if4 .left)))
+    ∙ every-skip _ _ (eq-eqb _ _ (sym (c6 .u16-at .ensures) ∙ c5 .if5 .left))
+    ∙ every-skip _ _ (lt-ltb 0 (field 16 8 s) (omega (arith, c4 .u64-at .ensures, c3 .if6 .left)))
+    ∙ every-skip _ _ (le-leb (field 16 8 s) maxAmount (omega (arith, c4 .u64-at .ensures, c .before .before .if7 .left)))
     ∙ every-skip _ _ (le-leb (field 24 1 s) 1 (omega (arith, h, c .if8 .left)))
     ∙ every-one _)
 

@@ -42,16 +42,20 @@ u64-at-requires-2 c κs = search needs
 returns : tie.Need-returns
 unfolding recordIn
 returns c =
-    let s = c .before .before .before .before .before .before .before .before .before .before .args .s .now in
-    let l : length s ≡ 32 = c .before .before .before .before .before .before .before .before .before .before .pre in
-    let k : c .before .before .before .before .before .kind-at .result ≡ kindAt (field 0 1 s) (ledgerAt (field 1 1 s)) =
-    c .before .before .before .before .before .kind-at .ensures
-    ∙ ap₂ kindAt (sym (field-one 0 s (omega arith))) (c .before .before .before .before .before .before .ledger-at .ensures ∙ ap ledgerAt (sym (field-one 1 s (omega arith)))) in
+    let c3 = c .before .before .before in
+    let c5 = c3 .before .before in
+    let c6 = c5 .before in
+    let c10 = c6 .before .before .before .before in
+    let s = c10 .args .s .now in
+    let l : length s ≡ 32 = c10 .pre in
+    let k : c5 .kind-at .result ≡ kindAt (field 0 1 s) (ledgerAt (field 1 1 s)) =
+    c5 .kind-at .ensures
+    ∙ ap₂ kindAt (sym (field-one 0 s (omega arith))) (c6 .ledger-at .ensures ∙ ap ledgerAt (sym (field-one 1 s (omega arith)))) in
     let v : eqb (getD s 24 0) 1 ≡ eqb (field 24 1 s) 1 = ap (λ (x : ℕ). eqb x 1) (sym (field-one 24 s (omega arith))) in
     λ i.
     record {
       kind = k i;
-      sender = c .before .before .before .u16-at .ensures i;
+      sender = c3 .u16-at .ensures i;
       receiver = c .before .before .u16-at2 .ensures i;
       number = c .before .u64-at .ensures i;
       amount = c .u64-at2 .ensures i;

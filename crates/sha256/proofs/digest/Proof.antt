@@ -46,7 +46,9 @@ hash-bytes-requires c κs = search needs
 
 -- the message, and the bytes of the last blocks
 abbrev message : tie.After-compress → List ℕ
-message c = c .before .before .before .before .before .before .before .before .before .args .message .now
+message c =
+    let c9 = c .before .before .before .before .before .before .before .before .before in
+    c9 .args .message .now
 
 abbrev bytes : tie.After-compress → List ℕ
 bytes c = c .before .before .before .last-bytes .result
@@ -65,9 +67,10 @@ last-block c i k e h =
 -- the hash value after the block that follows the whole blocks
 after-first : (c : tie.After-compress) → c .compress .result ≡ hashed (padded (message c)) (length (message c) / 64 + 1)
 after-first c =
+    let c5 = c .before .before .before .before .before in
     let m = message c in
     let b = last-block c 0 (length m / 64) (omega arith) (omega arith) in
-    hashed-next (padded m) (length m / 64) (c .before .before .before .before .before .whole-blocks .ensures) b (c .compress .ensures)
+    hashed-next (padded m) (length m / 64) (c5 .whole-blocks .ensures) b (c .compress .ensures)
 
 returns : tie.Need-returns
 unfolding sha256
@@ -95,7 +98,8 @@ hash-bytes-requires-2 c κs = search needs
 returns-2 : tie.Need-returns-2
 unfolding sha256
 returns-2 c =
-    let p = c .before .before .before .before .before .before in
+    let c5 = c .before .before .before .before .before in
+    let p = c5 .before in
     let m = message p in
     let n : length m / 64 + 1 + 1 ≡ length (padded m) / 64 = omega (arith, block-count m) in
     let b = last-block p 1 (length m / 64 + 1) (omega arith) (omega arith) in

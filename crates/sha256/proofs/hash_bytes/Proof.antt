@@ -126,13 +126,19 @@ array-read-t106 c = search needs
 
 returns : tie.Need-returns
 returns c =
+    let c3 = c .before .before .before in
+    let c4 = c3 .before in
+    let c5 = c4 .before in
+    let c6 = c5 .before in
+    let c7 = c6 .before in
+    let c8 = c7 .before in
     bytes-of-words
-    (c .before .before .before .before .before .before .before .before .args .s)
-    (c .before .before .before .before .before .before .before .u32-bytes .ensures)
-    (c .before .before .before .before .before .before .u32-bytes2 .ensures)
-    (c .before .before .before .before .before .u32-bytes3 .ensures)
-    (c .before .before .before .before .u32-bytes4 .ensures)
-    (c .before .before .before .u32-bytes5 .ensures)
+    (c8 .args .s)
+    (c7 .u32-bytes .ensures)
+    (c6 .u32-bytes2 .ensures)
+    (c5 .u32-bytes3 .ensures)
+    (c4 .u32-bytes4 .ensures)
+    (c3 .u32-bytes5 .ensures)
     (c .before .before .u32-bytes6 .ensures)
     (c .before .u32-bytes7 .ensures)
     (c .u32-bytes8 .ensures)

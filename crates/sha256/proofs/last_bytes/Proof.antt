@@ -47,7 +47,9 @@ copy-requires-2 c κs = search needs
 
 returns : tie.Need-returns
 returns c =
-    let p = c .before .before .before .before .before .before in
+    let c4 = c .before .before .before .before in
+    let c5 = c4 .before in
+    let p = c5 .before in
     let a = p .before .before .before in
     rest-padded
     (a .args .rest .now)
@@ -58,7 +60,7 @@ returns c =
     (a .pre)
     (p .copy .ensures .0)
     (p .copy .ensures .1)
-    (c .before .before .before .before .u64-bytes .ensures)
+    (c4 .u64-bytes .ensures)
     (c .before .copy2 .ensures .1)
 
 pub last-bytes-spec : {M : Type 1} → statement M

@@ -57,7 +57,8 @@ loop-again c =
 
 returns : tie.Need-returns Inv-loop μ-loop
 returns c =
-    let m = c .before .before .before .before .args .message .now in
+    let c4 = c .before .before .before .before in
+    let m = c4 .args .message .now in
     let n : c .before .loop .i ≡ length m / 64 = omega arith in
     c .before .loop .inv .1 ∙ ap (hashed (padded m)) n
 

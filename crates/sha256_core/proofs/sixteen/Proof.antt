@@ -54,7 +54,12 @@ one-round-requires-16 c κs = search needs
 
 returns : tie.Need-returns
 returns c =
-    let p = c .before .before .before .before .before .before .before .before in
+    let c3 = c .before .before .before in
+    let c4 = c3 .before in
+    let c5 = c4 .before in
+    let c6 = c5 .before in
+    let c7 = c6 .before in
+    let p = c7 .before in
     let a = p .before .before .before .before .before .before .before .before .args in
     sixteen-by-one
     (a .s)
@@ -68,11 +73,11 @@ returns c =
     (p .before .before .one-round6 .ensures)
     (p .before .one-round7 .ensures)
     (p .one-round8 .ensures)
-    (c .before .before .before .before .before .before .before .one-round9 .ensures)
-    (c .before .before .before .before .before .before .one-round10 .ensures)
-    (c .before .before .before .before .before .one-round11 .ensures)
-    (c .before .before .before .before .one-round12 .ensures)
-    (c .before .before .before .one-round13 .ensures)
+    (c7 .one-round9 .ensures)
+    (c6 .one-round10 .ensures)
+    (c5 .one-round11 .ensures)
+    (c4 .one-round12 .ensures)
+    (c3 .one-round13 .ensures)
     (c .before .before .one-round14 .ensures)
     (c .before .one-round15 .ensures)
     (c .one-round16 .ensures)

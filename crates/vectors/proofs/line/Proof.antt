@@ -38,7 +38,9 @@ part-out-start : tie.Need-part-out-start
 part-out-start c = search needs
 
 part-out-end : tie.Need-part-out-end
-part-out-end c = simp length-set (omega (arith, c .before .before .before .before .copy .kept .1 .0))
+part-out-end c =
+    let c4 = c .before .before .before .before in
+    simp length-set (omega (arith, c4 .copy .kept .1 .0))
 
 copy-requires-2 : tie.Need-copy-requires-2
 copy-requires-2 c κs = search needs
@@ -63,7 +65,8 @@ out-length n xs ys h e = same-len-mid (n + 1) (82 - (n + 1)) (set xs n 32) ys e 
 
 array-share-prefix-out : tie.Need-array-share-prefix-out
 array-share-prefix-out c =
-    let p = c .before .before .before .before .before .before .before .copy in
+    let c7 = c .before .before .before .before .before .before .before in
+    let p = c7 .copy in
     let q = c .before .copy2 in
     simp length-set (omega (arith, out-length (p .result) (p .last .1 .0) (q .last .1 .0) (p .kept .1 .0) (q .kept .1 .0)))
 

@@ -29,7 +29,8 @@ add-result c = search needs
 
 returns : tie.Need-returns
 returns c =
-    let a = c .before .before .before .before .before .args in
+    let c5 = c .before .before .before .before .before in
+    let a = c5 .args in
     let s = a .s .now in
     omega (arith, field-split (a .i) 1 1 s (omega arith), field-one (a .i) s (omega arith), field-one (a .i + 1) s (omega arith))
 

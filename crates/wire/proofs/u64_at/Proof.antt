@@ -28,7 +28,8 @@ add-result c = search needs
 
 returns : tie.Need-returns
 returns c =
-    let a = c .before .before .before .before .before .args in
+    let c5 = c .before .before .before .before .before in
+    let a = c5 .args in
     omega (arith, field-split (a .i) 4 4 (a .s .now) (omega arith))
 
 pub u64-at-spec : {M : Type 1} → statement M

@@ -96,11 +96,16 @@ array-read-t72 c = search needs
 returns : tie.Need-returns
 unfolding encoding bytesOf
 returns c =
-    let s = c .before .before .before .before .before .before .before .u16-bytes .ensures in
-    let t = c .before .before .before .before .before .before .u16-bytes2 .ensures in
-    let n = c .before .before .before .before .before .u64-bytes .ensures in
-    let a = c .before .before .before .before .u64-bytes2 .ensures in
-    let v = c .before .before .before .verdict-byte .ensures in
+    let c3 = c .before .before .before in
+    let c4 = c3 .before in
+    let c5 = c4 .before in
+    let c6 = c5 .before in
+    let c7 = c6 .before in
+    let s = c7 .u16-bytes .ensures in
+    let t = c6 .u16-bytes2 .ensures in
+    let n = c5 .u64-bytes .ensures in
+    let a = c4 .u64-bytes2 .ensures in
+    let v = c3 .verdict-byte .ensures in
     let k = c .before .before .byte .ensures in
     let l = c .byte2 .ensures ∙ ap ledgerByte (c .before .ledger .ensures) in
     λ i.

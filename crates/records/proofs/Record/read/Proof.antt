@@ -17,7 +17,8 @@ record-in-requires c κs =
 returns : tie.Need-returns
 unfolding reading
 returns c =
-    let e : formed (c .before .before .before .before .args .s .now) ≡ true = sym (c .before .before .is-formed .ensures) ∙ c .before .if1 .taken in
+    let c4 = c .before .before .before .before in
+    let e : formed (c4 .args .s .now) ≡ true = sym (c .before .before .is-formed .ensures) ∙ c .before .if1 .taken in
     rw (e, c .record-in .ensures)
 
 returns-2 : tie.Need-returns-2
