@@ -47,7 +47,8 @@ returns-3 c =
     let c9 = c3 .before .before .before .before .before .before in
     let b = c9 .args .block .now in
     let k = c9 .args .k in
-    let l : itemLimit k < statedCount b = omega (arith, field-one 5 b (omega arith), c .before .item-limit .ensures, c3 .wide .ensures .0) in
+    let l : itemLimit k < statedCount b =
+    omega (arith, field-one 5 b (omega arith), c .before .item-limit .ensures, c3 .wide .ensures .0) in
     sym (every-not 2 _ (lt-leb (statedCount b) (itemLimit k) l))
 
 all-zero-requires : tie.Need-all-zero-requires

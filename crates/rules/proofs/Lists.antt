@@ -1,0 +1,148 @@
+-- Laws of sums, tests and balances. Assumes nothing.
+use Prim.Native.Nat.{ℕ, zero, suc, _+_, _-_, _≤_, _<_}
+use mathlib.Core.Path.{_≡_, refl, _∙_}
+use mathlib.Core.Bool.{Bool, true, false, _||_}
+use mathlib.Core.List.{List, [], _∷_, _++_}
+use native.Mathlib.Omega.{arith}
+use lib.ListN.{length, drop, getD, set, length-set}
+use lib.Seq.{drop-set-lt, getD-set-same, getD-set-other}
+use Rattle.rules.specs.Lists.{sum, any, all, total, lowered, raised}
+use Rattle.rules.specs.Rules.{Kind, Local, Sending, Receiving, Record, debit, credit, moved}
+use Rattle.wire.proofs.Lists.{and-both}
+
+-- ## Tests
+
+-- neither test holds where their disjunction does not
+pub or-neither : (s t : Bool) → (s || t) ≡ false → (s ≡ false) × (t ≡ false)
+or-neither true t h = (h, cc)
+or-neither false t h = (refl, h)
+
+-- the second test holds where one of the two does and the first does not
+pub or-second : (s t : Bool) → (s || t) ≡ true → s ≡ false → t ≡ true
+or-second true t h q = cc
+or-second false t h q = h
+
+-- a disjunction whose second test holds
+pub or-right : (s t : Bool) → t ≡ true → (s || t) ≡ true
+or-right true t h = refl
+or-right false t h = h
+
+-- no test both holds and does not
+pub never-both-tests : true ≡ false → ⊥
+never-both-tests h = let z : _≡_ {A = ℕ} 0 1 = cc in omega arith
+
+-- ## Sums and tests over lists
+
+module _ {A : Type 0} where
+  -- the sum with one element more
+  pub sum-snoc : (f : A → ℕ) (xs : List A) (x : A) → sum f (xs ++ x ∷ []) ≡ sum f xs + f x
+  unfolding sum
+  sum-snoc f [] x = omega arith
+  sum-snoc f (y ∷ xs) x = omega (arith, sum-snoc f xs x)
+
+  -- functions with the same values have the same sum
+  pub sum-ext : (f g : A → ℕ) → ((x : A) → f x ≡ g x) → (xs : List A) → sum f xs ≡ sum g xs
+  unfolding sum
+  sum-ext f g h [] = refl
+  sum-ext f g h (x ∷ xs) = omega (arith, h x, sum-ext f g h xs)
+
+  -- some element passes, with one element more
+  pub any-snoc : (f : A → Bool) (xs : List A) (x : A) → any f (xs ++ x ∷ []) ≡ (f x || any f xs)
+  unfolding any
+  any-snoc f [] x = refl
+  any-snoc f (y ∷ xs) x = rw (any-snoc f xs x) (exchanged (f y) (f x) (any f xs))
+    where
+      exchanged : (a b c : Bool) → (a || (b || c)) ≡ (b || (a || c))
+      exchanged true true c = refl
+      exchanged true false c = refl
+      exchanged false true c = refl
+      exchanged false false c = refl
+
+  -- the last element passes
+  pub any-last : (f : A → Bool) (xs : List A) (x : A) → f x ≡ true → any f (xs ++ x ∷ []) ≡ true
+  any-last f xs x h = any-snoc f xs x ∙ simp h
+
+  -- every element passes, with one element more
+  pub all-snoc : (f : A → Bool) (xs : List A) (x : A) → all f xs ≡ true → f x ≡ true → all f (xs ++ x ∷ []) ≡ true
+  unfolding all
+  all-snoc f [] x h k = simp k
+  all-snoc f (y ∷ xs) x h k =
+      let u = and-both (f y) (all f xs) h in
+      simp (u .0, all-snoc f xs x (u .1) k)
+
+  -- every element passes a test that is implied
+  pub all-weaken : (f g : A → Bool) → ((x : A) → f x ≡ true → g x ≡ true) → (xs : List A) → all f xs ≡ true → all g xs ≡ true
+  unfolding all
+  all-weaken f g w [] h = refl
+  all-weaken f g w (x ∷ xs) h =
+      let u = and-both (f x) (all f xs) h in
+      simp (w x (u .0), all-weaken f g w xs (u .1))
+
+-- ## Balances
+
+-- the total once one account is set
+total-set : (balances : List ℕ) (i v : ℕ) → i < length balances → total (set balances i v) + getD balances i 0 ≡ total balances + v
+unfolding sum
+total-set [] i v h = omega arith
+total-set (x ∷ balances) zero v h = omega arith
+total-set (x ∷ balances) (suc i) v h = omega (arith, total-set balances i v (omega arith))
+
+-- the total once an amount is taken
+pub total-lowered : (balances : List ℕ) (i a : ℕ) → i < length balances → a ≤ getD balances i 0
+    → total (lowered balances i a) + a ≡ total balances
+unfolding lowered
+total-lowered balances i a h l = omega (arith, total-set balances i (getD balances i 0 - a) h)
+
+-- the total once an amount is given
+pub total-raised : (balances : List ℕ) (i a : ℕ) → i < length balances → total (raised balances i a) ≡ total balances + a
+unfolding raised
+total-raised balances i a h = omega (arith, total-set balances i (getD balances i 0 + a) h)
+
+-- taking leaves the number of accounts
+pub length-lowered : (balances : List ℕ) (i a : ℕ) → length (lowered balances i a) ≡ length balances
+unfolding lowered
+length-lowered balances i a = length-set balances i (getD balances i 0 - a)
+
+-- giving leaves the number of accounts
+pub length-raised : (balances : List ℕ) (i a : ℕ) → length (raised balances i a) ≡ length balances
+unfolding raised
+length-raised balances i a = length-set balances i (getD balances i 0 + a)
+
+-- a passed record leaves the number of accounts
+pub length-moved : (balances : List ℕ) (r : Record) (k : Kind) → length (moved balances r k) ≡ length balances
+length-moved balances r (Local l) =
+    length-raised (lowered balances (r .sender) (debit r)) (r .receiver) (credit r) ∙ length-lowered balances (r .sender) (debit r)
+length-moved balances r (Sending l) = length-lowered balances (r .sender) (debit r)
+length-moved balances r (Receiving l) = length-raised balances (r .receiver) (credit r)
+
+-- ## One account
+
+-- the balance of an account that was given to
+pub raised-same : (balances : List ℕ) (i a : ℕ) → i < length balances → getD (raised balances i a) i 0 ≡ getD balances i 0 + a
+unfolding raised
+raised-same balances i a h = getD-set-same balances i (getD balances i 0 + a) 0 h
+
+-- the balance of another account
+pub raised-other : (balances : List ℕ) (i j a : ℕ) → (j ≡ i → ⊥) → getD (raised balances i a) j 0 ≡ getD balances j 0
+unfolding raised
+raised-other balances i j a h = getD-set-other balances i j (getD balances i 0 + a) 0 h
+
+-- the balance of an account that was taken from
+pub lowered-same : (balances : List ℕ) (i a : ℕ) → i < length balances → getD (lowered balances i a) i 0 ≡ getD balances i 0 - a
+unfolding lowered
+lowered-same balances i a h = getD-set-same balances i (getD balances i 0 - a) 0 h
+
+-- the balance of another account
+pub lowered-other : (balances : List ℕ) (i j a : ℕ) → (j ≡ i → ⊥) → getD (lowered balances i a) j 0 ≡ getD balances j 0
+unfolding lowered
+lowered-other balances i j a h = getD-set-other balances i j (getD balances i 0 - a) 0 h
+
+-- the balances after the account that was given to
+pub drop-raised : (k : ℕ) (balances : List ℕ) (i a : ℕ) → i < k → drop k (raised balances i a) ≡ drop k balances
+unfolding raised
+drop-raised k balances i a h = drop-set-lt k balances i (getD balances i 0 + a) h
+
+-- the balances after the account that was taken from
+pub drop-lowered : (k : ℕ) (balances : List ℕ) (i a : ℕ) → i < k → drop k (lowered balances i a) ≡ drop k balances
+unfolding lowered
+drop-lowered k balances i a h = drop-set-lt k balances i (getD balances i 0 - a) h

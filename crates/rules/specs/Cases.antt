@@ -1,0 +1,260 @@
+-- The starred cases of document 01 as rows of one table, and rows of our own: the order of refusals, matches that look near
+-- enough, openings, and states that refusal 3 has something against. Assumes nothing.
+use Prim.Native.Nat.{ℕ, _-_, _^_}
+use mathlib.Core.Path.{_≡_}
+use mathlib.Core.Bool.{Bool, true, false, _&&_, not}
+use mathlib.Core.List.{List, [], _∷_, _++_}
+use lib.Dec.{eqb}
+use lib.ListN.{set, replicate}
+use Rattle.ledgers.specs.Limits.{capacity}
+use Rattle.records.specs.Records.{encoding}
+use Rattle.rules.specs.HomeValidator.{HomeView, homeValidator, homeOpened, homeAccepts, homeOpeningRefusal}
+use Rattle.rules.specs.Lists.{all}
+use Rattle.rules.specs.PairValidator.{pairOpeningRefusal, PairView, pairAccepts, pairOpened}
+use Rattle.rules.specs.Rules.{Home, Far, Kind, Local, Sending, Receiving, PairState, opened, judgeBytes, afterBytes, inFlight, Record}
+use Rattle.wire.specs.BigEndian.{every, same}
+
+-- ## Rows
+
+-- a row has the number of its case (0: none); a row of the pair starts from the rules' opening state, one of the home validator from its
+-- own, and both have the records that pass before
+pub data Row : Type 0 where
+  -- the record passes; then home balances, far balances and in flight
+  passRow : ℕ → List (List ℕ) → List ℕ → List ℕ → List ℕ → ℕ → Row
+  -- the record is refused with the number
+  refusalRow : ℕ → List (List ℕ) → List ℕ → ℕ → Row
+  -- the home validator gives the number (0: passed)
+  homeRow : ℕ → List (List ℕ) → List ℕ → ℕ → Row
+  -- an opening with these balances gets the number (0: accepted)
+  openingRow : ℕ → List ℕ → List ℕ → ℕ → Row
+  -- an opening of the home validator, with home balances, far accounts and far total, gets the number
+  homeOpeningRow : ℕ → List ℕ → ℕ → ℕ → ℕ → Row
+  -- the pair validator with this capacity accepts the state, or does not
+  stateRow : ℕ → PairView → Bool → Row
+  -- the home validator likewise
+  homeStateRow : ℕ → HomeView → Bool → Row
+
+-- home has accounts with 100 and 50, far has one with 20 (Cases: opening)
+unfoldable pub caseOpening : PairState
+caseOpening = opened (100 ∷ 50 ∷ []) (20 ∷ [])
+
+-- the same for the home validator
+unfoldable pub homeCaseOpening : HomeView
+homeCaseOpening = homeOpened (100 ∷ 50 ∷ []) 1 20
+
+-- the state after records
+unfoldable pub afterAll : PairState → List (List ℕ) → PairState
+afterAll p [] = p
+afterAll p (b ∷ bs) = afterAll (afterBytes p b) bs
+
+-- records pass one after the other
+unfoldable pub allPass : PairState → List (List ℕ) → Bool
+allPass p [] = true
+allPass p (b ∷ bs) = eqb (judgeBytes p b) 0 && allPass (afterBytes p b) bs
+
+-- the home validator's state after records
+unfoldable pub homeAfterAll : HomeView → List (List ℕ) → HomeView
+homeAfterAll v [] = v
+homeAfterAll v (b ∷ bs) = homeAfterAll (homeValidator capacity .after v b) bs
+
+-- records pass the home validator one after the other
+unfoldable pub homeAllPass : HomeView → List (List ℕ) → Bool
+homeAllPass v [] = true
+homeAllPass v (b ∷ bs) = eqb (homeValidator capacity .judge v b) 0 && homeAllPass (homeValidator capacity .after v b) bs
+
+-- the figures of a state are those of the row
+unfoldable pub shows : PairState → List ℕ → List ℕ → ℕ → Bool
+shows p homes fars flying = every (same (p .home .balances) homes ∷ same (p .far .balances) fars ∷ eqb (inFlight p) flying ∷ [])
+
+-- two tests have one outcome
+abbrev pub sameTruth : Bool → Bool → Bool
+sameTruth true t = t
+sameTruth false t = not t
+
+-- the rules give the row
+unfoldable pub holds : Row → Bool
+holds (passRow n before now homes fars flying) =
+    every
+    (allPass caseOpening (before ++ now ∷ [])
+    ∷ shows (afterAll caseOpening (before ++ now ∷ [])) homes fars flying
+    ∷ []
+    )
+holds (refusalRow n before now number) =
+    every
+    (allPass caseOpening before
+    ∷ eqb (judgeBytes (afterAll caseOpening before) now) number
+    ∷ []
+    )
+holds (homeRow n before now number) =
+    every
+    (homeAllPass homeCaseOpening before
+    ∷ eqb (homeValidator capacity .judge (homeAfterAll homeCaseOpening before) now) number
+    ∷ []
+    )
+holds (openingRow n homes fars number) = eqb (pairOpeningRefusal homes fars) number
+holds (homeOpeningRow n homes farAccounts farTotal number) = eqb (homeOpeningRefusal homes farAccounts farTotal) number
+holds (stateRow room v accepted) = sameTruth (pairAccepts room v) accepted
+holds (homeStateRow room v accepted) = sameTruth (homeAccepts room v) accepted
+
+-- ## The table
+
+-- the bytes of a record with a good signature: kind, sender, receiver, number, amount
+unfoldable pub good : Kind → ℕ → ℕ → ℕ → ℕ → List ℕ
+good k s r n a = encoding (record { kind = k; sender = s; receiver = r; number = n; amount = a; verified = true })
+
+-- the same with a bad signature
+unfoldable pub bad : Kind → ℕ → ℕ → ℕ → ℕ → List ℕ
+bad k s r n a = encoding (record { kind = k; sender = s; receiver = r; number = n; amount = a; verified = false })
+
+-- the starred cases, in document 01's order
+unfoldable pub cases : List Row
+cases =
+    passRow 1 [] (good (Sending Home) 0 0 7 30) (70 ∷ 50 ∷ []) (20 ∷ []) 30
+    ∷ passRow 2 (good (Sending Home) 0 0 7 30 ∷ []) (good (Receiving Far) 0 0 7 30) (70 ∷ 50 ∷ []) (50 ∷ []) 0
+    ∷ refusalRow 3 (good (Sending Home) 0 0 7 30 ∷ good (Receiving Far) 0 0 7 30 ∷ []) (good (Receiving Far) 0 0 7 30) 24
+    ∷ refusalRow 4 (good (Sending Home) 0 0 7 30 ∷ []) (good (Receiving Far) 0 0 7 31) 31
+    ∷ passRow 5 [] (good (Local Home) 1 0 1 50) (150 ∷ 0 ∷ []) (20 ∷ []) 0
+    ∷ refusalRow 5 [] (good (Local Home) 1 0 1 51) 25
+    ∷ passRow 6 [] (good (Local Home) 0 0 1 100) (100 ∷ 50 ∷ []) (20 ∷ []) 0
+    ∷ refusalRow 6 [] (good (Local Home) 0 0 1 101) 25
+    ∷ refusalRow 7 [] (good (Local Home) 2 0 1 1) 22
+    ∷ refusalRow 8 [] (good (Local Home) 0 0 1 0) 21
+    ∷ refusalRow 8 [] (good (Local Home) 0 0 1 (2 ^ 63 - 1)) 25
+    ∷ refusalRow 8 [] (good (Local Home) 0 0 1 (2 ^ 63)) 21
+    ∷ homeRow 9 [] (good (Receiving Home) 0 0 1 20) 0
+    ∷ homeRow 9 [] (good (Receiving Home) 0 0 1 21) 32
+    ∷ homeRow 9 (good (Sending Home) 0 0 1 30 ∷ []) (good (Receiving Home) 0 0 2 50) 0
+    ∷ homeRow 9 (good (Sending Home) 0 0 1 30 ∷ []) (good (Receiving Home) 0 0 2 51) 32
+    ∷ refusalRow 10 (good (Local Home) 0 0 1 1 ∷ []) (bad (Local Home) 0 0 1 1) 23
+    ∷ refusalRow 11 [] (set (good (Local Home) 0 0 1 1) 24 2) 21
+    ∷ openingRow 12 ((2 ^ 63 - 1) ∷ []) (0 ∷ []) 0
+    ∷ openingRow 12 ((2 ^ 63 - 1) ∷ []) (1 ∷ []) 2
+    ∷ openingRow 12 ((2 ^ 63 - 1) ∷ 0 ∷ []) (0 ∷ []) 0
+    ∷ openingRow 12 ((2 ^ 63 - 1) ∷ 1 ∷ []) (0 ∷ []) 2
+    ∷ homeOpeningRow 12 ((2 ^ 63 - 1) ∷ []) 1 0 0
+    ∷ homeOpeningRow 12 ((2 ^ 63 - 1) ∷ []) 1 1 2
+    ∷ []
+
+-- ## Rows of our own
+
+-- neighbouring refusals where both are due: the earlier is given (Refusals: order)
+unfoldable pub orderRows : List Row
+orderRows =
+    refusalRow 0 [] (good (Local Home) 2 2 1 0) 21
+    ∷ refusalRow 0 [] (bad (Local Home) 2 0 1 1) 22
+    ∷ refusalRow 0 [] (bad (Local Home) 0 2 1 1) 22
+    ∷ refusalRow 0 (good (Sending Home) 0 0 1 1 ∷ []) (bad (Sending Home) 0 0 1 1) 23
+    ∷ refusalRow 0 (good (Local Home) 0 0 1 1 ∷ []) (good (Local Home) 0 0 1 101) 24
+    ∷ refusalRow 0 (good (Local Far) 0 0 1 1 ∷ []) (good (Receiving Far) 0 0 1 1) 24
+    ∷ homeRow 0 [] (good (Local Far) 0 0 1 0) 21
+    ∷ homeRow 0 [] (good (Local Far) 2 2 1 1) 33
+    ∷ homeRow 0 [] (bad (Local Home) 2 0 1 1) 22
+    ∷ homeRow 0 [] (bad (Receiving Home) 0 2 1 1) 22
+    ∷ homeRow 0 (good (Local Home) 0 0 1 1 ∷ []) (bad (Local Home) 0 0 1 1) 23
+    ∷ homeRow 0 (good (Local Home) 0 0 1 1 ∷ []) (good (Sending Home) 0 0 1 101) 24
+    ∷ homeRow 0 (good (Local Home) 0 0 1 1 ∷ []) (good (Receiving Home) 0 0 1 21) 24
+    ∷ []
+
+-- receivings that differ from the sending in one field, or find a local; number 0 is used like any other (Matches and sums)
+unfoldable pub nearRows : List Row
+nearRows =
+    refusalRow 0 (good (Sending Home) 0 0 7 30 ∷ []) (good (Receiving Far) 1 0 7 30) 31
+    ∷ refusalRow 0 (good (Sending Far) 0 0 7 20 ∷ []) (good (Receiving Home) 0 1 7 20) 31
+    ∷ refusalRow 0 (good (Sending Home) 0 0 7 30 ∷ []) (good (Receiving Far) 0 0 8 30) 31
+    ∷ refusalRow 0 (good (Local Home) 0 0 7 30 ∷ []) (good (Receiving Far) 0 0 7 30) 31
+    ∷ refusalRow 0 [] (good (Receiving Far) 0 0 0 30) 31
+    ∷ refusalRow 0 [] (good (Sending Home) 0 1 1 1) 22
+    ∷ passRow 0 [] (good (Sending Far) 0 1 1 1) (100 ∷ 50 ∷ []) (19 ∷ []) 1
+    ∷ homeRow 0 [] (good (Sending Home) 0 1 1 1) 22
+    ∷ homeRow 0 [] (good (Local Home) 1 0 1 51) 25
+    ∷ passRow 0 [] (good (Sending Home) 1 0 0 50) (100 ∷ 0 ∷ []) (20 ∷ []) 50
+    ∷ refusalRow 0 (good (Sending Home) 1 0 0 50 ∷ []) (good (Local Home) 0 0 0 1) 24
+    ∷ []
+
+-- 1 before 2: 1 to 56 accounts on each ledger
+unfoldable pub openingRows : List Row
+openingRows =
+    openingRow 0 (replicate 56 1) (replicate 56 1) 0
+    ∷ openingRow 0 (replicate 57 1) (1 ∷ []) 1
+    ∷ openingRow 0 (1 ∷ []) (replicate 57 1) 1
+    ∷ openingRow 0 [] (1 ∷ []) 1
+    ∷ openingRow 0 (1 ∷ []) [] 1
+    ∷ openingRow 0 (replicate 57 (2 ^ 63)) (1 ∷ []) 1
+    ∷ homeOpeningRow 0 (replicate 56 1) 56 1 0
+    ∷ homeOpeningRow 0 (replicate 57 1) 1 1 1
+    ∷ homeOpeningRow 0 (1 ∷ []) 57 1 1
+    ∷ homeOpeningRow 0 (1 ∷ []) 0 (2 ^ 63) 1
+    ∷ []
+
+-- a record of kind k with number n and amount a, from account s to account r, and its signature
+abbrev pub heldRecord : Kind → ℕ → ℕ → ℕ → ℕ → Bool → Record
+heldRecord k s r n a v = record { kind = k; sender = s; receiver = r; number = n; amount = a; verified = v }
+
+-- the opening with these records held and with this supply
+abbrev pub pairHolding : List Record → List Record → ℕ → PairView
+pairHolding homes fars supply =
+    record {
+      pair =
+          record {
+            home = record { balances = 100 ∷ 50 ∷ []; passed = homes };
+            far = record { balances = 20 ∷ []; passed = fars };
+          };
+      supply = supply;
+    }
+
+-- the same for the home validator
+abbrev pub homeHolding : List Record → ℕ → ℕ → ℕ → HomeView
+homeHolding homes farAccounts pool supply =
+    record { home = record { balances = 100 ∷ 50 ∷ []; passed = homes }; farAccounts = farAccounts; farPool = pool; supply = supply }
+
+-- what refusal 3 has something against, one condition after the other, beside states that are accepted
+unfoldable pub stateRows : List Row
+stateRows =
+    stateRow 2 (pairHolding [] [] 170) true
+    ∷ stateRow 2 (pairHolding (heldRecord (Sending Home) 0 0 7 30 true ∷ []) [] 200) true
+    ∷ stateRow 2 (pairHolding (heldRecord (Receiving Home) 0 0 8 5 true ∷ []) (heldRecord (Sending Far) 0 0 8 5 true ∷ []) 170) true
+    ∷ stateRow 2 (pairOpened [] (20 ∷ [])) false
+    ∷ stateRow 2 (pairOpened (20 ∷ []) []) false
+    ∷ stateRow 2 (pairOpened (replicate 57 1) (20 ∷ [])) false
+    ∷ stateRow 2 (pairOpened (20 ∷ []) (replicate 57 1)) false
+    ∷ stateRow 0 (pairHolding (heldRecord (Local Home) 0 1 1 1 true ∷ []) [] 170) false
+    ∷ stateRow 0 (pairHolding [] (heldRecord (Local Far) 0 0 1 1 true ∷ []) 170) false
+    ∷ stateRow 2 (pairOpened ((2 ^ 63) ∷ []) (0 ∷ [])) false
+    ∷ stateRow 2 (pairHolding (heldRecord (Local Home) 0 1 1 0 true ∷ []) [] 170) false
+    ∷ stateRow 2 (pairHolding (heldRecord (Local Home) 0 1 1 (2 ^ 63) true ∷ []) [] 170) false
+    ∷ stateRow 2 (pairHolding (heldRecord (Local Home) 2 1 1 1 true ∷ []) [] 170) false
+    ∷ stateRow 2 (pairHolding (heldRecord (Local Home) 0 2 1 1 true ∷ []) [] 170) false
+    ∷ stateRow 2 (pairHolding (heldRecord (Sending Home) 0 1 1 1 true ∷ []) [] 171) false
+    ∷ stateRow 2 (pairHolding (heldRecord (Local Home) 0 1 1 1 false ∷ []) [] 170) false
+    ∷ stateRow 2 (pairHolding (heldRecord (Local Home) 0 1 1 1 true ∷ heldRecord (Local Home) 1 0 1 2 true ∷ []) [] 170) false
+    ∷ stateRow 2 (pairHolding [] (heldRecord (Local Far) 0 0 1 1 true ∷ heldRecord (Local Far) 0 0 1 2 true ∷ []) 170) false
+    ∷ stateRow 2 (pairHolding (heldRecord (Receiving Home) 0 0 8 5 true ∷ []) [] 170) false
+    ∷ stateRow 2 (pairHolding [] (heldRecord (Receiving Far) 0 0 8 5 true ∷ []) 170) false
+    ∷ stateRow 2 (pairHolding (heldRecord (Local Far) 0 0 1 1 true ∷ []) [] 170) false
+    ∷ stateRow 2 (pairHolding [] (heldRecord (Local Home) 0 0 1 1 true ∷ []) 170) false
+    ∷ stateRow 2 (pairHolding [] [] 169) false
+    ∷ stateRow 2 (pairHolding [] [] 171) false
+    ∷ homeStateRow 1 (homeHolding [] 1 20 170) true
+    ∷ homeStateRow 1 (homeHolding (heldRecord (Receiving Home) 0 0 8 5 true ∷ []) 1 20 170) true
+    ∷ homeStateRow 1 (homeHolding [] 0 20 170) false
+    ∷ homeStateRow 1 (homeHolding [] 57 20 170) false
+    ∷ homeStateRow 0 (homeHolding (heldRecord (Local Home) 0 1 1 1 true ∷ []) 1 20 170) false
+    ∷ homeStateRow 1 (homeHolding [] 1 (2 ^ 63 - 150) (2 ^ 63)) false
+    ∷ homeStateRow 1 (homeHolding (heldRecord (Local Home) 0 1 1 0 true ∷ []) 1 20 170) false
+    ∷ homeStateRow 1 (homeHolding (heldRecord (Receiving Home) 1 0 8 5 true ∷ []) 1 20 170) false
+    ∷ homeStateRow 1 (homeHolding (heldRecord (Local Home) 0 1 1 1 false ∷ []) 1 20 170) false
+    ∷ homeStateRow 2 (homeHolding (heldRecord (Local Home) 0 1 1 1 true ∷ heldRecord (Local Home) 1 0 1 2 true ∷ []) 1 20 170) false
+    ∷ homeStateRow 1 (homeHolding (heldRecord (Local Far) 0 0 1 1 true ∷ []) 1 20 170) false
+    ∷ homeStateRow 1 (homeHolding [] 1 19 170) false
+    ∷ homeStateRow 1 (homeHolding [] 1 21 170) false
+    ∷ []
+
+-- ## The claims
+
+-- every starred case holds
+unfoldable pub CasesHold : Type 0
+CasesHold = all holds cases ≡ true
+
+-- and every row of our own
+unfoldable pub FurtherRowsHold : Type 0
+FurtherRowsHold = all holds (orderRows ++ (nearRows ++ (openingRows ++ stateRows))) ≡ true

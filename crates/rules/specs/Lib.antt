@@ -1,0 +1,9 @@
+-- The rules, the validators, their runs, and what is claimed of them. Assumes nothing.
+
+pub mod Lists
+pub mod Rules
+pub mod Calls
+pub mod PairValidator
+pub mod HomeValidator
+pub mod Cases
+pub mod Beyond
