@@ -1,11 +1,12 @@
 -- Demand 3, second half: home never pays out above the far pool, at any beginning of the passed records of a run.
 -- Assumes nothing.
+use Rattle.wire.specs.BigEndian.{All}
 use Prim.Native.Nat.{ℕ, _+_, _≤_}
 use mathlib.Core.Path.{_≡_, refl, sym, ap, _∙_}
-use mathlib.Core.Bool.{cond}
+use mathlib.Core.Bool.{cond, false}
 use mathlib.Core.List.{List, [], _∷_, _++_}
 use native.Mathlib.Omega.{arith}
-use Rattle.answers.proofs.Answers.{or-else-zero}
+use Rattle.answers.proofs.Answers.{or-else-zero, refuse-zero}
 use Rattle.ledgers.specs.Ledgers.{ledgerOf}
 use Rattle.records.specs.Records.{reading}
 use Rattle.rules.proofs.HomeAccepted.{home-only, home-run-accepted}
@@ -15,7 +16,7 @@ use Rattle.rules.proofs.Refusals.{HomePassable, home-judge-none}
 use Rattle.rules.proofs.Runs.{in-turn-first, in-turn-rest, keep-in-turn, Reached, reached-run}
 use Rattle.rules.specs.Calls.{run, passedRecords, ifOn, readOn, recordsOn, InTurn, stateAfter}
 use Rattle.rules.specs.HomeValidator.{HomeView, sent, received, farPoolOf, homeJudgeRecord, homeJudge, poolAfter, homeAfter}
-use Rattle.rules.specs.HomeValidator.{homeValidator, homeOpened, WithinPool}
+use Rattle.rules.specs.HomeValidator.{homeValidator, homeOpened, WithinPool, readsFar, isFar, HomeRecord}
 use Rattle.rules.specs.Lists.{sum}
 use Rattle.rules.specs.Rules.{Ledger, Home, Far, Kind, Local, Sending, Receiving, Record, Reading, Read, Unreadable, isSending}
 use Rattle.rules.specs.Rules.{isReceiving}
@@ -95,6 +96,20 @@ receiving-within capacity v b r j q k =
     let h : homeJudge capacity v (Read r) ≡ 0 = sym (ap (homeJudge capacity v) q) ∙ j in
     home-judge-none v r (Receiving Home) k (or-else-zero (homeJudgeRecord v r) _ h .0) .1
 
+-- what passes is no far record
+judged-home : (capacity : ℕ) (v : HomeView) (x : Reading) → homeJudge capacity v x ≡ 0 → readsFar x ≡ false
+unfolding homeJudgeRecord
+judged-home capacity v Unreadable h = refl
+judged-home capacity v (Read r) h =
+    refuse-zero (isFar (ledgerOf (r .kind))) 33 _ (omega arith) (or-else-zero (homeJudgeRecord v r) _ h .0) .0
+
+-- nor is any of the records that pass in turn
+all-home : (capacity : ℕ) (v : HomeView) (bs : List (List ℕ)) → InTurn (homeValidator capacity) v bs → All HomeRecord bs
+unfolding InTurn All
+all-home capacity v [] h = tt
+all-home capacity v (b ∷ bs) h =
+    (judged-home capacity v (reading b) (h .0), all-home capacity (homeAfter v (reading b)) bs (h .1))
+
 -- ## The theorem
 
 -- demand 3, the bound of its second half
@@ -115,6 +130,7 @@ within-pool capacity homes farAccounts farTotal ok ds =
       figure =
           ap (λ (v : HomeView). v .farPool) (reached .state)
           ∙ pooled-figure farTotal _ _ (pooled-all capacity homes farAccounts farTotal _ (reached .in-turn));
+      home-records = all-home capacity v₀ _ (reached .in-turn);
       table =
           ap (λ (v : HomeView). v .home .passed) (reached .state)
           ∙ pooled-all capacity homes farAccounts farTotal _ (reached .in-turn) .records;

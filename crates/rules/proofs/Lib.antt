@@ -13,6 +13,7 @@ pub mod PairRules
 pub mod PairConserved
 pub mod HomeAccepted
 pub mod HomePool
+pub mod HomeAnswers
 pub mod HomeSound
 pub mod Lacking
 pub mod FarList

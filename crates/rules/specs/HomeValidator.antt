@@ -1,6 +1,6 @@
 -- The home validator (document 01: guard), which sees the home ledger's records only, what it accepts and how it opens, and
 -- what is claimed of it: the second half of demand 3. Assumes nothing.
-use Prim.Native.Nat.{ℕ, _+_, _-_, _^_, _≤_}
+use Prim.Native.Nat.{ℕ, _+_, _-_, _^_, _≤_, suc, _<_}
 use mathlib.Core.Path.{_≡_}
 use mathlib.Core.Bool.{Bool, true, false, cond}
 use mathlib.Core.List.{List, [], _∷_, _++_}
@@ -10,14 +10,14 @@ use lib.ListN.{length}
 use Rattle.answers.specs.Answers.{refuse, orElse}
 use Rattle.ledgers.specs.Ledgers.{ledgerOf}
 use Rattle.records.specs.Records.{reading}
-use Rattle.rules.specs.Calls.{Call, handed, CallBytes, Checker, call, run, passedRecords, recordsOn, KeepsAccepted}
+use Rattle.rules.specs.Calls.{Call, handed, CallBytes, Checker, call, run, passedRecords, recordsOn, KeepsAccepted, one}
 use Rattle.rules.specs.Lists.{sum, all, Interleaving, total}
 use Rattle.rules.specs.PairValidator.{roomRefusal, countAllowed, supplyAllowed, heldAllowed, unshared, standsUnder, openingRefusal}
 use Rattle.rules.specs.Rules.{Ledger, Home, Far, Kind, Local, Sending, Receiving, Record, Reading, Read, Unreadable, LedgerState}
 use Rattle.rules.specs.Rules.{PairState, newLedger, opened, isSending, isReceiving, firstRefusal, fundsRefusal, judge, held}
 use Rattle.rules.specs.Rules.{after, Passes}
 use Rattle.wire.specs.BigEndian.{All, Bytes, every}
-use Rattle.answers.specs.declared.Answer.the-variants.{Passed}
+use Rattle.answers.specs.declared.Answer.the-variants.{Passed, Refused}
 
 -- ## The state
 
@@ -193,6 +193,8 @@ pub record WithinPoolAfter (capacity : ℕ) (homes : List ℕ) (farAccounts farT
   -- the state's far pool is the one worked out
   pub figure : run (homeValidator capacity) (homeOpened homes farAccounts farTotal) ds .farPool
       ≡ farPoolOf farTotal (recordsOn Home (passedRecords (homeValidator capacity) (homeOpened homes farAccounts farTotal) ds))
+  -- every passed record is a home one
+  pub home-records : All HomeRecord (passedRecords (homeValidator capacity) (homeOpened homes farAccounts farTotal) ds)
   -- the table holds the passed records, in order
   pub table : run (homeValidator capacity) (homeOpened homes farAccounts farTotal) ds .home .passed
       ≡ recordsOn Home (passedRecords (homeValidator capacity) (homeOpened homes farAccounts farTotal) ds)
@@ -208,3 +210,23 @@ WithinPool =
 -- a call in any accepted state, reached by a run or not, hands back an accepted one
 unfoldable pub HomeKeepsAccepted : Type 0
 HomeKeepsAccepted = (capacity : ℕ) → KeepsAccepted (homeValidator capacity)
+
+-- ## A call with one record
+
+-- what holds of it in an accepted state: each refusal with its own number, 41 last, and a pass with the state that follows
+pub record HomeAnswers (capacity : ℕ) (v : HomeView) (b : List ℕ) : Type 0 where
+  -- what does not read is refused 21
+  pub unreadable : reading b ≡ Unreadable → call (homeValidator capacity) v (one b) ≡ record { answer = Refused 21 0; state = v }
+  -- a record that 33, 22, 23, 24, 25 or 32 refuses is refused with that number
+  pub refuses-as : (r : Record) (n : ℕ) → reading b ≡ Read r → homeJudgeRecord v r ≡ suc n
+      → call (homeValidator capacity) v (one b) ≡ record { answer = Refused (suc n) 0; state = v }
+  -- any other is refused 41 where the table is full
+  pub refuses-full : (r : Record) → reading b ≡ Read r → homeJudgeRecord v r ≡ 0 → capacity ≤ length (v .home .passed)
+      → call (homeValidator capacity) v (one b) ≡ record { answer = Refused 41 0; state = v }
+  -- and else passes
+  pub passes : (r : Record) → reading b ≡ Read r → homeJudgeRecord v r ≡ 0 → length (v .home .passed) < capacity
+      → call (homeValidator capacity) v (one b) ≡ record { answer = Passed; state = homeAfter v (Read r) }
+
+-- so it is in every state that the home validator accepts, and for every byte string
+unfoldable pub HomeAnswersAll : Type 0
+HomeAnswersAll = (capacity : ℕ) (v : HomeView) → homeAccepts capacity v ≡ true → (b : List ℕ) → HomeAnswers capacity v b
