@@ -26,7 +26,9 @@ unfolding HomeAnswersAll
 home-answers capacity v ok b =
     record {
       unreadable = λ q. one-refused (homeValidator capacity) v b 20 ok (ap (homeJudge capacity v) q);
-      refuses-as = λ r n q j. one-refused (homeValidator capacity) v b n ok (judged capacity v b r q (suc n) _ j (λ i. roomRefusal capacity (v .home .passed)));
+      refuses-as = λ r n q j.
+          let room : ℕ = roomRefusal capacity (v .home .passed) in
+          one-refused (homeValidator capacity) v b n ok (judged capacity v b r q (suc n) room j (λ i. room));
       refuses-full = λ r q j f.
           one-refused (homeValidator capacity) v b 40 ok (judged capacity v b r q 0 41 j (full-room capacity (v .home .passed) f));
       passes = λ r q j l.
