@@ -19,3 +19,4 @@ pub mod Lacking
 pub mod FarList
 pub mod HomeExactly
 pub mod ValidityLanguage
+pub mod NeverThree

@@ -1,6 +1,6 @@
 -- Laws of sums, tests and balances. Assumes nothing.
 use Prim.Native.Nat.{ℕ, zero, suc, _+_, _-_, _≤_, _<_}
-use mathlib.Core.Path.{_≡_, refl, _∙_}
+use mathlib.Core.Path.{_≡_, refl, sym, _∙_}
 use mathlib.Core.Bool.{Bool, true, false, _||_}
 use mathlib.Core.List.{List, [], _∷_, _++_}
 use native.Mathlib.Omega.{arith}
@@ -146,3 +146,18 @@ drop-raised k balances i a h = drop-set-lt k balances i (getD balances i 0 + a) 
 pub drop-lowered : (k : ℕ) (balances : List ℕ) (i a : ℕ) → i < k → drop k (lowered balances i a) ≡ drop k balances
 unfolding lowered
 drop-lowered k balances i a h = drop-set-lt k balances i (getD balances i 0 - a) h
+
+-- ## Beside these
+
+-- two tests that imply each other are the same
+pub same-tests : (p q : Bool) → (p ≡ true → q ≡ true) → (q ≡ true → p ≡ true) → p ≡ q
+same-tests true q f g = sym (f refl)
+same-tests false true f g = g refl
+same-tests false false f g = refl
+
+-- a balance is at most all of them
+pub balance-total : (xs : List ℕ) (i : ℕ) → getD xs i 0 ≤ total xs
+unfolding sum
+balance-total [] i = omega arith
+balance-total (x ∷ xs) zero = omega arith
+balance-total (x ∷ xs) (suc i) = omega (arith, balance-total xs i)

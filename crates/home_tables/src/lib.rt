@@ -1,0 +1,187 @@
+// The table of the home ledger in columns lent as slices, with what is known of the far ledger: what the home validator judges a
+// record and accepts a state by. Each function says in its `requires` that the columns are long enough.
+ghost use Prim.Native.Nat.{ℕ, _+_, _≤_};
+ghost use mathlib.Core.Path.{_≡_};
+ghost use lib.Dec.{eqb};
+ghost use lib.ListN.{length, getD};
+ghost use Rattle.home_tables.specs.Tables.{homeBounds};
+ghost use Rattle.home_tables.specs.Judging.{accountsOn, homeLastAt, homeJudgeAt, acceptsHomeAt};
+ghost use Rattle.ledgers.specs.Limits.{accountLimit, capacity, maxAmount};
+ghost use Rattle.rules.specs.HomeValidator.{isFar, poolRefusal};
+ghost use Rattle.table_checks.specs.Chains.{valueFrom};
+ghost use Rattle.tables.specs.Places.{apartAt, sumAt};
+use answers::first_refusal;
+use answers::refusal_if;
+use ledgers::Ledger;
+use records::Record;
+use table_checks::Wide;
+use table_checks::add_balances;
+use table_checks::chained;
+use table_checks::rows_allowed;
+use table_checks::zeros;
+use tables::first_refusals;
+use tables::funds_refusal;
+use tables::is_count_allowed;
+use tables::is_receiving;
+
+// ## Judging a record
+
+fn is_far(l: Ledger) -> bool
+    ensures { λ b. ⌜ b ≡ isFar l ⌝ }
+{
+    match l {
+        Ledger::Home => false,
+        Ledger::Far => true,
+    }
+}
+
+// The number of accounts of a ledger.
+fn accounts_on(l: Ledger, homes: usize, fars: usize) -> usize
+    ensures { λ n. ⌜ n ≡ accountsOn homes fars l ⌝ }
+{
+    match l {
+        Ledger::Home => homes,
+        Ledger::Far => fars,
+    }
+}
+
+// 32, or 0.
+fn pool_refusal(pool: u64, r: Record) -> u32
+    ensures { λ n. ⌜ n ≡ poolRefusal pool r ⌝ }
+{
+    refusal_if(pool < r.amount, 32)
+}
+
+// 25 or 32, or 0.
+fn last_refusal(balances: &[u64], homes: usize, pool: u64, r: Record) -> u32
+    requires { ⌜ homes ≤ length (now balances) ⌝ }
+    ensures { λ n. ⌜ n ≡ homeLastAt (now (balances .entry)) homes pool r (r .kind) ⌝ }
+{
+    let kind = r.kind;
+    if is_receiving(kind) {
+        return pool_refusal(pool, r);
+    }
+    funds_refusal(balances, 0, homes, r)
+}
+
+// The refusals of a record that was read, 33 and 22 to 41 in order, or 0.
+pub fn judge<'a>(
+    homes: usize,
+    fars: usize,
+    pool: u64,
+    count: usize,
+    balances: &'a [u64],
+    numbers: &'a [u64],
+    r: Record,
+) -> u32
+    requires { ⌜ (homes ≤ length (now balances)) × (count ≤ length (now numbers)) ⌝ }
+    ensures { λ n. ⌜ n ≡ homeJudgeAt homes fars pool count (now (balances .entry)) (now (numbers .entry)) r ⌝ }
+{
+    let kind = r.kind;
+    let far = refusal_if(is_far(kind.ledger()), 33);
+    let senders = accounts_on(kind.sender_ledger(), homes, fars);
+    let receivers = accounts_on(kind.receiver_ledger(), homes, fars);
+    let last = last_refusal(balances, homes, pool, r);
+    let full = refusal_if(Ledger::CAPACITY <= count, 41);
+    first_refusal(
+        far,
+        first_refusals(
+            numbers,
+            0,
+            count,
+            senders,
+            receivers,
+            r,
+            first_refusal(last, full),
+        ),
+    )
+}
+
+// ## 3
+
+// Counts of accounts and of held records, and the supply.
+fn is_bounded(homes: usize, fars: usize, count: usize, supply: u64) -> bool
+    ensures { λ b. ⌜ b ≡ homeBounds homes fars count supply ⌝ }
+{
+    if !is_count_allowed(homes) {
+        return false;
+    }
+    if !is_count_allowed(fars) {
+        return false;
+    }
+    if Ledger::CAPACITY < count {
+        return false;
+    }
+    supply <= Record::MAX_AMOUNT
+}
+
+// Balances and the far pool, against the supply.
+fn adds_up(balances: &[u64], homes: usize, pool: u64, supply: u64) -> bool
+    requires { ⌜ (homes ≤ length (now balances)) × (homes ≤ accountLimit) × (supply ≤ maxAmount) ⌝ }
+    ensures { λ b. ⌜ b ≡ eqb (sumAt (λ (i : ℕ). getD (now (balances .entry)) i 0) 0 homes + pool) supply ⌝ }
+{
+    let zero = Wide { high: 0, low: 0 };
+    let sum = add_balances(balances, 0, homes, zero).add(pool);
+    if sum.high != 0 {
+        return false;
+    }
+    sum.low == supply
+}
+
+// Whether no two held records have one number.
+fn are_apart(numbers: &[u64], count: usize) -> bool
+    requires { ⌜ (count ≤ length (now numbers)) × (count ≤ capacity) ⌝ }
+    ensures { λ b. ⌜ b ≡ apartAt (valueFrom (now (numbers .entry)) 0) 0 count ⌝ }
+{
+    let chain = chained(numbers, 0, count);
+    chain.apart
+}
+
+// All that 3 asks of a state.
+pub fn is_accepted<'a>(
+    supply: u64,
+    pool: u64,
+    homes: usize,
+    fars: usize,
+    count: usize,
+    balances: &'a [u64],
+    kinds: &'a [u8],
+    ledgers: &'a [u8],
+    senders: &'a [u16],
+    receivers: &'a [u16],
+    numbers: &'a [u64],
+    amounts: &'a [u64],
+    verdicts: &'a [u8],
+) -> bool
+    requires { ⌜ (length (now balances) ≡ accountLimit) × (length (now kinds) ≡ capacity) × (length (now ledgers) ≡ capacity)
+        × (length (now senders) ≡ capacity) × (length (now receivers) ≡ capacity) × (length (now numbers) ≡ capacity)
+        × (length (now amounts) ≡ capacity) × (length (now verdicts) ≡ capacity) ⌝ }
+    ensures { λ b. ⌜ b ≡ acceptsHomeAt supply pool homes fars count (now (balances .entry)) (now (kinds .entry)) (now (ledgers .entry))
+        (now (senders .entry)) (now (receivers .entry)) (now (numbers .entry)) (now (amounts .entry)) (now (verdicts .entry)) ⌝ }
+{
+    if !is_bounded(homes, fars, count, supply) {
+        return false;
+    }
+    if !zeros(balances, homes, Ledger::ACCOUNTS - homes) {
+        return false;
+    }
+    if !rows_allowed(
+        kinds,
+        ledgers,
+        senders,
+        receivers,
+        amounts,
+        verdicts,
+        0,
+        count,
+        Ledger::HOME,
+        homes,
+        fars,
+    ) {
+        return false;
+    }
+    if !are_apart(numbers, count) {
+        return false;
+    }
+    adds_up(balances, homes, pool, supply)
+}

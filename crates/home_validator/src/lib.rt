@@ -1,0 +1,267 @@
+// The home validator (document 01: guard), which sees the home ledger alone and never lets more come back than can have gone over:
+// its state, and the calls that makers use. A call takes the state by value and hands it back beside the answer; inside a call the
+// columns are lent and stored to in place. No call asks anything of the state or of the bytes that it is given.
+ghost use Prim.Native.Nat.{ℕ, _+_};
+ghost use mathlib.Core.Path.{_≡_};
+ghost use Rattle.answers.specs.Answers.{answer, unlessRefused};
+ghost use Rattle.home_tables.specs.Tables.{acceptsHome};
+ghost use Rattle.home_validator.specs.State.{homeTablesOf, homeChecker, homeOpenedState, homeZeroState, homeFiguresOf};
+ghost use Rattle.inputs.specs.Inputs.{callOf};
+ghost use Rattle.rules.specs.Calls.{call};
+ghost use Rattle.rules.specs.HomeValidator.{homeOpeningRefusal};
+ghost use Rattle.rules.specs.Lists.{total};
+use answers::Answer;
+use home_tables::is_accepted;
+use home_tables::judge;
+use inputs::Input;
+use inputs::is_left;
+use inputs::part_end;
+use ledgers::Ledger;
+use records::Reading;
+use records::Record;
+use table_checks::Wide;
+use table_checks::add_balances;
+use tables::copy_numbers;
+use tables::entry_of;
+use tables::is_count_allowed;
+
+// The state. A held record is one entry of each column. Entries at or beyond the count are not looked at and stay as they are.
+#[repr(C)]
+pub struct HomeValidator {
+    // Document 01: stake.
+    pub supply: u64,
+    // Document 01: far due.
+    pub pool: u64,
+    // The number of home accounts.
+    pub homes: usize,
+    // The number of far accounts.
+    pub fars: usize,
+    // The number of held records.
+    pub count: usize,
+    pub balances: [u64; Ledger::ACCOUNTS],
+    pub numbers: [u64; Ledger::CAPACITY],
+    pub amounts: [u64; Ledger::CAPACITY],
+    pub senders: [u16; Ledger::CAPACITY],
+    pub receivers: [u16; Ledger::CAPACITY],
+    pub kinds: [u8; Ledger::CAPACITY],
+    pub ledgers: [u8; Ledger::CAPACITY],
+    pub verdicts: [u8; Ledger::CAPACITY],
+}
+
+// The answer, with the state beside it.
+pub struct HomeOutcome {
+    pub answer: Answer,
+    pub state: HomeValidator,
+}
+
+// The home total and the far pool, beside the answer.
+pub struct HomeFigures {
+    pub answer: Answer,
+    pub home: u64,
+    pub pool: u64,
+}
+
+// The refusal of an opening, or 0 and the supply.
+pub struct Opening {
+    pub refusal: u32,
+    pub supply: u64,
+}
+
+fn judge_opening(balances: &[u64], fars: usize, far_total: u64) -> Opening
+    ensures refuses { λ o. ⌜ o .refusal ≡ homeOpeningRefusal (now (balances .entry)) fars «far_total» ⌝ }
+    ensures supplies { λ o. ⌜ (o .refusal ≡ 0 → o .supply ≡ total (now (balances .entry)) + «far_total») ⌝ }
+{
+    if !is_count_allowed(balances.len()) {
+        return Opening {
+            refusal: 1,
+            supply: 0,
+        };
+    }
+    if !is_count_allowed(fars) {
+        return Opening {
+            refusal: 1,
+            supply: 0,
+        };
+    }
+    let zero = Wide { high: 0, low: 0 };
+    let supply = add_balances(balances, 0, balances.len(), zero).add(far_total);
+    if supply.high != 0 {
+        return Opening {
+            refusal: 2,
+            supply: 0,
+        };
+    }
+    Opening {
+        refusal: 0,
+        supply: supply.low,
+    }
+}
+
+impl HomeValidator {
+    // An opening with the home balances, the number of far accounts and the far total: 1, 2. Beside a refusal stands the all-zero
+    // state, which every call refuses.
+    pub fn open(balances: &[u64], fars: usize, far_total: u64) -> HomeOutcome
+        ensures answers { λ r. ⌜ r .answer ≡ answer (homeOpeningRefusal (now (balances .entry)) fars «far_total») 0 ⌝ }
+        ensures hands_back { λ r. ⌜ r .state ≡ unlessRefused (homeOpeningRefusal (now (balances .entry)) fars «far_total»)
+            (homeOpenedState (now (balances .entry)) fars «far_total») homeZeroState ⌝ }
+    {
+        let mut state = HomeValidator {
+            supply: 0,
+            pool: 0,
+            homes: 0,
+            fars: 0,
+            count: 0,
+            balances: [0; Ledger::ACCOUNTS],
+            numbers: [0; Ledger::CAPACITY],
+            amounts: [0; Ledger::CAPACITY],
+            senders: [0; Ledger::CAPACITY],
+            receivers: [0; Ledger::CAPACITY],
+            kinds: [0; Ledger::CAPACITY],
+            ledgers: [0; Ledger::CAPACITY],
+            verdicts: [0; Ledger::CAPACITY],
+        };
+        let opening = judge_opening(balances, fars, far_total);
+        if opening.refusal != 0 {
+            return HomeOutcome {
+                answer: Answer::Refused {
+                    number: opening.refusal,
+                    place: 0,
+                },
+                state,
+            };
+        }
+        let mut held = [0u64; Ledger::ACCOUNTS];
+        copy_numbers(balances, 0, &mut held);
+        state.supply = opening.supply;
+        state.pool = far_total;
+        state.homes = balances.len();
+        state.fars = fars;
+        state.balances = held;
+        HomeOutcome {
+            answer: Answer::Passed,
+            state,
+        }
+    }
+
+    // A call with one record or with a list of records: 3, then of each record 21, 33 and 22 to 41. A refusal hands back the state
+    // as it came.
+    pub fn step(mut self, input: Input, bytes: &[u8]) -> HomeOutcome
+        ensures answers { λ r. ⌜ r .answer ≡ call homeChecker self (callOf input (now (bytes .entry))) .answer ⌝ }
+        ensures hands_back { λ r. ⌜ r .state ≡ call homeChecker self (callOf input (now (bytes .entry))) .state ⌝ }
+    {
+        if !is_accepted(
+            self.supply,
+            self.pool,
+            self.homes,
+            self.fars,
+            self.count,
+            &self.balances,
+            &self.kinds,
+            &self.ledgers,
+            &self.senders,
+            &self.receivers,
+            &self.numbers,
+            &self.amounts,
+            &self.verdicts,
+        ) {
+            return HomeOutcome {
+                answer: Answer::Refused {
+                    number: 3,
+                    place: 0,
+                },
+                state: self,
+            };
+        }
+        let before = self;
+        let mut at = 0;
+        let mut i: u64 = 0;
+        while is_left(input, i, at, bytes.len()) {
+            let end = part_end(input, at, bytes.len());
+            let Reading::Read(r) = Record::read(&bytes[at..end]) else {
+                return HomeOutcome {
+                    answer: Answer::Refused {
+                        number: 21,
+                        place: i,
+                    },
+                    state: before,
+                };
+            };
+            let refusal = judge(
+                self.homes,
+                self.fars,
+                self.pool,
+                self.count,
+                &self.balances,
+                &self.numbers,
+                r,
+            );
+            if refusal != 0 {
+                return HomeOutcome {
+                    answer: Answer::Refused {
+                        number: refusal,
+                        place: i,
+                    },
+                    state: before,
+                };
+            }
+            let entry = entry_of(r, 0);
+            let from = entry.from;
+            let to = entry.to;
+            let paying = self.balances[from];
+            self.balances[from] = paying - entry.taken;
+            let paid = self.balances[to];
+            self.balances[to] = paid + entry.given;
+            let place = self.count;
+            self.kinds[place] = entry.kind;
+            self.ledgers[place] = entry.ledger;
+            self.senders[place] = r.sender;
+            self.receivers[place] = r.receiver;
+            self.numbers[place] = r.number;
+            self.amounts[place] = r.amount;
+            self.verdicts[place] = 1;
+            self.count = place + 1;
+            self.pool = self.pool + entry.taken - entry.given;
+            at = end;
+            i += 1;
+        }
+        HomeOutcome {
+            answer: Answer::Passed,
+            state: self,
+        }
+    }
+
+    // The home total and the far pool: 3, with zeros.
+    pub fn figures(self) -> HomeFigures
+        ensures { λ r. ⌜ r ≡ homeFiguresOf (acceptsHome (homeTablesOf self)) (homeTablesOf self) ⌝ }
+    {
+        if !is_accepted(
+            self.supply,
+            self.pool,
+            self.homes,
+            self.fars,
+            self.count,
+            &self.balances,
+            &self.kinds,
+            &self.ledgers,
+            &self.senders,
+            &self.receivers,
+            &self.numbers,
+            &self.amounts,
+            &self.verdicts,
+        ) {
+            return HomeFigures {
+                answer: Answer::Refused {
+                    number: 3,
+                    place: 0,
+                },
+                home: 0,
+                pool: 0,
+            };
+        }
+        HomeFigures {
+            answer: Answer::Passed,
+            home: self.supply - self.pool,
+            pool: self.pool,
+        }
+    }
+}

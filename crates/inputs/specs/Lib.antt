@@ -1,0 +1,3 @@
+-- The bytes of a call. Assumes nothing.
+
+pub mod Inputs

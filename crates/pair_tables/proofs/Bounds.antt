@@ -1,0 +1,78 @@
+-- Laws of the bounds of a state, and of its sums in two limbs. Assumes nothing.
+use Prim.Native.Nat.{_<_, _^_, _≤_, ℕ}
+use mathlib.Core.Bool.{Bool, false, true}
+use mathlib.Core.Path.{_≡_, refl, sym}
+use lib.Dec.{eqb}
+use borrow.Author.Tests.{eq-eqb, eqb-false, eqb-true, le-leb, leb-true, ne-eqb}
+use Rattle.ledgers.specs.Limits.{accountLimit, capacity, maxAmount}
+use Rattle.pair_tables.specs.Tables.{inBounds}
+use Rattle.rules.specs.PairValidator.{supplyAllowed}
+use Rattle.table_checks.proofs.Openings.{count-facts, facts-count}
+use Rattle.table_checks.proofs.Sums.{same-limbs, same-wide}
+use Rattle.table_checks.specs.Sums.{wide}
+use Rattle.table_checks.specs.declared.Wide.{Wide}
+use Rattle.wire.proofs.Lists.{every-both, every-first, every-none}
+
+-- ## The facts of the bounds
+
+-- what the counts of accounts and of held records and the supply are where they are in bounds
+pub record Bounds (h f n m supply : ℕ) : Type 0 where
+  pub home-some : 1 ≤ h
+  pub home-fits : h ≤ accountLimit
+  pub far-some : 1 ≤ f
+  pub far-fits : f ≤ accountLimit
+  pub home-room : n ≤ capacity
+  pub far-room : m ≤ capacity
+  pub supply-fits : supply ≤ maxAmount
+
+-- the test of the bounds gives its facts
+pub bounds-facts : (h f n m supply : ℕ) → inBounds h f n m supply ≡ true → Bounds h f n m supply
+unfolding inBounds supplyAllowed
+bounds-facts h f n m supply p =
+    let a = every-first _ _ p in
+    let b = every-first _ _ (a .1) in
+    let c = every-first _ _ (b .1) in
+    let d = every-first _ _ (c .1) in
+    let e = every-first _ _ (d .1) in
+    record {
+      home-some = count-facts h (a .0) .0;
+      home-fits = count-facts h (a .0) .1;
+      far-some = count-facts f (b .0) .0;
+      far-fits = count-facts f (b .0) .1;
+      home-room = leb-true n capacity (c .0);
+      far-room = leb-true m capacity (d .0);
+      supply-fits = leb-true supply maxAmount (e .0);
+    }
+
+-- and back
+pub facts-bounds : (h f n m supply : ℕ) → Bounds h f n m supply → inBounds h f n m supply ≡ true
+unfolding inBounds supplyAllowed
+facts-bounds h f n m supply b =
+    every-both _ _ (facts-count h (b .home-some) (b .home-fits))
+    (every-both _ _ (facts-count f (b .far-some) (b .far-fits))
+    (every-both _ _ (le-leb n capacity (b .home-room))
+    (every-both _ _ (le-leb m capacity (b .far-room))
+    (every-both _ _ (le-leb supply maxAmount (b .supply-fits))
+    every-none))))
+
+-- ## Sums in two limbs
+
+-- high limbs that differ are numbers that differ
+pub high-differs : (v w : Wide)
+    → v .low < 2 ^ 63
+    → w .low < 2 ^ 63
+    → (v .high ≡ w .high → ⊥)
+    → eqb (wide v) (wide w) ≡ false
+high-differs v w a b differs = ne-eqb _ _ (λ e. differs (same-limbs v w a b e .0))
+
+-- under the same high limb the low limbs are compared
+pub low-compared : (v w : Wide)
+    → v .low < 2 ^ 63
+    → w .low < 2 ^ 63
+    → v .high ≡ w .high
+    → eqb (v .low) (w .low) ≡ eqb (wide v) (wide w)
+low-compared v w a b high = by (eqb (v .low) (w .low)) refl
+  where
+    by : (t : Bool) → eqb (v .low) (w .low) ≡ t → t ≡ eqb (wide v) (wide w)
+    by true test = sym (eq-eqb _ _ (same-wide v w high (eqb-true _ _ test)))
+    by false test = sym (ne-eqb _ _ (λ e. eqb-false _ _ test (same-limbs v w a b e .1)))

@@ -1,0 +1,4 @@
+-- The tables of both ledgers. Assumes nothing.
+
+pub mod Tables
+pub mod Judging

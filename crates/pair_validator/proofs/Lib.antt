@@ -1,0 +1,4 @@
+-- Laws of the pair validator's calls, and the theorems about them. Assumes nothing.
+pub mod Opened
+pub mod Stepping
+pub mod Claimed

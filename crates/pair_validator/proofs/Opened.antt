@@ -1,0 +1,222 @@
+-- Laws of an opening of the pair validator, of the all-zero state beside a refused one, and of the figures. Assumes nothing.
+use Prim.Native.Nat.{_*_, _+_, _-_, _≤_, ℕ}
+use mathlib.Core.Bool.{false, true}
+use mathlib.Core.List.{List, [], _++_, _∷_, append-assoc}
+use mathlib.Core.Path.{_∙_, _≡_, ap, ap₂, refl, sym}
+use native.Mathlib.Omega.{arith}
+use lib.Dec.{eqb}
+use lib.ListN.{List·getD-append, drop, getD, length, length-append, length-replicate, replicate, replicate-append-replicate, take}
+use lib.Seq.{drop-at, drop-drop, getD-append-add, take-append-le, take-append-seam, take-at}
+use borrow.Author.Tests.{eq-eqb, le-leb}
+use Rattle.answers.specs.declared.Answer.the-variants.{Passed}
+use Rattle.ledgers.specs.Limits.{accountLimit, capacity}
+use Rattle.pair_tables.proofs.Passing.{Sound, sound-accepts, sound-of}
+use Rattle.pair_tables.specs.Tables.{PairTables, Sized, accepts, accountsAt, balancesOf, countAt, formedOn, heldOf, inBounds}
+use Rattle.pair_tables.specs.Tables.{openedTables, pairViewOf, zeroBeyond, zeroTables}
+use Rattle.pair_validator.specs.State.{figuresOf, openedState, stateWith}
+use Rattle.pair_validator.specs.declared.PairFigures.{PairFigures}
+use Rattle.rules.proofs.PairAccepted.{accepts-facts}
+use Rattle.rules.proofs.PairConserved.{opening-none, pair-opened-accepted}
+use Rattle.rules.specs.Lists.{total}
+use Rattle.rules.specs.PairValidator.{countAllowed, pairAccepts, pairOpened, pairOpeningRefusal}
+use Rattle.rules.specs.Rules.{inFlight}
+use Rattle.table_checks.proofs.Allowed.{balances-sum}
+use Rattle.table_checks.proofs.Openings.{count-facts, fewer-zeros, low-is-wide, padded-length, zero-after}
+use Rattle.table_checks.proofs.Sums.{added-value}
+use Rattle.table_checks.specs.Sums.{Added}
+use Rattle.table_checks.specs.declared.Wide.{Wide}
+use Rattle.tables.proofs.Places.{all-of}
+use Rattle.tables.specs.Columns.{formedRows, padded, rows, zeroColumns, zerosAt}
+use Rattle.tables.specs.Places.{allAt, listAt, sumAt}
+use Rattle.wire.proofs.Lists.{every-both, every-none, every-not}
+
+-- ## Zeros beyond the accounts
+
+module _ (homes fars : List ℕ) (h : length homes ≤ accountLimit) (f : length fars ≤ accountLimit) where
+  -- zeros with the balances of each ledger copied to its accounts are the balances with zeros after each ledger's
+  pub copied-both : (first : List ℕ)
+      → first ≡ take 0 (replicate (2 * accountLimit) 0) ++ (homes ++ drop (0 + length homes) (replicate (2 * accountLimit) 0))
+      → take accountLimit first ++ (fars ++ drop (accountLimit + length fars) first) ≡ padded homes ++ padded fars
+  copied-both first e =
+      ap₂ (λ (xs ys : List ℕ). xs ++ (fars ++ ys))
+      (ap (take accountLimit) split ∙ take-at (padded homes) _ accountLimit (padded-length homes h))
+      (ap (drop (accountLimit + length fars)) split ∙ rest)
+    where
+      split : first ≡ padded homes ++ replicate accountLimit 0
+      split =
+          e
+          ∙ ap (λ (s : List ℕ). homes ++ s)
+          (fewer-zeros (0 + length homes) (2 * accountLimit)
+          ∙ ap (λ (n : ℕ). replicate n 0)
+          (let n : 2 * accountLimit - (0 + length homes) ≡ accountLimit - length homes + accountLimit = omega arith in n)
+          ∙ sym (replicate-append-replicate (accountLimit - length homes) accountLimit 0))
+          ∙ sym (append-assoc homes (replicate (accountLimit - length homes) 0) (replicate accountLimit 0))
+
+      rest : drop (accountLimit + length fars) (padded homes ++ replicate accountLimit 0) ≡ replicate (accountLimit - length fars) 0
+      rest =
+          sym (drop-drop (length fars) accountLimit _)
+          ∙ ap (drop (length fars)) (drop-at (padded homes) _ accountLimit (padded-length homes h))
+          ∙ fewer-zeros (length fars) accountLimit
+
+  -- home's balances
+  home-balances : balancesOf (openedTables homes fars) 0 ≡ homes
+  unfolding balancesOf openedTables
+  home-balances =
+      take-append-le (length homes) (padded homes) (padded fars) (omega (arith, padded-length homes h))
+      ∙ take-append-seam homes (replicate (accountLimit - length homes) 0)
+
+  -- far's balances
+  far-balances : balancesOf (openedTables homes fars) 1 ≡ fars
+  unfolding balancesOf openedTables
+  far-balances =
+      ap (take (length fars)) (drop-at (padded homes) (padded fars) accountLimit (padded-length homes h))
+      ∙ take-append-seam fars (replicate (accountLimit - length fars) 0)
+
+  -- home's balances beyond its accounts are zero
+  home-zeros : zeroBeyond (openedTables homes fars) 0 ≡ true
+  unfolding zeroBeyond openedTables zerosAt
+  home-zeros =
+      all-of (λ (i : ℕ). eqb (getD (padded homes ++ padded fars) i 0) 0) (0 * accountLimit + length homes) (accountLimit - length homes)
+      (λ j a b.
+      eq-eqb _ 0
+      (List·getD-append (padded homes) (padded fars) 0 j (omega (arith, padded-length homes h))
+      ∙ zero-after homes (accountLimit - length homes) j (omega arith)))
+
+  -- and so are far's
+  far-zeros : zeroBeyond (openedTables homes fars) 1 ≡ true
+  unfolding zeroBeyond openedTables zerosAt
+  far-zeros =
+      all-of (λ (i : ℕ). eqb (getD (padded homes ++ padded fars) i 0) 0) (accountLimit + length fars) (accountLimit - length fars)
+      (λ j a b.
+      let e : j ≡ length (padded homes) + (j - accountLimit) = omega (arith, padded-length homes h) in
+      eq-eqb _ 0
+      (ap (λ (i : ℕ). getD (padded homes ++ padded fars) i 0) e
+      ∙ getD-append-add (padded homes) (padded fars) (j - accountLimit) 0
+      ∙ zero-after fars (accountLimit - length fars) (j - accountLimit) (omega arith)))
+
+-- ## An accepted opening
+
+-- what an accepted opening says of both numbers of accounts
+pub opened-counts : (homes fars : List ℕ) → pairOpeningRefusal homes fars ≡ 0
+    → (length homes ≤ accountLimit) × (length fars ≤ accountLimit)
+opened-counts homes fars n =
+    let o = opening-none (length homes) (length fars) (total homes + total fars) n in
+    (count-facts (length homes) (o .home-count) .1, count-facts (length fars) (o .far-count) .1)
+
+-- its tables are, seen as the rules' state, the rules' opened state
+pub opened-view : (homes fars : List ℕ) → pairOpeningRefusal homes fars ≡ 0 → pairViewOf (openedTables homes fars) ≡ pairOpened homes fars
+unfolding openedTables heldOf rows listAt
+opened-view homes fars n =
+    let c = opened-counts homes fars n in
+    rw (home-balances homes fars (c .0) (c .1), far-balances homes fars (c .0) (c .1))
+
+-- the state that holds them, from its supply and its balances
+pub opened-state : (homes fars balances : List ℕ) (supply : ℕ) → supply ≡ total homes + total fars → balances ≡ padded homes ++ padded fars
+    → stateWith
+    (record {
+      supply = supply;
+      accounts = length homes ∷ length fars ∷ [];
+      counts = 0 ∷ 0 ∷ [];
+      balances = balances;
+      columns = zeroColumns (2 * capacity);
+    })
+    ≡ openedState homes fars
+unfolding openedTables
+opened-state homes fars balances supply s b = rw (s, b)
+
+-- they are as long as both ledgers need
+pub opened-sized : (homes fars : List ℕ) → pairOpeningRefusal homes fars ≡ 0 → Sized (openedTables homes fars)
+unfolding openedTables
+opened-sized homes fars n =
+    let c = opened-counts homes fars n in
+    let z = length-replicate {A = ℕ} (2 * capacity) 0 in
+    record {
+      accounts-are = refl;
+      counts-are = refl;
+      balances-are =
+          omega (
+            arith,
+            length-append (padded homes) (padded fars),
+            padded-length homes (c .0),
+            padded-length fars (c .1),
+          );
+      kinds-are = z;
+      ledgers-are = z;
+      senders-are = z;
+      receivers-are = z;
+      numbers-are = z;
+      amounts-are = z;
+      verdicts-are = z;
+    }
+
+-- their counts and their supply are in bounds
+opened-bounds : (homes fars : List ℕ) → pairOpeningRefusal homes fars ≡ 0
+    → inBounds (length homes) (length fars) 0 0 (total homes + total fars) ≡ true
+unfolding inBounds
+opened-bounds homes fars n =
+    let o = opening-none (length homes) (length fars) (total homes + total fars) n in
+    every-both _ _ (o .home-count)
+    (every-both _ _ (o .far-count)
+    (every-both _ _ (le-leb 0 capacity (omega arith))
+    (every-both _ _ (le-leb 0 capacity (omega arith))
+    (every-both _ _ (o .supply-fits)
+    every-none))))
+
+-- where no record is held, all that are held are formed
+none-formed : (t : PairTables) (l : ℕ) → countAt t l ≡ 0 → formedOn t l ≡ true
+unfolding formedOn formedRows allAt
+none-formed t l e = rw e
+
+-- they are accepted
+pub opened-accepts : (homes fars : List ℕ) → pairOpeningRefusal homes fars ≡ 0 → accepts (openedTables homes fars) ≡ true
+unfolding accepts openedTables
+opened-accepts homes fars n =
+    let c = opened-counts homes fars n in
+    every-both _ _ (opened-bounds homes fars n)
+    (every-both _ _ (home-zeros homes fars (c .0) (c .1))
+    (every-both _ _ (far-zeros homes fars (c .0) (c .1))
+    (every-both _ _ (none-formed (openedTables homes fars) 0 refl)
+    (every-both _ _ (none-formed (openedTables homes fars) 1 refl)
+    (every-both _ _ (ap (pairAccepts capacity) (opened-view homes fars n) ∙ pair-opened-accepted capacity homes fars n)
+    every-none)))))
+
+-- so they are sound
+pub opened-sound : (homes fars : List ℕ) → pairOpeningRefusal homes fars ≡ 0 → Sound (openedTables homes fars)
+opened-sound homes fars n = sound-of (openedTables homes fars) (opened-sized homes fars n) (opened-accepts homes fars n)
+
+-- the all-zero tables, beside a refused opening, are refused by every call
+pub zero-refused : accepts zeroTables ≡ false
+unfolding accepts zeroTables inBounds countAllowed
+zero-refused = every-not 0 _ (every-not 0 _ (every-not 0 _ refl))
+
+-- ## The figures
+
+module _ (t : PairTables) (s : Sound t) where
+  -- balances and in flight are the supply
+  pub supply-shared : total (balancesOf t 0) + total (balancesOf t 1) + inFlight (pairViewOf t .pair) ≡ t .supply
+  supply-shared = accepts-facts capacity (pairViewOf t) (s .accepted) .sums
+
+  -- the total of home's balances is what their sum has in its low limb
+  pub home-total : {w : Wide} {n : ℕ}
+      → Added (record { high = 0; low = 0 }) (sumAt (λ (i : ℕ). getD (t .balances) i 0) 0 (accountsAt t 0)) n w
+      → w .low ≡ total (balancesOf t 0)
+  unfolding balancesOf
+  home-total {w} a =
+      let e = balances-sum (t .balances) 0 (accountsAt t 0) (omega (arith, s .sized .balances-are, s .bounds .home-fits)) in
+      low-is-wide w (omega (arith, added-value a, e, supply-shared, s .bounds .supply-fits)) ∙ added-value a ∙ sym e
+
+  -- and so is the total of far's
+  pub far-total : {w : Wide} {n : ℕ}
+      → Added (record { high = 0; low = 0 }) (sumAt (λ (i : ℕ). getD (t .balances) i 0) accountLimit (accountsAt t 1)) n w
+      → w .low ≡ total (balancesOf t 1)
+  unfolding balancesOf
+  far-total {w} a =
+      let e = balances-sum (t .balances) accountLimit (accountsAt t 1) (omega (arith, s .sized .balances-are, s .bounds .far-fits)) in
+      low-is-wide w (omega (arith, added-value a, e, supply-shared, s .bounds .supply-fits)) ∙ added-value a ∙ sym e
+
+-- the figures of accepted tables, by both totals
+pub figures-passed : (t : PairTables) → Sound t → (home far : ℕ) → home ≡ total (balancesOf t 0) → far ≡ total (balancesOf t 1)
+    → _≡_ {A = PairFigures} (record { answer = Passed; home = home; far = far; flight = t .supply - home - far }) (figuresOf (accepts t) t)
+figures-passed t s home far h f =
+    let e : t .supply - home - far ≡ inFlight (pairViewOf t .pair) = omega (arith, supply-shared t s) in
+    rw (sound-accepts t s) (λ i. record { answer = Passed; home = h i; far = f i; flight = e i })

@@ -1,0 +1,104 @@
+-- `pair_validator::PairValidator::figures` meets its contract. Assumes nothing.
+use mathlib.Core.Path.{_∙_, _≡_, sym}
+use native.Mathlib.Omega.{arith}
+use borrow.Author.Needs.{needs}
+use borrow.Author.Tests.{not-false, not-true}
+use Rattle.pair_tables.proofs.Accept.{accepts-is}
+use Rattle.pair_tables.proofs.Passing.{Sound, sound-of}
+use Rattle.pair_tables.specs.Tables.{Sized, accepts}
+use Rattle.pair_validator.proofs.Opened.{far-total, figures-passed, home-total, supply-shared}
+use Rattle.pair_validator.specs.State.{tablesOf}
+use Rattle.pair_validator.specs.declared.PairValidator.{PairValidator}
+use Rattle.pair_validator.proofs.PairValidator.figures.Statement.{statement}
+use Rattle.pair_validator.proofs.PairValidator.figures.Tie as tie
+
+is-accepted-requires : tie.Need-is-accepted-requires
+is-accepted-requires c κs = search needs
+
+-- the state that is asked for its figures
+abbrev stateAt : tie.After-is-accepted → PairValidator
+stateAt c =
+    let c11 = c .before .before .before .before .before .before .before .before .before .before .before in
+    c11 .before .before .before .before .before .before .before .before .before .before .before .args .t1
+
+-- its columns are as long as both ledgers need
+sized-at : (c : tie.After-is-accepted) → Sized (tablesOf (stateAt c))
+sized-at c =
+    record {
+      accounts-are = search needs;
+      counts-are = search needs;
+      balances-are = search needs;
+      kinds-are = search needs;
+      ledgers-are = search needs;
+      senders-are = search needs;
+      receivers-are = search needs;
+      numbers-are = search needs;
+      amounts-are = search needs;
+      verdicts-are = search needs;
+    }
+
+-- it is accepted where the call says so
+accepts-at : (c : tie.After-is-accepted) → accepts (tablesOf (stateAt c)) ≡ c .is-accepted .result
+accepts-at c = sym (accepts-is (tablesOf (stateAt c)) (sized-at c)) ∙ sym (c .is-accepted .ensures)
+
+returns : tie.Need-returns
+returns c = rw (accepts-at (c .before) ∙ not-true _ (c .if1 .taken))
+
+-- an accepted state
+sound-at : (c : tie.Else1) → Sound (tablesOf (stateAt (c .before)))
+sound-at c = sound-of (tablesOf (stateAt (c .before))) (sized-at (c .before)) (accepts-at (c .before) ∙ not-false _ (c .if1 .left))
+
+element-copy-out-homes : tie.Need-element-copy-out-homes
+element-copy-out-homes c = search needs
+
+element-copy-out-fars : tie.Need-element-copy-out-fars
+element-copy-out-fars c = search needs
+
+add-balances-requires : tie.Need-add-balances-requires
+add-balances-requires c κs =
+    let c5 = c .before .before .before .before .before in
+    let s = sound-at (c5) in
+    (omega (arith, s .sized .balances-are, s .bounds .home-fits), omega arith, omega (arith, s .bounds .home-fits))
+
+add-balances-requires-2 : tie.Need-add-balances-requires-2
+add-balances-requires-2 c κs =
+    let c9 = c .before .before .before .before .before .before .before .before .before in
+    let s = sound-at (c9) in
+    (omega (arith, s .sized .balances-are, s .bounds .far-fits), omega arith, omega (arith, s .bounds .far-fits))
+
+sub-t42 : tie.Need-sub-t42
+sub-t42 c =
+    let c5 = c .before .before .before .before .before in
+    let s = sound-at (c5 .before .before .before .before .before .before) in
+    omega (arith, home-total _ s (c5 .add-balances .ensures), supply-shared _ s)
+
+sub-t43 : tie.Need-sub-t43
+sub-t43 c =
+    let c6 = c .before .before .before .before .before .before in
+    let s = sound-at (c6 .before .before .before .before .before .before) in
+    omega (
+      arith,
+      home-total _ s (c6 .add-balances .ensures),
+      far-total _ s (c .before .before .add-balances2 .ensures),
+      supply-shared _ s,
+    )
+
+returns-2 : tie.Need-returns-2
+returns-2 c =
+    let c6 = c .before .before .before .before .before .before in
+    let s = sound-at (c6 .before .before .before .before .before .before) in
+    figures-passed _ s _ _ (home-total _ s (c6 .add-balances .ensures)) (far-total _ s (c .before .before .add-balances2 .ensures))
+
+pub figures-spec : {M : Type 1} → statement M
+figures-spec =
+    tie.close
+    (tie.spec
+    is-accepted-requires
+    returns
+    element-copy-out-homes
+    element-copy-out-fars
+    add-balances-requires
+    add-balances-requires-2
+    sub-t42
+    sub-t43
+    returns-2)

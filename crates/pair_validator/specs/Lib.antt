@@ -1,0 +1,4 @@
+-- The pair validator's state, its calls, and what is claimed of them. Assumes nothing.
+
+pub mod State
+pub mod Claims

@@ -1,0 +1,87 @@
+-- The state of the pair validator (document 01: pair book) and its calls: the rules' judgement of the state seen as theirs.
+-- Assumes nothing.
+use Prim.Native.Nat.{ℕ}
+use mathlib.Core.Bool.{Bool, false, true}
+use mathlib.Core.List.{List}
+use Rattle.answers.specs.Answers.{answer}
+use Rattle.answers.specs.declared.Answer.the-variants.{Passed, Refused}
+use Rattle.ledgers.specs.Limits.{capacity}
+use Rattle.pair_tables.specs.Tables.{PairTables, accepts, afterRead, balancesOf, openedTables, pairViewOf, zeroTables}
+use Rattle.pair_validator.specs.declared.PairFigures.{PairFigures}
+use Rattle.pair_validator.specs.declared.PairValidator.{PairValidator}
+use Rattle.records.specs.Records.{reading}
+use Rattle.rules.specs.Calls.{Checker}
+use Rattle.rules.specs.Lists.{total}
+use Rattle.rules.specs.PairValidator.{PairView, pairJudge}
+use Rattle.rules.specs.Rules.{after, flight, inFlight, judge}
+
+-- ## The state
+
+-- the tables that a state holds
+abbrev pub tablesOf : PairValidator → PairTables
+tablesOf s =
+    record {
+      supply = s .supply;
+      accounts = s .accounts;
+      counts = s .counts;
+      balances = s .balances;
+      columns = record {
+        kinds = s .kinds;
+        ledgers = s .ledgers;
+        senders = s .senders;
+        receivers = s .receivers;
+        numbers = s .numbers;
+        amounts = s .amounts;
+        verdicts = s .verdicts;
+      };
+    }
+
+-- the state that holds tables
+abbrev pub stateWith : PairTables → PairValidator
+stateWith t =
+    record {
+      supply = t .supply;
+      accounts = t .accounts;
+      counts = t .counts;
+      balances = t .balances;
+      numbers = t .columns .numbers;
+      amounts = t .columns .amounts;
+      senders = t .columns .senders;
+      receivers = t .columns .receivers;
+      kinds = t .columns .kinds;
+      ledgers = t .columns .ledgers;
+      verdicts = t .columns .verdicts;
+    }
+
+-- the state, seen as the rules' state
+abbrev pub viewOfState : PairValidator → PairView
+viewOfState s = pairViewOf (tablesOf s)
+
+-- ## The calls
+
+-- the pair validator over this state
+abbrev pub pairChecker : Checker PairValidator
+pairChecker =
+    record {
+      accepts = λ s. accepts (tablesOf s);
+      judge = λ s b. pairJudge capacity (viewOfState s .pair) (reading b);
+      after = λ s b. stateWith (afterRead (tablesOf s) (reading b));
+    }
+
+-- ## The opening
+
+-- the state of an accepted opening
+abbrev pub openedState : List ℕ → List ℕ → PairValidator
+openedState homes fars = stateWith (openedTables homes fars)
+
+-- the state beside a refused opening: all zero, which 3 refuses
+abbrev pub zeroState : PairValidator
+zeroState = stateWith zeroTables
+
+-- ## The figures
+
+-- the totals of both ledgers and in flight, of tables that are accepted or not
+abbrev pub figuresOf : Bool → PairTables → PairFigures
+figuresOf true t =
+    record { answer = Passed; home = total (balancesOf t 0); far = total (balancesOf t 1); flight = inFlight (pairViewOf t .pair) }
+figuresOf false t = record { answer = Refused 3 0; home = 0; far = 0; flight = 0 }

@@ -1,0 +1,277 @@
+// The pair validator (document 01: pair book), which sees the records of both ledgers in one order: its state, and the calls that
+// makers use. A call takes the state by value and hands it back beside the answer; inside a call the columns are lent and stored to
+// in place. No call asks anything of the state or of the bytes that it is given.
+ghost use mathlib.Core.Path.{_≡_};
+ghost use Prim.Native.Nat.{ℕ, _+_};
+ghost use Rattle.answers.specs.Answers.{answer, unlessRefused};
+ghost use Rattle.inputs.specs.Inputs.{callOf};
+ghost use Rattle.pair_tables.specs.Tables.{accepts};
+ghost use Rattle.pair_validator.specs.State.{tablesOf, pairChecker, openedState, zeroState, figuresOf};
+ghost use Rattle.rules.specs.Calls.{call};
+ghost use Rattle.rules.specs.Lists.{total};
+ghost use Rattle.rules.specs.PairValidator.{pairOpeningRefusal};
+use answers::Answer;
+use inputs::Input;
+use inputs::is_left;
+use inputs::part_end;
+use ledgers::Ledger;
+use pair_tables::index;
+use pair_tables::is_accepted;
+use pair_tables::judge;
+use records::Reading;
+use records::Record;
+use table_checks::Wide;
+use table_checks::add_balances;
+use tables::copy_numbers;
+use tables::entry_of;
+use tables::is_count_allowed;
+
+// The accounts of both ledgers.
+pub const ACCOUNTS: usize = 2 * Ledger::ACCOUNTS;
+// The places of both ledgers.
+pub const PLACES: usize = 2 * Ledger::CAPACITY;
+
+// The state. Of both ledgers home stands first: in `accounts` (their number) and `counts` (of held records), in the balances, and
+// in each column, of which a held record is one entry. Entries at or beyond the count are not looked at and stay as they are.
+#[repr(C)]
+pub struct PairValidator {
+    // Document 01: stake.
+    pub supply: u64,
+    pub accounts: [usize; 2],
+    pub counts: [usize; 2],
+    pub balances: [u64; ACCOUNTS],
+    pub numbers: [u64; PLACES],
+    pub amounts: [u64; PLACES],
+    pub senders: [u16; PLACES],
+    pub receivers: [u16; PLACES],
+    pub kinds: [u8; PLACES],
+    pub ledgers: [u8; PLACES],
+    pub verdicts: [u8; PLACES],
+}
+
+// The answer, with the state beside it.
+pub struct PairOutcome {
+    pub answer: Answer,
+    pub state: PairValidator,
+}
+
+// The totals of both ledgers and what is in flight, beside the answer.
+pub struct PairFigures {
+    pub answer: Answer,
+    pub home: u64,
+    pub far: u64,
+    pub flight: u64,
+}
+
+// The refusal of an opening, or 0 and the supply.
+pub struct Opening {
+    pub refusal: u32,
+    pub supply: u64,
+}
+
+fn judge_opening<'a>(homes: &'a [u64], fars: &'a [u64]) -> Opening
+    ensures refuses { λ o. ⌜ o .refusal ≡ pairOpeningRefusal (now (homes .entry)) (now (fars .entry)) ⌝ }
+    ensures supplies { λ o. ⌜ (o .refusal ≡ 0 → o .supply ≡ total (now (homes .entry)) + total (now (fars .entry))) ⌝ }
+{
+    if !is_count_allowed(homes.len()) {
+        return Opening {
+            refusal: 1,
+            supply: 0,
+        };
+    }
+    if !is_count_allowed(fars.len()) {
+        return Opening {
+            refusal: 1,
+            supply: 0,
+        };
+    }
+    let zero = Wide { high: 0, low: 0 };
+    let supply = add_balances(
+        fars,
+        0,
+        fars.len(),
+        add_balances(homes, 0, homes.len(), zero),
+    );
+    if supply.high != 0 {
+        return Opening {
+            refusal: 2,
+            supply: 0,
+        };
+    }
+    Opening {
+        refusal: 0,
+        supply: supply.low,
+    }
+}
+
+impl PairValidator {
+    // An opening with the balances of each ledger: 1, 2. Beside a refusal stands the all-zero state, which every call refuses.
+    pub fn open<'a>(homes: &'a [u64], fars: &'a [u64]) -> PairOutcome
+        ensures answers { λ r. ⌜ r .answer ≡ answer (pairOpeningRefusal (now (homes .entry)) (now (fars .entry))) 0 ⌝ }
+        ensures hands_back { λ r. ⌜ r .state ≡ unlessRefused (pairOpeningRefusal (now (homes .entry)) (now (fars .entry)))
+            (openedState (now (homes .entry)) (now (fars .entry))) zeroState ⌝ }
+    {
+        let mut state = PairValidator {
+            supply: 0,
+            accounts: [0; 2],
+            counts: [0; 2],
+            balances: [0; ACCOUNTS],
+            numbers: [0; PLACES],
+            amounts: [0; PLACES],
+            senders: [0; PLACES],
+            receivers: [0; PLACES],
+            kinds: [0; PLACES],
+            ledgers: [0; PLACES],
+            verdicts: [0; PLACES],
+        };
+        let opening = judge_opening(homes, fars);
+        if opening.refusal != 0 {
+            return PairOutcome {
+                answer: Answer::Refused {
+                    number: opening.refusal,
+                    place: 0,
+                },
+                state,
+            };
+        }
+        let mut balances = [0u64; ACCOUNTS];
+        copy_numbers(homes, 0, &mut balances);
+        copy_numbers(fars, Ledger::ACCOUNTS, &mut balances);
+        state.supply = opening.supply;
+        state.accounts[0] = homes.len();
+        state.accounts[1] = fars.len();
+        state.balances = balances;
+        PairOutcome {
+            answer: Answer::Passed,
+            state,
+        }
+    }
+
+    // A call with one record or with a list of records: 3, then of each record 21 to 41. A refusal hands back the state as it came.
+    pub fn step(mut self, input: Input, bytes: &[u8]) -> PairOutcome
+        ensures answers { λ r. ⌜ r .answer ≡ call pairChecker self (callOf input (now (bytes .entry))) .answer ⌝ }
+        ensures hands_back { λ r. ⌜ r .state ≡ call pairChecker self (callOf input (now (bytes .entry))) .state ⌝ }
+    {
+        if !is_accepted(
+            self.supply,
+            &self.accounts,
+            &self.counts,
+            &self.balances,
+            &self.kinds,
+            &self.ledgers,
+            &self.senders,
+            &self.receivers,
+            &self.numbers,
+            &self.amounts,
+            &self.verdicts,
+        ) {
+            return PairOutcome {
+                answer: Answer::Refused {
+                    number: 3,
+                    place: 0,
+                },
+                state: self,
+            };
+        }
+        let before = self;
+        let mut at = 0;
+        let mut i: u64 = 0;
+        while is_left(input, i, at, bytes.len()) {
+            let end = part_end(input, at, bytes.len());
+            let Reading::Read(r) = Record::read(&bytes[at..end]) else {
+                return PairOutcome {
+                    answer: Answer::Refused {
+                        number: 21,
+                        place: i,
+                    },
+                    state: before,
+                };
+            };
+            let refusal = judge(
+                &self.accounts,
+                &self.counts,
+                &self.balances,
+                &self.kinds,
+                &self.senders,
+                &self.receivers,
+                &self.numbers,
+                &self.amounts,
+                r,
+            );
+            if refusal != 0 {
+                return PairOutcome {
+                    answer: Answer::Refused {
+                        number: refusal,
+                        place: i,
+                    },
+                    state: before,
+                };
+            }
+            let kind = r.kind;
+            let l = index(kind.ledger());
+            let entry = entry_of(r, l * Ledger::ACCOUNTS);
+            let from = entry.from;
+            let to = entry.to;
+            let paying = self.balances[from];
+            self.balances[from] = paying - entry.taken;
+            let paid = self.balances[to];
+            self.balances[to] = paid + entry.given;
+            let count = self.counts[l];
+            let place = l * Ledger::CAPACITY + count;
+            self.kinds[place] = entry.kind;
+            self.ledgers[place] = entry.ledger;
+            self.senders[place] = r.sender;
+            self.receivers[place] = r.receiver;
+            self.numbers[place] = r.number;
+            self.amounts[place] = r.amount;
+            self.verdicts[place] = 1;
+            self.counts[l] = count + 1;
+            at = end;
+            i += 1;
+        }
+        PairOutcome {
+            answer: Answer::Passed,
+            state: self,
+        }
+    }
+
+    // The totals of both ledgers and what is in flight: 3, with zeros.
+    pub fn figures(self) -> PairFigures
+        ensures { λ r. ⌜ r ≡ figuresOf (accepts (tablesOf self)) (tablesOf self) ⌝ }
+    {
+        if !is_accepted(
+            self.supply,
+            &self.accounts,
+            &self.counts,
+            &self.balances,
+            &self.kinds,
+            &self.ledgers,
+            &self.senders,
+            &self.receivers,
+            &self.numbers,
+            &self.amounts,
+            &self.verdicts,
+        ) {
+            return PairFigures {
+                answer: Answer::Refused {
+                    number: 3,
+                    place: 0,
+                },
+                home: 0,
+                far: 0,
+                flight: 0,
+            };
+        }
+        let homes = self.accounts[0];
+        let fars = self.accounts[1];
+        let zero = Wide { high: 0, low: 0 };
+        let home = add_balances(&self.balances, 0, homes, zero);
+        let far = add_balances(&self.balances, Ledger::ACCOUNTS, fars, zero);
+        PairFigures {
+            answer: Answer::Passed,
+            home: home.low,
+            far: far.low,
+            flight: self.supply - home.low - far.low,
+        }
+    }
+}

@@ -1,0 +1,78 @@
+-- `table_checks::zeros` meets its contract. Assumes nothing.
+use Prim.Native.Nat.{_+_, _-_, _≤_, ℕ}
+use mathlib.Core.Path.{_∙_, _≡_, sym}
+use native.Mathlib.Omega.{arith}
+use lib.Dec.{eqb}
+use lib.ListN.{getD}
+use borrow.Author.Needs.{needs}
+use borrow.Author.Tests.{eq-eqb, ne-eqb}
+use Rattle.tables.proofs.Places.{all-end, all-here, all-on, from-start}
+use Rattle.tables.specs.Columns.{zerosAt}
+use Rattle.tables.specs.Places.{allAt}
+use Rattle.table_checks.proofs.zeros.Statement.{statement}
+use Rattle.table_checks.proofs.zeros.Tie as tie
+
+abbrev Inv-loop : tie.InvT-loop
+Inv-loop balances from n end i₀ i =
+    (from ≤ i)
+    × (i ≤ end)
+    × (allAt (λ (j : ℕ). eqb (getD balances j 0) 0) from n ≡ allAt (λ (j : ℕ). eqb (getD balances j 0) 0) i (from + n - i))
+
+abbrev μ-loop : tie.MeasureT-loop
+μ-loop balances from n end i₀ i = end - i
+
+add-end : tie.Need-add-end Inv-loop μ-loop
+add-end c = search needs
+
+loop-holds : tie.Need-loop-holds Inv-loop μ-loop
+loop-holds c = (search needs, search needs, from-start (allAt _) _ _)
+
+mul-if1 : tie.Need-mul-if1 Inv-loop μ-loop
+mul-if1 c = search needs
+
+shared-slice-read-if1 : tie.Need-shared-slice-read-if1 Inv-loop μ-loop
+shared-slice-read-if1 c = search needs
+
+returns : tie.Need-returns Inv-loop μ-loop
+unfolding zerosAt
+returns c =
+    let c4 = c .before .before .before .before in
+    let a = c4 .args in
+    let l = c .before .before .before .loop in
+    sym (l .inv .2 ∙ all-here _ (l .i) (a .from + a .n) (search needs) (ne-eqb _ _ (c .if1 .taken)))
+
+add-i : tie.Need-add-i Inv-loop μ-loop
+add-i c = search needs
+
+loop-less : tie.Need-loop-less Inv-loop μ-loop
+loop-less c = search needs
+
+loop-again : tie.Need-loop-again Inv-loop μ-loop
+loop-again c =
+    let c4 = c .before .before .before .before in
+    let a = c4 .args in
+    let l = c .before .before .before .loop in
+    (search needs, search needs, l .inv .2 ∙ all-on _ (l .i) (a .from + a .n) (search needs) (eq-eqb _ _ (c .if1 .left)))
+
+returns-2 : tie.Need-returns-2 Inv-loop μ-loop
+unfolding zerosAt
+returns-2 c =
+    let a = c .before .before .args in
+    let l = c .before .loop in
+    sym (l .inv .2 ∙ all-end _ (l .i) (a .from + a .n) (omega arith))
+
+pub zeros-spec : {M : Type 1} → statement M
+zeros-spec =
+    tie.close
+    (tie.spec
+    Inv-loop
+    μ-loop
+    add-end
+    loop-holds
+    mul-if1
+    shared-slice-read-if1
+    returns
+    add-i
+    loop-less
+    loop-again
+    returns-2)

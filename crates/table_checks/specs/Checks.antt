@@ -1,0 +1,43 @@
+-- What the functions that judge a table answer, place by place. Assumes nothing.
+use Prim.Native.Nat.{ℕ}
+use mathlib.Core.Bool.{Bool, not, cond, _||_}
+use mathlib.Core.List.{List, [], _∷_}
+use lib.Dec.{eqb, ltb, leb}
+use lib.ListN.{getD}
+use Rattle.ledgers.specs.Limits.{maxAmount}
+use Rattle.tables.specs.Columns.{sendsAt}
+use Rattle.tables.specs.Places.{anyAt}
+use Rattle.wire.specs.BigEndian.{every}
+
+-- what 3 asks of one held record of a ledger by itself: with the ledger's byte, the number of its accounts and of the other's
+unfoldable pub rowAllowed : ℕ → ℕ → ℕ → ℕ → ℕ → ℕ → ℕ → ℕ → ℕ → Bool
+rowAllowed l own other kind ledger sender receiver amount verdict =
+    every
+    (ltb 0 kind
+    ∷ leb kind 3
+    ∷ eqb ledger l
+    ∷ eqb verdict 1
+    ∷ ltb 0 amount
+    ∷ leb amount maxAmount
+    ∷ ltb sender (cond (eqb kind 3) other own)
+    ∷ ltb receiver (cond (eqb kind 2) other own)
+    ∷ []
+    )
+
+-- the same of the record at place i
+abbrev pub allowedAt : ℕ → ℕ → ℕ → List ℕ → List ℕ → List ℕ → List ℕ → List ℕ → List ℕ → ℕ → Bool
+allowedAt l own other kinds ledgers senders receivers amounts verdicts i =
+    rowAllowed l own other (getD kinds i 0) (getD ledgers i 0) (getD senders i 0) (getD receivers i 0) (getD amounts i 0)
+    (getD verdicts i 0)
+
+-- place i has no receiving, or its sending is at one of the n places from another on
+abbrev pub backedAt : List ℕ → List ℕ → List ℕ → List ℕ → List ℕ → ℕ → ℕ → ℕ → Bool
+backedAt kinds senders receivers numbers amounts from n i =
+    not (eqb (getD kinds i 0) 3)
+    || anyAt
+    (sendsAt kinds senders receivers numbers amounts (getD numbers i 0) (getD senders i 0) (getD receivers i 0) (getD amounts i 0))
+    from n
+
+-- the amount at place i where its kind is a given byte
+abbrev pub flowAt : ℕ → List ℕ → List ℕ → ℕ → ℕ
+flowAt kind kinds amounts i = cond (eqb (getD kinds i 0) kind) (getD amounts i 0) 0

@@ -1,0 +1,39 @@
+-- `tables::balance_at` meets its contract. Assumes nothing.
+use native.Mathlib.Omega.{arith}
+use borrow.Author.Needs.{needs}
+use borrow.Author.Tests.{le-ltb, lt-ltb}
+use Rattle.tables.specs.Columns.{balanceAt}
+use Rattle.tables.proofs.balance_at.Statement.{statement}
+use Rattle.tables.proofs.balance_at.Tie as tie
+
+as-index-requires : tie.Need-as-index-requires
+as-index-requires c κs = search needs
+
+add-result : tie.Need-add-result
+add-result c = search needs
+
+mul-result : tie.Need-mul-result
+mul-result c = search needs
+
+shared-slice-read-result : tie.Need-shared-slice-read-result
+shared-slice-read-result c = search needs
+
+returns : tie.Need-returns
+unfolding balanceAt
+returns c =
+    let c4 = c .before .before .before .before in
+    let a = c4 .args in
+    let e = c .before .before .as-index .ensures in
+    rw (lt-ltb (a .i) (a .n) (omega arith), e)
+
+returns-2 : tie.Need-returns-2
+unfolding balanceAt
+returns-2 c =
+    let a = c .before .before .before .args in
+    let e = c .before .as-index .ensures in
+    rw (le-ltb (a .i) (a .n) (omega arith))
+
+pub balance-at-spec : {M : Type 1} → statement M
+balance-at-spec =
+    tie.close
+    (tie.spec as-index-requires add-result mul-result shared-slice-read-result returns returns-2)

@@ -1,0 +1,90 @@
+-- `tables::first_refusals` meets its contract. Assumes nothing.
+use Prim.Native.Nat.{ℕ}
+use mathlib.Core.Bool.{Bool, not}
+use mathlib.Core.Path.{_∙_, ap, ap₂}
+use native.Mathlib.Omega.{arith}
+use lib.Dec.{leb}
+use borrow.Author.Needs.{needs}
+use Rattle.answers.proofs.Answers.{refuse-else}
+use Rattle.answers.specs.Answers.{orElse, refuse}
+use Rattle.tables.specs.Columns.{firstAt, usedAt}
+use Rattle.tables.specs.Places.{anyAt}
+use Rattle.tables.proofs.first_refusals.Statement.{statement}
+use Rattle.tables.proofs.first_refusals.Tie as tie
+
+as-index-requires : tie.Need-as-index-requires
+as-index-requires c κs = search needs
+
+refusal-if-requires : tie.Need-refusal-if-requires
+refusal-if-requires c κs = search needs
+
+as-index-requires-2 : tie.Need-as-index-requires-2
+as-index-requires-2 c κs = search needs
+
+refusal-if-requires-2 : tie.Need-refusal-if-requires-2
+refusal-if-requires-2 c κs = search needs
+
+refusal-if-requires-3 : tie.Need-refusal-if-requires-3
+refusal-if-requires-3 c κs = search needs
+
+used-requires : tie.Need-used-requires
+used-requires c κs = search needs
+
+refusal-if-requires-4 : tie.Need-refusal-if-requires-4
+refusal-if-requires-4 c κs = search needs
+
+first-refusal-requires : tie.Need-first-refusal-requires
+first-refusal-requires c κs = search needs
+
+first-refusal-requires-2 : tie.Need-first-refusal-requires-2
+first-refusal-requires-2 c κs = search needs
+
+first-refusal-requires-3 : tie.Need-first-refusal-requires-3
+first-refusal-requires-3 c κs = search needs
+
+first-refusal-requires-4 : tie.Need-first-refusal-requires-4
+first-refusal-requires-4 c κs = search needs
+
+returns : tie.Need-returns
+unfolding firstAt
+returns c =
+    let c4 = c .before .before .before .before in
+    let c5 = c4 .before in
+    let c10 = c5 .before .before .before .before .before in
+    let a = c10 .before .before .before .args in
+    let noSender = leb (a .senders) (a .r .sender) in
+    let noReceiver = leb (a .receivers) (a .r .receiver) in
+    let unverified = not (a .r .verified) in
+    let isUsed = anyAt (usedAt (a .r .number) (a .numbers .now)) (a .from) (a .n) in
+    let from24 = refuse isUsed 24 (a .later) in
+    let from23 = refuse unverified 23 from24 in
+    let sender = c10 .refusal-if .ensures ∙ ap (λ (k : ℕ). refuse (leb (a .senders) k) 22 0) (c10 .before .as-index .ensures) in
+    let receiver =
+    c5 .before .before .before .refusal-if2 .ensures
+    ∙ ap (λ (k : ℕ). refuse (leb (a .receivers) k) 22 0) (c5 .before .before .before .before .as-index2 .ensures) in
+    let signature = c5 .before .refusal-if3 .ensures in
+    let number = c4 .refusal-if4 .ensures ∙ ap (λ (t : Bool). refuse t 24 0) (c5 .used .ensures) in
+    let e24 =
+    c .before .before .before .first-refusal .ensures
+    ∙ ap (λ (k : ℕ). orElse k (a .later)) number
+    ∙ refuse-else isUsed 24 (a .later) (omega arith) in
+    let e23 = c .before .before .first-refusal2 .ensures ∙ ap₂ orElse signature e24 ∙ refuse-else unverified 23 from24 (omega arith) in
+    let e22 = c .before .first-refusal3 .ensures ∙ ap₂ orElse receiver e23 ∙ refuse-else noReceiver 22 from23 (omega arith) in
+    c .first-refusal4 .ensures ∙ ap₂ orElse sender e22 ∙ refuse-else noSender 22 (refuse noReceiver 22 from23) (omega arith)
+
+pub first-refusals-spec : {M : Type 1} → statement M
+first-refusals-spec =
+    tie.close
+    (tie.spec
+    as-index-requires
+    refusal-if-requires
+    as-index-requires-2
+    refusal-if-requires-2
+    refusal-if-requires-3
+    used-requires
+    refusal-if-requires-4
+    first-refusal-requires
+    first-refusal-requires-2
+    first-refusal-requires-3
+    first-refusal-requires-4
+    returns)

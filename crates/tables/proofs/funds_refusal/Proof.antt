@@ -1,0 +1,25 @@
+-- `tables::funds_refusal` meets its contract. Assumes nothing.
+use Prim.Native.Nat.{ℕ}
+use mathlib.Core.Path.{_∙_, ap}
+use lib.Dec.{ltb}
+use borrow.Author.Needs.{needs}
+use Rattle.answers.specs.Answers.{refuse}
+use Rattle.tables.specs.Columns.{fundsAt}
+use Rattle.tables.proofs.funds_refusal.Statement.{statement}
+use Rattle.tables.proofs.funds_refusal.Tie as tie
+
+balance-at-requires : tie.Need-balance-at-requires
+balance-at-requires c κs = search needs
+
+refusal-if-requires : tie.Need-refusal-if-requires
+refusal-if-requires c κs = search needs
+
+returns : tie.Need-returns
+unfolding fundsAt
+returns c =
+    let c4 = c .before .before .before .before in
+    let a = c4 .args in
+    c .refusal-if .ensures ∙ ap (λ (b : ℕ). refuse (ltb b (a .r .amount)) 25 0) (c .before .before .balance-at .ensures)
+
+pub funds-refusal-spec : {M : Type 1} → statement M
+funds-refusal-spec = tie.close (tie.spec balance-at-requires refusal-if-requires returns)

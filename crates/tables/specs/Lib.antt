@@ -1,0 +1,5 @@
+-- Held records in columns of numbers. Assumes nothing.
+
+pub mod Places
+pub mod Columns
+pub mod Entries

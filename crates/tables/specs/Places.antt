@@ -1,0 +1,30 @@
+-- Lists, tests and sums over the places i, i + 1, .. of a table, n of them. Assumes nothing.
+use Prim.Native.Nat.{ℕ, zero, suc, _+_}
+use mathlib.Core.Bool.{Bool, true, false, not, _&&_, _||_}
+use mathlib.Core.List.{List, [], _∷_}
+use lib.Dec.{eqb}
+
+-- what a function gives at the places
+unfoldable pub listAt : {A : Type 0} → (ℕ → A) → ℕ → ℕ → List A
+listAt g i zero = []
+listAt g i (suc n) = g i ∷ listAt g (suc i) n
+
+-- a test holds at one of the places
+unfoldable pub anyAt : (ℕ → Bool) → ℕ → ℕ → Bool
+anyAt p i zero = false
+anyAt p i (suc n) = p i || anyAt p (suc i) n
+
+-- a test holds at all of the places
+unfoldable pub allAt : (ℕ → Bool) → ℕ → ℕ → Bool
+allAt p i zero = true
+allAt p i (suc n) = p i && allAt p (suc i) n
+
+-- the sum over the places
+unfoldable pub sumAt : (ℕ → ℕ) → ℕ → ℕ → ℕ
+sumAt f i zero = 0
+sumAt f i (suc n) = f i + sumAt f (suc i) n
+
+-- no two of the places have one value
+unfoldable pub apartAt : (ℕ → ℕ) → ℕ → ℕ → Bool
+apartAt f i zero = true
+apartAt f i (suc n) = not (anyAt (λ (j : ℕ). eqb (f i) (f j)) (suc i) n) && apartAt f (suc i) n

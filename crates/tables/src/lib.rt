@@ -1,0 +1,265 @@
+// Tables of held records in columns of numbers, lent as slices: what a record is judged by. A ledger's records stand at n places from
+// a place `from` on; each function says in its `requires` that these lie within the columns.
+ghost use Prim.Native.Nat.{_+_, _^_, _<_, _≤_};
+ghost use mathlib.Core.Path.{_≡_};
+ghost use mathlib.Core.List.{_++_};
+ghost use lib.ListN.{length, take, drop};
+ghost use Rattle.tables.specs.Places.{anyAt};
+ghost use Rattle.rules.specs.PairValidator.{countAllowed};
+ghost use Rattle.rules.specs.Rules.{isReceiving};
+ghost use Rattle.tables.specs.Columns.{usedAt, sendsAt, balanceAt, firstAt, fundsAt, matchAt, takenBy, givenBy};
+ghost use Rattle.tables.specs.Entries.{entryOf};
+use answers::first_refusal;
+use answers::refusal_if;
+use ledgers::Kind;
+use ledgers::Ledger;
+use records::Record;
+
+// An account's number as an index.
+pub fn as_index(x: u16) -> usize
+    ensures { λ r. ⌜ r ≡ x ⌝ }
+{
+    x as usize
+}
+
+// ## Judging a record
+
+// Whether one of the places has the number.
+pub fn used(numbers: &[u64], from: usize, n: usize, x: u64) -> bool
+    requires { ⌜ from + n ≤ length (now numbers) ⌝ }
+    ensures { λ b. ⌜ b ≡ anyAt (usedAt x (now (numbers .entry))) from n ⌝ }
+{
+    let end = from + n;
+    let mut i = from;
+    while i < end {
+        if x == numbers[i] {
+            return true;
+        }
+        i += 1;
+    }
+    false
+}
+
+// 22 by the accounts of the sender's and the receiver's ledger, 23, 24, then the later refusals, or 0.
+pub fn first_refusals(
+    numbers: &[u64],
+    from: usize,
+    n: usize,
+    senders: usize,
+    receivers: usize,
+    r: Record,
+    later: u32,
+) -> u32
+    requires { ⌜ from + n ≤ length (now numbers) ⌝ }
+    ensures { λ k. ⌜ k ≡ firstAt (now (numbers .entry)) from n senders receivers r later ⌝ }
+{
+    let sender = refusal_if(senders <= as_index(r.sender), 22);
+    let receiver = refusal_if(receivers <= as_index(r.receiver), 22);
+    let signature = refusal_if(!r.verified, 23);
+    let number = refusal_if(used(numbers, from, n, r.number), 24);
+    first_refusal(
+        sender,
+        first_refusal(
+            receiver,
+            first_refusal(signature, first_refusal(number, later)),
+        ),
+    )
+}
+
+// The balance of an account, or 0 where there is no such account.
+pub fn balance_at(balances: &[u64], from: usize, n: usize, i: u16) -> u64
+    requires { ⌜ from + n ≤ length (now balances) ⌝ }
+    ensures { λ b. ⌜ b ≡ balanceAt (now (balances .entry)) from n i ⌝ }
+{
+    let account = as_index(i);
+    if account < n {
+        return balances[from + account];
+    }
+    0
+}
+
+// 25, or 0.
+pub fn funds_refusal(balances: &[u64], from: usize, n: usize, r: Record) -> u32
+    requires { ⌜ from + n ≤ length (now balances) ⌝ }
+    ensures { λ k. ⌜ k ≡ fundsAt (now (balances .entry)) from n r ⌝ }
+{
+    refusal_if(balance_at(balances, from, n, r.sender) < r.amount, 25)
+}
+
+// Whether place i has the sending of a number, sender, receiver and amount.
+pub fn sends<'a>(
+    kinds: &'a [u8],
+    senders: &'a [u16],
+    receivers: &'a [u16],
+    numbers: &'a [u64],
+    amounts: &'a [u64],
+    number: u64,
+    sender: u16,
+    receiver: u16,
+    amount: u64,
+    i: usize,
+) -> bool
+    requires { ⌜ (i < length (now kinds)) × (i < length (now senders)) × (i < length (now receivers)) × (i < length (now numbers))
+        × (i < length (now amounts)) ⌝ }
+    ensures { λ b. ⌜ b ≡ sendsAt (now (kinds .entry)) (now (senders .entry)) (now (receivers .entry)) (now (numbers .entry))
+        (now (amounts .entry)) number sender receiver amount i ⌝ }
+{
+    if number != numbers[i] {
+        return false;
+    }
+    if kinds[i] != Kind::SENDING {
+        return false;
+    }
+    if sender != senders[i] {
+        return false;
+    }
+    if receiver != receivers[i] {
+        return false;
+    }
+    amount == amounts[i]
+}
+
+// Whether one of the places has it.
+fn sent<'a>(
+    kinds: &'a [u8],
+    senders: &'a [u16],
+    receivers: &'a [u16],
+    numbers: &'a [u64],
+    amounts: &'a [u64],
+    from: usize,
+    n: usize,
+    r: Record,
+) -> bool
+    requires { ⌜ (from + n ≤ length (now kinds)) × (from + n ≤ length (now senders)) × (from + n ≤ length (now receivers))
+        × (from + n ≤ length (now numbers)) × (from + n ≤ length (now amounts)) ⌝ }
+    ensures { λ b. ⌜ b ≡ anyAt (sendsAt (now (kinds .entry)) (now (senders .entry)) (now (receivers .entry)) (now (numbers .entry))
+        (now (amounts .entry)) (r .number) (r .sender) (r .receiver) (r .amount)) from n ⌝ }
+{
+    let end = from + n;
+    let mut i = from;
+    while i < end {
+        if sends(
+            kinds,
+            senders,
+            receivers,
+            numbers,
+            amounts,
+            r.number,
+            r.sender,
+            r.receiver,
+            r.amount,
+            i,
+        ) {
+            return true;
+        }
+        i += 1;
+    }
+    false
+}
+
+// 31, or 0.
+pub fn match_refusal<'a>(
+    kinds: &'a [u8],
+    senders: &'a [u16],
+    receivers: &'a [u16],
+    numbers: &'a [u64],
+    amounts: &'a [u64],
+    from: usize,
+    n: usize,
+    r: Record,
+) -> u32
+    requires { ⌜ (from + n ≤ length (now kinds)) × (from + n ≤ length (now senders)) × (from + n ≤ length (now receivers))
+        × (from + n ≤ length (now numbers)) × (from + n ≤ length (now amounts)) ⌝ }
+    ensures { λ k. ⌜ k ≡ matchAt (now (kinds .entry)) (now (senders .entry)) (now (receivers .entry)) (now (numbers .entry))
+        (now (amounts .entry)) from n r ⌝ }
+{
+    refusal_if(
+        !sent(kinds, senders, receivers, numbers, amounts, from, n, r),
+        31,
+    )
+}
+
+// Whether a record comes from the other ledger.
+pub fn is_receiving(k: Kind) -> bool
+    ensures { λ b. ⌜ b ≡ isReceiving k ⌝ }
+{
+    match k {
+        Kind::Local(_) => false,
+        Kind::Sending(_) => false,
+        Kind::Receiving(_) => true,
+    }
+}
+
+// What a record of a kind takes from its sender's balance.
+pub fn taken_by(k: Kind, amount: u64) -> u64
+    ensures { λ r. ⌜ r ≡ takenBy k amount ⌝ }
+{
+    match k {
+        Kind::Local(_) => amount,
+        Kind::Sending(_) => amount,
+        Kind::Receiving(_) => 0,
+    }
+}
+
+// What it gives to its receiver's.
+pub fn given_by(k: Kind, amount: u64) -> u64
+    ensures { λ r. ⌜ r ≡ givenBy k amount ⌝ }
+{
+    match k {
+        Kind::Local(_) => amount,
+        Kind::Sending(_) => 0,
+        Kind::Receiving(_) => amount,
+    }
+}
+
+// What a passed record writes: its bytes for kind and ledger, the places of its accounts, and what it takes and gives there.
+pub struct Entry {
+    pub kind: u8,
+    pub ledger: u8,
+    pub from: usize,
+    pub to: usize,
+    pub taken: u64,
+    pub given: u64,
+}
+
+// What it writes on the ledger whose accounts stand from a place on.
+pub fn entry_of(r: Record, base: usize) -> Entry
+    requires { ⌜ base ≤ 2 ^ 32 ⌝ }
+    ensures { λ e. ⌜ e ≡ entryOf r base ⌝ }
+{
+    let kind = r.kind;
+    Entry {
+        kind: kind.byte(),
+        ledger: kind.ledger().byte(),
+        from: base + as_index(r.sender),
+        to: base + as_index(r.receiver),
+        taken: taken_by(kind, r.amount),
+        given: given_by(kind, r.amount),
+    }
+}
+
+// ## Openings
+
+// Whether a ledger may have n accounts.
+pub fn is_count_allowed(n: usize) -> bool
+    ensures { λ b. ⌜ b ≡ countAllowed n ⌝ }
+{
+    if n == 0 {
+        return false;
+    }
+    n <= Ledger::ACCOUNTS
+}
+
+// The numbers copied to a place of a longer list.
+pub fn copy_numbers(xs: &[u64], at: usize, out: &mut [u64])
+    requires { ⌜ at + length (now xs) ≤ length (now out) ⌝ }
+    ensures { λ _. ⌜ now (out .exit) ≡ take at (now (out .entry)) ++ (now (xs .entry)
+        ++ drop (at + length (now (xs .entry))) (now (out .entry))) ⌝ }
+{
+    let n = xs.len();
+    let mut i = 0;
+    while i < n {
+        out[at + i] = xs[i];
+        i += 1;
+    }
+}
