@@ -51,7 +51,7 @@ homeViewOf t = record { home = homeIn t; farAccounts = t .fars; farPool = t .poo
 
 -- ## 3
 
--- the counts of accounts and of held records, and the supply, are in bounds (Refusals: 3, counts out of bounds)
+-- the counts of accounts and of held records, and the supply, are in bounds (Refusals: 3, counts out of bounds, stake)
 unfoldable pub homeBounds : ℕ → ℕ → ℕ → ℕ → Bool
 homeBounds homes fars count supply =
     every (countAllowed homes ∷ countAllowed fars ∷ leb count capacity ∷ supplyAllowed supply ∷ [])

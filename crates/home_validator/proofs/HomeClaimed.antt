@@ -12,8 +12,9 @@ use Rattle.answers.specs.declared.Answer.the-variants.{Passed, Refused}
 use Rattle.home_tables.proofs.Passing.{HomeSound, home-next-of, home-sound-accepts, home-sound-of}
 use Rattle.home_tables.specs.Tables.{acceptsHome, homeIn}
 use Rattle.home_validator.proofs.HomeOpened.{home-opened-sound, home-opened-view, home-zero-refused}
-use Rattle.home_validator.specs.Claims.{HomeListsAndRefusals, HomeStateAnswers, HomeStateWithin, HomeStatesAnswer}
-use Rattle.home_validator.specs.Claims.{HomeStatesStayAccepted, HomeStatesWithin, HomeZeroRefused, homePassedOfRun, homeStateOfRun}
+use Rattle.home_validator.specs.Claims.{HomeCallsAsRules, HomeListsAndRefusals, HomeOpenedAsRules, HomeStateAnswers}
+use Rattle.home_validator.specs.Claims.{HomeStateWithin, HomeStatesAnswer, HomeStatesStayAccepted, HomeStatesWithin}
+use Rattle.home_validator.specs.Claims.{HomeThreeExactly, HomeZeroRefused, homePassedOfRun, homeStateOfRun}
 use Rattle.home_validator.specs.State.{homeChecker, homeOpenedState, homeTablesOf, homeViewOfState, homeZeroState}
 use Rattle.home_validator.specs.declared.HomeValidator.{HomeValidator}
 use Rattle.inputs.proofs.Parts.{call-unaccepted}
@@ -77,6 +78,25 @@ follows : (s : HomeValidator) (ds : List Call) → HomeSound (homeTablesOf s)
 follows s ds z =
     simulation homeChecker (homeValidator capacity) homeViewOfState (λ (s : HomeValidator). HomeSound (homeTablesOf s)) same-accepts
     same-judge same-after ds s z
+
+-- an opening
+pub home-opened-as-rules : HomeOpenedAsRules
+unfolding HomeOpenedAsRules
+home-opened-as-rules = home-opened-view
+
+-- any call
+pub home-calls-as-rules : HomeCallsAsRules
+unfolding HomeCallsAsRules
+home-calls-as-rules s z a d = let g = agrees s d (home-sound-of (homeTablesOf s) z a) in (g .answers, g .states)
+
+-- no judgement is 3
+judge-never-3 : (s : HomeValidator) (b : List ℕ) → homeChecker .judge s b ≡ 3 → ⊥
+judge-never-3 s b = home-never-3 capacity (homeViewOfState s) (reading b)
+
+-- 3 exactly where it is due
+pub home-three-exactly : HomeThreeExactly
+unfolding HomeThreeExactly
+home-three-exactly s d = (λ h. call-unaccepted homeChecker s d h, λ h. never-3 homeChecker judge-never-3 s h d)
 
 -- ## A call with one record
 
@@ -205,11 +225,11 @@ module _ (homes : List ℕ) (fars farTotal : ℕ) (ok : homeOpeningRefusal homes
               home = total (homeIn (homeTablesOf (homeStateOfRun homes fars farTotal ds)) .balances);
               pool = pool-same i;
             });
+        as-rules = reached;
         home-records = rw passed-same (within .home-records);
         table = ap (λ (x : HomeView). x .home .passed) reached ∙ rw passed-same (within .table);
         accepted = state-accepted;
-        never-3 = never-3 homeChecker (λ s b. home-never-3 capacity (homeViewOfState s) (reading b))
-            (homeStateOfRun homes fars farTotal ds) state-accepted;
+        never-3 = never-3 homeChecker judge-never-3 (homeStateOfRun homes fars farTotal ds) state-accepted;
       }
 
 -- after every run

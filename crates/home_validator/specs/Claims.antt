@@ -1,7 +1,7 @@
 -- What is claimed of the home validator's calls over the state that the program holds: the second half of demand 3.
 -- Assumes nothing.
 use Prim.Native.Nat.{_+_, _<_, _≤_, suc, ℕ}
-use mathlib.Core.Bool.{true}
+use mathlib.Core.Bool.{false, true}
 use mathlib.Core.List.{List, _++_, _∷_}
 use mathlib.Core.Logic.{_↔_}
 use mathlib.Core.Path.{_≡_}
@@ -17,10 +17,33 @@ use Rattle.records.specs.Records.{reading}
 use Rattle.records.specs.declared.Reading.the-variants.{Read, Unreadable}
 use Rattle.records.specs.declared.Record.{Record}
 use Rattle.rules.specs.Calls.{Call, CallBytes, ListsInTurn, RefusedUnaltered, call, handed, one, passedRecords, recordsOn, run}
-use Rattle.rules.specs.HomeValidator.{HomeRecord, Possible, farPoolOf, homeAfter, homeJudgeRecord, homeOpeningRefusal, received, sent}
+use Rattle.rules.specs.HomeValidator.{HomeRecord, Possible, farPoolOf, homeAfter, homeJudgeRecord, homeOpened, homeOpeningRefusal}
+use Rattle.rules.specs.HomeValidator.{homeValidator, received, sent}
 use Rattle.rules.specs.Lists.{total}
 use Rattle.rules.specs.Rules.{opened}
 use Rattle.wire.specs.BigEndian.{All}
+
+-- ## The rules' calls
+
+-- an accepted opening gives, seen as the rules' state, the rules' opening
+unfoldable pub HomeOpenedAsRules : Type 0
+HomeOpenedAsRules =
+    (homes : List ℕ) (fars farTotal : ℕ) → homeOpeningRefusal homes fars farTotal ≡ 0
+    → homeViewOfState (homeOpenedState homes fars farTotal) ≡ homeOpened homes fars farTotal
+
+-- any call in an accepted state has the answer of the rules' call and, seen as the rules' state, its state
+unfoldable pub HomeCallsAsRules : Type 0
+HomeCallsAsRules =
+    (s : HomeValidator) → HomeSized (homeTablesOf s) → acceptsHome (homeTablesOf s) ≡ true → (d : Call)
+    → (call homeChecker s d .answer ≡ call (homeValidator capacity) (homeViewOfState s) d .answer)
+    × (homeViewOfState (call homeChecker s d .state) ≡ call (homeValidator capacity) (homeViewOfState s) d .state)
+
+-- 3 is answered in its condition, with the state as it came, and not otherwise
+unfoldable pub HomeThreeExactly : Type 0
+HomeThreeExactly =
+    (s : HomeValidator) (d : Call)
+    → (acceptsHome (homeTablesOf s) ≡ false → call homeChecker s d ≡ record { answer = Refused 3 0; state = s })
+    × (acceptsHome (homeTablesOf s) ≡ true → (place : ℕ) → call homeChecker s d .answer ≡ Refused 3 place → ⊥)
 
 -- ## A call with one record
 
@@ -90,13 +113,16 @@ pub record HomeStateWithin (homes : List ℕ) (fars farTotal : ℕ) (ds : List C
         home = total (homeIn (homeTablesOf (homeStateOfRun homes fars farTotal ds)) .balances);
         pool = farPoolOf farTotal (recordsOn Home (homePassedOfRun homes fars farTotal ds));
       }
+  -- the state is, seen as the rules' state, the one that the rules' run reaches
+  pub as-rules : homeViewOfState (homeStateOfRun homes fars farTotal ds) ≡ run (homeValidator capacity) (homeOpened homes fars farTotal) ds
   -- every passed record is a home one
   pub home-records : All HomeRecord (homePassedOfRun homes fars farTotal ds)
   -- the table holds the passed records, in order
   pub table : homeIn (homeTablesOf (homeStateOfRun homes fars farTotal ds)) .passed
       ≡ recordsOn Home (homePassedOfRun homes fars farTotal ds)
-  -- the state is accepted, and no call answers 3
+  -- the state is accepted
   pub accepted : acceptsHome (homeTablesOf (homeStateOfRun homes fars farTotal ds)) ≡ true
+  -- no call answers 3
   pub never-3 : (d : Call) (place : ℕ) → call homeChecker (homeStateOfRun homes fars farTotal ds) d .answer ≡ Refused 3 place → ⊥
 
 -- DEMAND 3, SECOND HALF, of the program's states: at every accepted opening and after every list of calls

@@ -1,6 +1,7 @@
-// The home validator (document 01: guard), which sees the home ledger alone and never lets more come back than can have gone over:
-// its state, and the calls that makers use. A call takes the state by value and hands it back beside the answer; inside a call the
-// columns are lent and stored to in place. No call asks anything of the state or of the bytes that it is given.
+// The home validator (document 01: guard), which sees the home ledger alone and never lets more arrive than the far opening total
+// and what home has sent: its state, and the calls that makers use. A call takes the state by value and hands it back beside the
+// answer, and copies it once to have it for a refusal; beside that the columns are lent and stored to in place. No call asks
+// anything of the state or of the bytes that it is given.
 ghost use Prim.Native.Nat.{ℕ, _+_};
 ghost use mathlib.Core.Path.{_≡_};
 ghost use Rattle.answers.specs.Answers.{answer, unlessRefused};
@@ -25,7 +26,8 @@ use tables::copy_numbers;
 use tables::entry_of;
 use tables::is_count_allowed;
 
-// The state. A held record is one entry of each column. Entries at or beyond the count are not looked at and stay as they are.
+// The state. A held record is one entry of each column. Entries at or beyond the count are not looked at, and only a passed record
+// writes there.
 #[repr(C)]
 pub struct HomeValidator {
     // Document 01: stake.
@@ -230,7 +232,7 @@ impl HomeValidator {
         }
     }
 
-    // The home total and the far pool: 3, with zeros.
+    // The home total and the far pool. Refusal 3 comes with zeros.
     pub fn figures(self) -> HomeFigures
         ensures { λ r. ⌜ r ≡ homeFiguresOf (acceptsHome (homeTablesOf self)) (homeTablesOf self) ⌝ }
     {

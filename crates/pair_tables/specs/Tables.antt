@@ -1,5 +1,5 @@
 -- Both ledgers of the pair validator (document 01: pair book) as columns of numbers, seen as the rules' state. Both stand in one set
--- of columns: home first, far from account 56 and from place 512 on. Assumes nothing.
+-- of columns: home first, far after as many accounts and places as a ledger can have. Assumes nothing.
 use Prim.Native.Nat.{_*_, _+_, _-_, ℕ}
 use mathlib.Core.Bool.{Bool}
 use mathlib.Core.List.{List, [], _++_, _∷_}
@@ -66,7 +66,7 @@ pairViewOf t = record { pair = record { home = ledgerIn t 0; far = ledgerIn t 1 
 
 -- ## 3
 
--- the counts of accounts and of held records, and the supply, are in bounds (Refusals: 3, counts out of bounds)
+-- the counts of accounts and of held records, and the supply, are in bounds (Refusals: 3, counts out of bounds, stake)
 unfoldable pub inBounds : ℕ → ℕ → ℕ → ℕ → ℕ → Bool
 inBounds homes fars heldHome heldFar supply =
     every

@@ -1,5 +1,5 @@
-// The tables of both ledgers in one set of columns, lent as slices: home first, far from account 56 and from place 512 on. What the
-// pair validator judges a record and accepts a state by. Each function says in its `requires` that the columns are long enough.
+// The tables of both ledgers in one set of columns, lent as slices: home first, far after as many accounts and places as a ledger
+// can have. What the pair validator judges a record and accepts a state by. Each function says in its `requires` that the columns are long enough.
 ghost use Prim.Native.Nat.{_*_, _<_, _≤_};
 ghost use mathlib.Core.Path.{_≡_};
 ghost use lib.ListN.{length};

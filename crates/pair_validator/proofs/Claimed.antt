@@ -13,8 +13,8 @@ use Rattle.ledgers.specs.declared.Ledger.the-variants.{Far, Home}
 use Rattle.pair_tables.proofs.Passing.{Sound, next-of, sound-accepts, sound-of}
 use Rattle.pair_tables.specs.Tables.{PairTables, accepts, balancesOf, heldOf, pairViewOf}
 use Rattle.pair_validator.proofs.Opened.{opened-sound, opened-view, zero-refused}
-use Rattle.pair_validator.specs.Claims.{ListsAndRefusals, StateFollowsRules, StatesConserved, StatesFollowRules, StatesStayAccepted}
-use Rattle.pair_validator.specs.Claims.{ZeroRefused, passedOfRun, stateOfRun}
+use Rattle.pair_validator.specs.Claims.{CallsAsRules, ListsAndRefusals, OpenedAsRules, StateFollowsRules, StatesConserved}
+use Rattle.pair_validator.specs.Claims.{StatesFollowRules, StatesStayAccepted, ThreeExactly, ZeroRefused, passedOfRun, stateOfRun}
 use Rattle.pair_validator.specs.State.{openedState, pairChecker, tablesOf, viewOfState, zeroState}
 use Rattle.pair_validator.specs.declared.PairValidator.{PairValidator}
 use Rattle.records.specs.Records.{reading}
@@ -70,6 +70,25 @@ follows : (s : PairValidator) (ds : List Call) → Sound (tablesOf s)
 follows s ds z =
     simulation pairChecker (pairValidator capacity) viewOfState (λ (s : PairValidator). Sound (tablesOf s)) same-accepts
     same-judge same-after ds s z
+
+-- an opening
+pub opened-as-rules : OpenedAsRules
+unfolding OpenedAsRules
+opened-as-rules = opened-view
+
+-- any call
+pub calls-as-rules : CallsAsRules
+unfolding CallsAsRules
+calls-as-rules s z a d = let g = agrees s d (sound-of (tablesOf s) z a) in (g .answers, g .states)
+
+-- no judgement is 3
+judge-never-3 : (s : PairValidator) (b : List ℕ) → pairChecker .judge s b ≡ 3 → ⊥
+judge-never-3 s b = pair-never-3 capacity (viewOfState s .pair) (reading b)
+
+-- 3 exactly where it is due
+pub three-exactly : ThreeExactly
+unfolding ThreeExactly
+three-exactly s d = (λ h. call-unaccepted pairChecker s d h, λ h. never-3 pairChecker judge-never-3 s h d)
 
 -- ## Demand 2
 
@@ -149,10 +168,11 @@ states-conserved homes fars ok ds =
           + total (run (pairValidator capacity) (pairOpened homes fars) ds .pair .far .balances) + inFlightOf x) p
           ∙ c .conserved;
       figures = rw a (λ i. record { answer = Passed; home = total (balancesOf t 0); far = total (balancesOf t 1); flight = n i });
+      as-rules = s;
       supply-same = ap (λ (x : PairView). x .supply) s ∙ c .supply-same;
       tables = λ l. held-in t l ∙ ap (λ (x : PairView). stateOf l (x .pair) .passed) s ∙ c .tables l ∙ ap (recordsOn l) (sym p);
       accepted = a;
-      never-3 = never-3 pairChecker (λ s b. pair-never-3 capacity (viewOfState s .pair) (reading b)) (stateOfRun homes fars ds) a;
+      never-3 = never-3 pairChecker judge-never-3 (stateOfRun homes fars ds) a;
     }
   where
     conserved-after : (homes fars : List ℕ) → pairOpeningRefusal homes fars ≡ 0 → (ds : List Call) → ConservedAfter capacity homes fars ds

@@ -1,7 +1,7 @@
 -- What is claimed of the pair validator's calls over the state that the program holds: demand 2 and the first half of demand 3.
 -- Assumes nothing.
 use Prim.Native.Nat.{_+_, _<_, _≤_, suc, ℕ}
-use mathlib.Core.Bool.{true}
+use mathlib.Core.Bool.{false, true}
 use mathlib.Core.List.{List}
 use mathlib.Core.Logic.{_↔_}
 use mathlib.Core.Path.{_≡_}
@@ -18,8 +18,28 @@ use Rattle.records.specs.declared.Reading.the-variants.{Read, Unreadable}
 use Rattle.records.specs.declared.Record.{Record}
 use Rattle.rules.specs.Calls.{Call, ListsInTurn, RefusedUnaltered, call, one, passedRecords, recordsOn, run}
 use Rattle.rules.specs.Lists.{total}
-use Rattle.rules.specs.PairValidator.{inFlightOf, pairOpeningRefusal}
+use Rattle.rules.specs.PairValidator.{inFlightOf, pairOpened, pairOpeningRefusal, pairValidator}
 use Rattle.rules.specs.Rules.{afterBytes, judge, judgeBytes, stateOf}
+
+-- ## The rules' calls
+
+-- an accepted opening gives, seen as the rules' state, the rules' opening
+unfoldable pub OpenedAsRules : Type 0
+OpenedAsRules = (homes fars : List ℕ) → pairOpeningRefusal homes fars ≡ 0 → viewOfState (openedState homes fars) ≡ pairOpened homes fars
+
+-- any call in an accepted state has the answer of the rules' call and, seen as the rules' state, its state
+unfoldable pub CallsAsRules : Type 0
+CallsAsRules =
+    (s : PairValidator) → Sized (tablesOf s) → accepts (tablesOf s) ≡ true → (d : Call)
+    → (call pairChecker s d .answer ≡ call (pairValidator capacity) (viewOfState s) d .answer)
+    × (viewOfState (call pairChecker s d .state) ≡ call (pairValidator capacity) (viewOfState s) d .state)
+
+-- 3 is answered in its condition, with the state as it came, and not otherwise
+unfoldable pub ThreeExactly : Type 0
+ThreeExactly =
+    (s : PairValidator) (d : Call)
+    → (accepts (tablesOf s) ≡ false → call pairChecker s d ≡ record { answer = Refused 3 0; state = s })
+    × (accepts (tablesOf s) ≡ true → (place : ℕ) → call pairChecker s d .answer ≡ Refused 3 place → ⊥)
 
 -- ## Demand 2
 
@@ -80,12 +100,15 @@ pub record StateConserved (homes fars : List ℕ) (ds : List Call) : Type 0 wher
         far = total (balancesOf (tablesOf (stateOfRun homes fars ds)) 1);
         flight = inFlightOf (passedOfRun homes fars ds);
       }
+  -- the state is, seen as the rules' state, the one that the rules' run reaches
+  pub as-rules : viewOfState (stateOfRun homes fars ds) ≡ run (pairValidator capacity) (pairOpened homes fars) ds
   -- the state's supply is the opening's
   pub supply-same : stateOfRun homes fars ds .supply ≡ total homes + total fars
   -- each ledger's table holds its passed records, in order
   pub tables : (l : Ledger) → heldOf (tablesOf (stateOfRun homes fars ds)) (ledgerByte l) ≡ recordsOn l (passedOfRun homes fars ds)
-  -- the state is accepted, and no call answers 3
+  -- the state is accepted
   pub accepted : accepts (tablesOf (stateOfRun homes fars ds)) ≡ true
+  -- no call answers 3
   pub never-3 : (d : Call) (place : ℕ) → call pairChecker (stateOfRun homes fars ds) d .answer ≡ Refused 3 place → ⊥
 
 -- DEMAND 3, FIRST HALF, of the program's states: at every accepted opening and after every list of calls

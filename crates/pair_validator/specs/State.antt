@@ -3,7 +3,6 @@
 use Prim.Native.Nat.{ℕ}
 use mathlib.Core.Bool.{Bool, false, true}
 use mathlib.Core.List.{List}
-use Rattle.answers.specs.Answers.{answer}
 use Rattle.answers.specs.declared.Answer.the-variants.{Passed, Refused}
 use Rattle.ledgers.specs.Limits.{capacity}
 use Rattle.pair_tables.specs.Tables.{PairTables, accepts, afterRead, balancesOf, openedTables, pairViewOf, zeroTables}
@@ -13,7 +12,7 @@ use Rattle.records.specs.Records.{reading}
 use Rattle.rules.specs.Calls.{Checker}
 use Rattle.rules.specs.Lists.{total}
 use Rattle.rules.specs.PairValidator.{PairView, pairJudge}
-use Rattle.rules.specs.Rules.{after, flight, inFlight, judge}
+use Rattle.rules.specs.Rules.{inFlight}
 
 -- ## The state
 

@@ -1,6 +1,6 @@
 // The pair validator (document 01: pair book), which sees the records of both ledgers in one order: its state, and the calls that
-// makers use. A call takes the state by value and hands it back beside the answer; inside a call the columns are lent and stored to
-// in place. No call asks anything of the state or of the bytes that it is given.
+// makers use. A call takes the state by value and hands it back beside the answer, and copies it once to have it for a refusal;
+// beside that the columns are lent and stored to in place. No call asks anything of the state or of the bytes that it is given.
 ghost use mathlib.Core.Path.{_≡_};
 ghost use Prim.Native.Nat.{ℕ, _+_};
 ghost use Rattle.answers.specs.Answers.{answer, unlessRefused};
@@ -32,7 +32,8 @@ pub const ACCOUNTS: usize = 2 * Ledger::ACCOUNTS;
 pub const PLACES: usize = 2 * Ledger::CAPACITY;
 
 // The state. Of both ledgers home stands first: in `accounts` (their number) and `counts` (of held records), in the balances, and
-// in each column, of which a held record is one entry. Entries at or beyond the count are not looked at and stay as they are.
+// in each column, of which a held record is one entry. Entries at or beyond the count are not looked at, and only a passed record
+// writes there.
 #[repr(C)]
 pub struct PairValidator {
     // Document 01: stake.
@@ -235,7 +236,7 @@ impl PairValidator {
         }
     }
 
-    // The totals of both ledgers and what is in flight: 3, with zeros.
+    // The totals of both ledgers and what is in flight. Refusal 3 comes with zeros.
     pub fn figures(self) -> PairFigures
         ensures { λ r. ⌜ r ≡ figuresOf (accepts (tablesOf self)) (tablesOf self) ⌝ }
     {

@@ -125,9 +125,12 @@ pub fn zeros(balances: &[u64], from: usize, n: usize) -> bool
 
 // ## Numbers that are apart
 
+// The number of chains.
+pub const CHAINS: usize = 1024;
+
 // Chains of places by the low bits of their numbers, and whether no two of the numbers are the same.
 pub struct Chain {
-    pub heads: [u16; 1024],
+    pub heads: [u16; CHAINS],
     pub nexts: [u16; Ledger::CAPACITY],
     pub apart: bool,
 }
@@ -150,7 +153,7 @@ pub fn chained(numbers: &[u64], from: usize, n: usize) -> Chain
     requires { ⌜ (from + n ≤ length (now numbers)) × (n ≤ capacity) ⌝ }
     ensures { λ c. ⌜ Chained (valueFrom (now (numbers .entry)) from) n c ⌝ }
 {
-    let mut heads = [0u16; 1024];
+    let mut heads = [0u16; CHAINS];
     let mut nexts = [0u16; Ledger::CAPACITY];
     let mut i = 0;
     while i < n {

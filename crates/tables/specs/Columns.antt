@@ -109,7 +109,7 @@ givenBy (Local l) amount = amount
 givenBy (Sending l) amount = 0
 givenBy (Receiving l) amount = amount
 
--- ## Judging a record
+-- ## Judging a record, for inner functions only: proved to be what the rules say (proofs/Judged.antt)
 
 -- place i has a number
 abbrev pub usedAt : ℕ → List ℕ → ℕ → Bool
