@@ -5,7 +5,7 @@ use mathlib.Core.Bool.{true}
 use mathlib.Core.List.{List, [], _∷_}
 use native.Mathlib.Omega.{arith}
 use lib.ListN.{length, length-append}
-use borrow.Author.Tests.{eqb-true, eq-eqb, lt-ltb, leb-true, le-leb}
+use borrow.Author.Tests.{eqb-true, eq-eqb, ltb-true, lt-ltb, leb-true, le-leb}
 use Rattle.answers.proofs.Answers.{or-else-zero}
 use Rattle.ledgers.specs.Ledgers.{counterpart, ledgerOf, senderLedger, receiverLedger}
 use Rattle.ledgers.specs.Limits.{maxAmount}
@@ -14,15 +14,15 @@ use Rattle.rules.proofs.Clashes.{unshared-distinct, distinct-unshared}
 use Rattle.rules.proofs.Ledgers.{each-ledger, with-same, from-other, sum-from, accounts-after, own-sums, Clean, clean-own}
 use Rattle.rules.proofs.Ledgers.{clean-other, crossing, read-amount}
 use Rattle.rules.proofs.Lists.{all-snoc, length-moved}
-use Rattle.rules.proofs.Refusals.{Allowed, first-none, room-none, Passable, judge-none}
+use Rattle.rules.proofs.Refusals.{Allowed, first-none, none-first, room-none, Passable, judge-none}
 use Rattle.rules.proofs.Runs.{keeps-accepted}
 use Rattle.rules.specs.Calls.{KeepsAccepted}
-use Rattle.rules.specs.Lists.{all, total}
+use Rattle.rules.specs.Lists.{any, all, total}
 use Rattle.rules.specs.PairValidator.{PairView, pairJudge, countAllowed, supplyAllowed, heldAllowed, sameLedger, standsUnder}
 use Rattle.rules.specs.PairValidator.{PairKeepsAccepted}
 use Rattle.rules.specs.PairValidator.{pairAccepts, pairValidator}
 use Rattle.rules.specs.Rules.{Ledger, Home, Far, Record, Reading, Read, Unreadable, LedgerState, PairState, stateOf, accountsOf}
-use Rattle.rules.specs.Rules.{judge, held, after, afterBytes, flight, inFlight}
+use Rattle.rules.specs.Rules.{firstRefusal, judge, held, after, afterBytes, flight, inFlight}
 use Rattle.wire.proofs.Lists.{every-none, every-first, every-both}
 
 -- ## The facts of an accepted state
@@ -111,14 +111,24 @@ facts-accepts capacity v a =
 pub allowed-held : (accounts : Ledger → ℕ) (passed : List Record) (r : Record)
     → Allowed (accounts (senderLedger (r .kind))) (accounts (receiverLedger (r .kind))) passed r
     → (0 < r .amount) × (r .amount ≤ maxAmount) → heldAllowed accounts r ≡ true
-unfolding heldAllowed
+unfolding heldAllowed any
 allowed-held accounts passed r a m =
+    let b : Allowed (accounts (senderLedger (r .kind))) (accounts (receiverLedger (r .kind))) [] r =
+    record { sender-open = a .sender-open; receiver-open = a .receiver-open; signed = a .signed; fresh = refl } in
     every-both _ _ (lt-ltb _ _ (m .0))
     (every-both _ _ (le-leb _ _ (m .1))
-    (every-both _ _ (lt-ltb _ _ (a .sender-open))
-    (every-both _ _ (lt-ltb _ _ (a .receiver-open))
-    (every-both _ _ (a .signed)
-    every-none))))
+    (every-both _ _ (eq-eqb (firstRefusal accounts [] r 0) 0 (none-first accounts [] r 0 b refl))
+    every-none))
+
+-- and back
+pub held-allowed : (accounts : Ledger → ℕ) (r : Record) → heldAllowed accounts r ≡ true
+    → Allowed (accounts (senderLedger (r .kind))) (accounts (receiverLedger (r .kind))) [] r × ((0 < r .amount) × (r .amount ≤ maxAmount))
+unfolding heldAllowed
+held-allowed accounts r h =
+    let a = every-first _ _ h in
+    let b = every-first _ _ (a .1) in
+    let c = every-first _ _ (b .1) in
+    (first-none accounts [] r 0 (eqb-true _ _ (c .0)) .0, (ltb-true _ _ (a .0), leb-true _ _ (b .0)))
 
 -- a record stands under its ledger
 pub stands-own : (r : Record) → standsUnder (ledgerOf (r .kind)) r ≡ true

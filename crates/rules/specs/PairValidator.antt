@@ -8,13 +8,13 @@ use mathlib.Core.Logic.{_↔_}
 use lib.Dec.{eqb, ltb, leb}
 use lib.ListN.{length}
 use Rattle.answers.specs.Answers.{refuse, orElse}
-use Rattle.ledgers.specs.Ledgers.{ledgerOf, senderLedger, receiverLedger}
+use Rattle.ledgers.specs.Ledgers.{ledgerOf}
 use Rattle.ledgers.specs.Limits.{accountLimit, maxAmount}
 use Rattle.records.specs.Records.{reading}
 use Rattle.rules.specs.Calls.{Call, one, Checker, call, run, passedRecords, recordsOn, KeepsAccepted}
 use Rattle.rules.specs.Lists.{any, all, total}
 use Rattle.rules.specs.Rules.{Ledger, Home, Far, Record, Reading, Read, Unreadable, PairState, stateOf, accountsOf, opened}
-use Rattle.rules.specs.Rules.{isReceiving, clashes, matches, judge, judgeReading, judgeBytes, afterBytes, flight, inFlight}
+use Rattle.rules.specs.Rules.{isReceiving, clashes, matches, firstRefusal, judge, judgeReading, judgeBytes, afterBytes, flightBoth, inFlight}
 use Rattle.wire.specs.BigEndian.{every}
 use Rattle.answers.specs.declared.Answer.the-variants.{Passed, Refused}
 
@@ -50,17 +50,10 @@ countAllowed n = every (ltb 0 n ∷ leb n accountLimit ∷ [])
 unfoldable pub supplyAllowed : ℕ → Bool
 supplyAllowed supply = leb supply maxAmount
 
--- a held record that 21, 22 and 23 would not refuse, with each ledger's number of accounts
+-- a held record that 21 (by its amount), 22 and 23 would not refuse, with each ledger's number of accounts
 unfoldable pub heldAllowed : (Ledger → ℕ) → Record → Bool
 heldAllowed accounts r =
-    every
-    (ltb 0 (r .amount)
-    ∷ leb (r .amount) maxAmount
-    ∷ ltb (r .sender) (accounts (senderLedger (r .kind)))
-    ∷ ltb (r .receiver) (accounts (receiverLedger (r .kind)))
-    ∷ r .verified
-    ∷ []
-    )
+    every (ltb 0 (r .amount) ∷ leb (r .amount) maxAmount ∷ eqb (firstRefusal accounts [] r 0) 0 ∷ [])
 
 -- no two held records of a ledger are such that 24 forbids one (Refusals: 3, shares its number)
 unfoldable pub unshared : List Record → Bool
@@ -160,7 +153,7 @@ AsTheRules = (capacity : ℕ) (v : PairView) → pairAccepts capacity v ≡ true
 
 -- in flight, worked out from passed records
 unfoldable pub inFlightOf : List (List ℕ) → ℕ
-inFlightOf bs = flight (recordsOn Home bs) (recordsOn Far bs) + flight (recordsOn Far bs) (recordsOn Home bs)
+inFlightOf bs = flightBoth (recordsOn Home bs) (recordsOn Far bs)
 
 -- what holds after the calls of a run
 pub record ConservedAfter (capacity : ℕ) (homes fars : List ℕ) (ds : List Call) : Type 0 where

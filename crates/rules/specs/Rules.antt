@@ -179,6 +179,10 @@ flightBy others r = cond (isSending (r .kind) && not (arrived (r .number) others
 unfoldable pub flight : List Record → List Record → ℕ
 flight records others = sum (flightBy others) records
 
--- the same from both ledgers (document 01: in flight)
+-- the same from both ledgers, with the records of each (document 01: in flight)
+abbrev pub flightBoth : List Record → List Record → ℕ
+flightBoth homes fars = flight homes fars + flight fars homes
+
+-- the same of a state
 unfoldable pub inFlight : PairState → ℕ
-inFlight p = flight (p .home .passed) (p .far .passed) + flight (p .far .passed) (p .home .passed)
+inFlight p = flightBoth (p .home .passed) (p .far .passed)

@@ -7,12 +7,13 @@ use native.Mathlib.Omega.{arith}
 use lib.Dec.{eqb, ltb}
 use lib.ListN.{drop, getD, length, take}
 use lib.Seq.{drop-cons}
-use borrow.Author.Tests.{eq-eqb, eqb-true, le-leb, leb-true, ltb-true}
+use borrow.Author.Tests.{eq-eqb, eqb-true, le-leb, leb-true, ltb-true, lt-ltb}
 use Rattle.ledgers.specs.Ledgers.{counterpart, kindAt, ledgerAt, ledgerByte, receiverLedger, senderLedger}
 use Rattle.ledgers.specs.declared.Ledger.{Ledger}
 use Rattle.ledgers.specs.declared.Ledger.the-variants.{Far, Home}
 use Rattle.records.specs.declared.Record.{Record}
 use Rattle.rules.proofs.Lists.{never-both-tests}
+use Rattle.rules.proofs.PairAccepted.{allowed-held, held-allowed}
 use Rattle.rules.specs.HomeValidator.{received, sent}
 use Rattle.rules.specs.Lists.{all, any, sum, total}
 use Rattle.rules.specs.PairValidator.{heldAllowed, matched, sameLedger, standsUnder, unshared}
@@ -87,7 +88,7 @@ module _ (t : Columns) (L : Ledger) (accounts : Ledger → ℕ) (i : ℕ) where
   -- a row that is allowed
   row-facts : allowedIn t L accounts i ≡ true
       → (formedRow t i ≡ true) × ((heldAllowed accounts (row t i) ≡ true) × (standsUnder L (row t i) ≡ true))
-  unfolding rowAllowed formedRow heldAllowed standsUnder
+  unfolding rowAllowed formedRow standsUnder any
   row-facts h =
       let a = every-first _ _ h in
       let b = every-first _ _ (a .1) in
@@ -113,12 +114,14 @@ module _ (t : Columns) (L : Ledger) (accounts : Ledger → ℕ) (i : ℕ) where
       (every-both _ _ (le-leb (getD (t .verdicts) i 0) 1 (omega (arith, one)))
       every-none))) in
       let held : heldAllowed accounts (row t i) ≡ true =
-      every-both _ _ (e .0)
-      (every-both _ _ (f .0)
-      (every-both _ _ sends
-      (every-both _ _ receives
-      (every-both _ _ (d .0)
-      every-none)))) in
+      allowed-held accounts [] (row t i)
+      (record {
+        sender-open = ltb-true _ _ sends;
+        receiver-open = ltb-true _ _ receives;
+        signed = d .0;
+        fresh = refl;
+      })
+      (ltb-true _ _ (e .0), leb-true _ _ (f .0)) in
       let stand : standsUnder L (row t i) ≡ true =
       rw (ledger-kind (getD (t .kinds) i 0) (ledgerAt (getD (t .ledgers) i 0)), on) (same-own L) in
       (formed, (held, stand))
@@ -126,16 +129,12 @@ module _ (t : Columns) (L : Ledger) (accounts : Ledger → ℕ) (i : ℕ) where
   -- and back
   facts-row : formedRow t i ≡ true → heldAllowed accounts (row t i) ≡ true → standsUnder L (row t i) ≡ true
       → allowedIn t L accounts i ≡ true
-  unfolding rowAllowed formedRow heldAllowed standsUnder
+  unfolding rowAllowed formedRow standsUnder
   facts-row h k s =
       let a = every-first _ _ h in
       let b = every-first _ _ (a .1) in
       let c = every-first _ _ (b .1) in
-      let e = every-first _ _ k in
-      let f = every-first _ _ (e .1) in
-      let g = every-first _ _ (f .1) in
-      let j = every-first _ _ (g .1) in
-      let v = every-first _ _ (j .1) in
+      let e = held-allowed accounts (row t i) k in
       let some : 1 ≤ getD (t .kinds) i 0 = ltb-true 0 (getD (t .kinds) i 0) (a .0) in
       let most : getD (t .kinds) i 0 ≤ 3 = leb-true (getD (t .kinds) i 0) 3 (b .0) in
       let same : sameLedger L (ledgerAt (getD (t .ledgers) i 0)) ≡ true =
@@ -143,14 +142,14 @@ module _ (t : Columns) (L : Ledger) (accounts : Ledger → ℕ) (i : ℕ) where
       let byte : getD (t .ledgers) i 0 ≡ ledgerByte L =
       byte-only L (getD (t .ledgers) i 0) (leb-true (getD (t .ledgers) i 0) 1 (c .0)) same in
       let on : ledgerAt (getD (t .ledgers) i 0) ≡ L = ap ledgerAt byte ∙ at-byte L in
-      let sends = rw (on, sender-byte accounts (getD (t .kinds) i 0) L some most) at (g .0) in
-      let receives = rw (on, receiver-byte accounts (getD (t .kinds) i 0) L some most) at (j .0) in
+      let sends = rw (on, sender-byte accounts (getD (t .kinds) i 0) L some most) at (lt-ltb _ _ (e .0 .sender-open)) in
+      let receives = rw (on, receiver-byte accounts (getD (t .kinds) i 0) L some most) at (lt-ltb _ _ (e .0 .receiver-open)) in
       every-both _ _ (a .0)
       (every-both _ _ (b .0)
       (every-both _ _ (eq-eqb _ _ byte)
-      (every-both _ _ (v .0)
-      (every-both _ _ (e .0)
-      (every-both _ _ (f .0)
+      (every-both _ _ (e .0 .signed)
+      (every-both _ _ (lt-ltb _ _ (e .1 .0))
+      (every-both _ _ (le-leb _ _ (e .1 .1))
       (every-both _ _ sends
       (every-both _ _ receives
       every-none)))))))
