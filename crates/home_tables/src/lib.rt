@@ -83,18 +83,16 @@ pub fn judge<'a>(
     let receivers = accounts_on(kind.receiver_ledger(), homes, fars);
     let last = last_refusal(balances, homes, pool, r);
     let full = refusal_if(Ledger::CAPACITY <= count, 41);
-    first_refusal(
-        far,
-        first_refusals(
-            numbers,
-            0,
-            count,
-            senders,
-            receivers,
-            r,
-            first_refusal(last, full),
-        ),
-    )
+    let rest = first_refusals(
+        numbers,
+        0,
+        count,
+        senders,
+        receivers,
+        r,
+        first_refusal(last, full),
+    );
+    first_refusal(far, rest)
 }
 
 // ## 3

@@ -168,7 +168,7 @@ impl HomeValidator {
         ) {
             return HomeOutcome {
                 answer: Answer::Refused {
-                    number: 3,
+                    number: 3, // once, before all else
                     place: 0,
                 },
                 state: self,
@@ -203,7 +203,7 @@ impl HomeValidator {
                         number: refusal,
                         place: i,
                     },
-                    state: before,
+                    state: before, // nothing of the list is kept
                 };
             }
             let entry = entry_of(r, 0);

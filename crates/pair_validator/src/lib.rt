@@ -168,7 +168,7 @@ impl PairValidator {
         ) {
             return PairOutcome {
                 answer: Answer::Refused {
-                    number: 3,
+                    number: 3, // once, before all else
                     place: 0,
                 },
                 state: self,
@@ -205,7 +205,7 @@ impl PairValidator {
                         number: refusal,
                         place: i,
                     },
-                    state: before,
+                    state: before, // nothing of the list is kept
                 };
             }
             let kind = r.kind;
