@@ -1,0 +1,462 @@
+// Times the validators' published calls in echoes, at full tables. An echo takes a state by value and hands it back, as every call
+// does, and does nothing else. Where it says kept, after the echo and after the call alike, the caller copies the state that came
+// back into a variable of its own. States are made by the calls themselves, and each call's answer is looked at before it is timed.
+use std::hint::black_box;
+use std::ops::Range;
+use std::time::Instant;
+
+const ACCOUNTS: usize = 56;
+const CAPACITY: usize = number(env!("CAPACITY"));
+
+const fn number(text: &str) -> usize {
+    let (digits, mut n, mut i) = (text.as_bytes(), 0, 0);
+    while i < digits.len() {
+        n = 10 * n + (digits[i] - b'0') as usize;
+        i += 1;
+    }
+    n
+}
+
+#[repr(C)]
+#[derive(Clone, Copy)]
+pub struct Pair {
+    supply: u64,
+    accounts: [usize; 2],
+    counts: [usize; 2],
+    balances: [u64; 2 * ACCOUNTS],
+    numbers: [u64; 2 * CAPACITY],
+    amounts: [u64; 2 * CAPACITY],
+    senders: [u16; 2 * CAPACITY],
+    receivers: [u16; 2 * CAPACITY],
+    kinds: [u8; 2 * CAPACITY],
+    ledgers: [u8; 2 * CAPACITY],
+    verdicts: [u8; 2 * CAPACITY],
+}
+
+#[repr(C)]
+#[derive(Clone, Copy)]
+pub struct Home {
+    supply: u64,
+    pool: u64,
+    homes: usize,
+    fars: usize,
+    count: usize,
+    balances: [u64; ACCOUNTS],
+    numbers: [u64; CAPACITY],
+    amounts: [u64; CAPACITY],
+    senders: [u16; CAPACITY],
+    receivers: [u16; CAPACITY],
+    kinds: [u8; CAPACITY],
+    ledgers: [u8; CAPACITY],
+    verdicts: [u8; CAPACITY],
+}
+
+#[repr(C)]
+pub struct Told<S> {
+    number: u32,
+    place: u64,
+    state: S,
+}
+
+#[repr(C)]
+pub struct PairFigures {
+    number: u32,
+    place: u64,
+    home: u64,
+    far: u64,
+    flight: u64,
+}
+
+#[repr(C)]
+pub struct HomeFigures {
+    number: u32,
+    place: u64,
+    home: u64,
+    pool: u64,
+}
+
+// A slice is a pointer and a length.
+extern "C" {
+    fn pair_open(homes: *const u64, h: usize, fars: *const u64, f: usize) -> Told<Pair>;
+    fn pair_one(state: Pair, bytes: *const u8, n: usize) -> Told<Pair>;
+    fn pair_list(state: Pair, bytes: *const u8, n: usize) -> Told<Pair>;
+    fn pair_figures(state: Pair) -> PairFigures;
+    fn pair_echo(state: Pair) -> Told<Pair>;
+    fn home_open(balances: *const u64, h: usize, fars: usize, far_total: u64) -> Told<Home>;
+    fn home_one(state: Home, bytes: *const u8, n: usize) -> Told<Home>;
+    fn home_list(state: Home, bytes: *const u8, n: usize) -> Told<Home>;
+    fn home_figures(state: Home) -> HomeFigures;
+    fn home_echo(state: Home) -> Told<Home>;
+}
+
+trait Validator: Copy {
+    const NAME: &'static str;
+    fn open() -> Told<Self>;
+    fn one(&self, bytes: &[u8]) -> Told<Self>;
+    fn list(&self, bytes: &[u8]) -> Told<Self>;
+    fn echo(&self) -> Told<Self>;
+    // The sum of its figures, and the refusal.
+    fn figures(&self) -> (u64, u32);
+    // The records that it is handed.
+    fn sees(record: &Record) -> bool;
+    // What plain Rust needs for the part of refusal 3 that looks at pairs of records.
+    fn compares_all(&self) -> bool;
+}
+
+const BALANCE: u64 = 1 << 40;
+
+impl Validator for Pair {
+    const NAME: &'static str = "pair";
+    fn open() -> Told<Pair> {
+        let balances = [BALANCE; ACCOUNTS];
+        unsafe { pair_open(balances.as_ptr(), ACCOUNTS, balances.as_ptr(), ACCOUNTS) }
+    }
+    #[inline(always)]
+    fn one(&self, bytes: &[u8]) -> Told<Pair> {
+        unsafe { pair_one(*self, bytes.as_ptr(), bytes.len()) }
+    }
+    #[inline(always)]
+    fn list(&self, bytes: &[u8]) -> Told<Pair> {
+        unsafe { pair_list(*self, bytes.as_ptr(), bytes.len()) }
+    }
+    #[inline(always)]
+    fn echo(&self) -> Told<Pair> {
+        unsafe { pair_echo(*self) }
+    }
+    #[inline(always)]
+    fn figures(&self) -> (u64, u32) {
+        let f = unsafe { pair_figures(*self) };
+        (f.home + f.far + f.flight + f.place, f.number)
+    }
+    fn sees(_: &Record) -> bool {
+        true
+    }
+    fn compares_all(&self) -> bool {
+        let (home, far) = (0..self.counts[0], CAPACITY..CAPACITY + self.counts[1]);
+        apart(&self.numbers[home.clone()])
+            && apart(&self.numbers[far.clone()])
+            && self.is_backed(home.clone(), far.clone())
+            && self.is_backed(far, home)
+    }
+}
+
+impl Pair {
+    // Whether each receiving of some places has its sending among others.
+    fn is_backed(&self, own: Range<usize>, other: Range<usize>) -> bool {
+        let numbers = &self.numbers[other.clone()];
+        own.filter(|&i| self.kinds[i] == RECEIVING).all(|i| {
+            let sends = |j: usize| {
+                self.kinds[j] == SENDING
+                    && self.senders[j] == self.senders[i]
+                    && self.receivers[j] == self.receivers[i]
+                    && self.amounts[j] == self.amounts[i]
+            };
+            let number = self.numbers[i];
+            (0..numbers.len()).any(|at| numbers[at] == number && sends(other.start + at))
+        })
+    }
+}
+
+impl Validator for Home {
+    const NAME: &'static str = "home";
+    fn open() -> Told<Home> {
+        let balances = [BALANCE; ACCOUNTS];
+        unsafe { home_open(balances.as_ptr(), ACCOUNTS, ACCOUNTS, ACCOUNTS as u64 * BALANCE) }
+    }
+    #[inline(always)]
+    fn one(&self, bytes: &[u8]) -> Told<Home> {
+        unsafe { home_one(*self, bytes.as_ptr(), bytes.len()) }
+    }
+    #[inline(always)]
+    fn list(&self, bytes: &[u8]) -> Told<Home> {
+        unsafe { home_list(*self, bytes.as_ptr(), bytes.len()) }
+    }
+    #[inline(always)]
+    fn echo(&self) -> Told<Home> {
+        unsafe { home_echo(*self) }
+    }
+    #[inline(always)]
+    fn figures(&self) -> (u64, u32) {
+        let f = unsafe { home_figures(*self) };
+        (f.home + f.pool + f.place, f.number)
+    }
+    fn sees(record: &Record) -> bool {
+        record[1] == 0
+    }
+    fn compares_all(&self) -> bool {
+        apart(&self.numbers[..self.count])
+    }
+}
+
+#[inline(never)]
+fn apart(numbers: &[u64]) -> bool {
+    for i in 0..numbers.len() {
+        for j in 0..i {
+            if numbers[j] == numbers[i] {
+                return false;
+            }
+        }
+    }
+    true
+}
+
+type Record = [u8; 32];
+
+const LOCAL: u8 = 1;
+const SENDING: u8 = 2;
+const RECEIVING: u8 = 3;
+
+// The records of both ledgers so far: transfers of all four sorts at random, between accounts at random.
+struct History {
+    seed: u64,
+    number: fn(u64) -> u64,
+    transfers: u64,
+    counts: [usize; 2],
+    records: Vec<Record>,
+}
+
+impl History {
+    fn new(number: fn(u64) -> u64) -> History {
+        History { seed: 1 << 32, number, transfers: 0, counts: [0; 2], records: Vec::new() }
+    }
+
+    fn below(&mut self, n: u64) -> u64 {
+        self.seed += 1;
+        random(self.seed) % n
+    }
+
+    // The record of a new transfer: from an account to an account, with number and amount.
+    fn transfer(&mut self) -> Record {
+        let mut record = [0; 32];
+        record[3] = self.below(ACCOUNTS as u64) as u8;
+        record[5] = self.below(ACCOUNTS as u64) as u8;
+        record[8..16].copy_from_slice(&(self.number)(self.transfers).to_be_bytes());
+        record[16..24].copy_from_slice(&(1 + self.below(1000)).to_be_bytes());
+        record[24] = 1;
+        self.transfers += 1;
+        record
+    }
+
+    fn push(&mut self, kind: u8, ledger: usize, transfer: Record) {
+        self.records.push(as_kind(kind, ledger, transfer));
+        self.counts[ledger] += 1;
+    }
+
+    // Until so many records are on each ledger.
+    fn fill(&mut self, home: usize, far: usize) {
+        let wanted = [home, far];
+        while self.counts != wanted {
+            let l = self.below(2) as usize;
+            let crosses = self.below(2) == 0;
+            if self.counts[l] == wanted[l] {
+                continue;
+            }
+            let transfer = self.transfer();
+            if crosses && self.counts[1 - l] < wanted[1 - l] {
+                self.push(SENDING, l, transfer);
+                self.push(RECEIVING, 1 - l, transfer);
+            } else {
+                self.push(LOCAL, l, transfer);
+            }
+        }
+    }
+
+    // The state after all of it, by list calls.
+    fn state<V: Validator>(&self) -> Box<V> {
+        let opened = V::open();
+        assert!(opened.number == 0);
+        let mut state = Box::new(opened.state);
+        for list in bytes_for::<V>(&self.records).chunks(32 * 100) {
+            let told = state.list(list);
+            assert!(told.number == 0, "refusal {} at {} of a list", told.number, told.place);
+            *state = told.state;
+        }
+        assert!(state.figures() == (2 * ACCOUNTS as u64 * BALANCE, 0));
+        state
+    }
+}
+
+// The bytes of those records that a validator is handed.
+fn bytes_for<V: Validator>(records: &[Record]) -> Vec<u8> {
+    records.iter().filter(|r| V::sees(r)).flatten().copied().collect()
+}
+
+fn as_kind(kind: u8, ledger: usize, transfer: Record) -> Record {
+    let mut record = transfer;
+    record[0] = kind;
+    record[1] = ledger as u8;
+    record
+}
+
+// A number for each k, all different, that no compiler or processor can foresee.
+fn random(k: u64) -> u64 {
+    let mut x = k.wrapping_mul(0x9e3779b97f4a7c15);
+    x = (x ^ x >> 30).wrapping_mul(0xbf58476d1ce4e5b9);
+    x = (x ^ x >> 27).wrapping_mul(0x94d049bb133111eb);
+    x ^ x >> 31
+}
+
+// A home ledger with a place left and one with none, beside a full far ledger whose last record is a sending; and its arrival.
+fn full_tables<V: Validator>(number: fn(u64) -> u64) -> (Box<V>, Box<V>, Record) {
+    let mut history = History::new(number);
+    history.fill(CAPACITY - 1, CAPACITY - 1);
+    let sending = history.transfer();
+    history.push(SENDING, 1, sending);
+    let nearly = history.state();
+    history.fill(CAPACITY, CAPACITY);
+    (nearly, history.state(), as_kind(RECEIVING, 0, sending))
+}
+
+// Half full tables, and a list of all kinds that fills them. The far ledger filled with sendings, and a list of their arrivals.
+fn lists<V: Validator>() -> [(Box<V>, Vec<u8>); 2] {
+    let mut history = History::new(|k| k + 1);
+    history.fill(CAPACITY / 2, CAPACITY / 2);
+    let half = history.state();
+    let mut later = History { transfers: history.transfers, counts: history.counts, ..History::new(|k| k + 1) };
+    later.fill(CAPACITY, CAPACITY);
+    let mut arrivals = Vec::new();
+    while history.counts[1] < CAPACITY {
+        let sending = history.transfer();
+        history.push(SENDING, 1, sending);
+        let at = history.below(arrivals.len() as u64 + 1) as usize;
+        arrivals.insert(at, as_kind(RECEIVING, 0, sending));
+    }
+    [(half, bytes_for::<V>(&later.records)), (history.state(), bytes_for::<V>(&arrivals))]
+}
+
+// A call that is timed, with its result left where it stands.
+type Call<'a> = Box<dyn FnMut() + 'a>;
+
+fn echo<V: Validator>(state: &V) -> Call<'_> {
+    Box::new(move || {
+        black_box(&black_box(state).echo());
+    })
+}
+
+fn one<'a, V: Validator>(state: &'a V, bytes: &'a [u8], answer: u32) -> Call<'a> {
+    assert!(state.one(bytes).number == answer);
+    Box::new(move || {
+        black_box(&black_box(state).one(black_box(bytes)));
+    })
+}
+
+fn list<'a, V: Validator>(state: &'a V, bytes: &'a [u8]) -> Call<'a> {
+    assert!(state.list(bytes).number == 0);
+    Box::new(move || {
+        black_box(&black_box(state).list(black_box(bytes)));
+    })
+}
+
+fn figures<V: Validator>(state: &V) -> Call<'_> {
+    Box::new(move || {
+        black_box(&black_box(state).figures());
+    })
+}
+
+// The same where the caller keeps the state that comes back.
+fn kept_echo<V: Validator>(state: &V) -> Call<'_> {
+    let mut kept = Box::new(*state);
+    Box::new(move || {
+        *kept = black_box(state).echo().state;
+        black_box(&*kept);
+    })
+}
+
+fn kept_one<'a, V: Validator>(state: &'a V, bytes: &'a [u8]) -> Call<'a> {
+    let mut kept = Box::new(*state);
+    Box::new(move || {
+        *kept = black_box(state).one(black_box(bytes)).state;
+        black_box(&*kept);
+    })
+}
+
+fn all_pairs<V: Validator>(state: &V) -> Call<'_> {
+    assert!(state.compares_all());
+    Box::new(move || {
+        black_box(black_box(state).compares_all());
+    })
+}
+
+// The median times of calls in ns: all in turns, each so many times in a row.
+fn medians<const N: usize>(turns: usize, mut calls: [(usize, Call); N]) -> [f64; N] {
+    let mut times = [(); N].map(|_| Vec::new());
+    for _ in 0..turns {
+        for ((row, call), times) in calls.iter_mut().zip(&mut times) {
+            let start = Instant::now();
+            for _ in 0..*row {
+                call();
+            }
+            times.push(start.elapsed().as_nanos() as f64 / *row as f64);
+        }
+    }
+    times.map(|mut times| {
+        times.sort_by(f64::total_cmp);
+        times[turns / 2]
+    })
+}
+
+// A line: the time, what it is in echoes and in echoes kept, and the limit of both.
+fn line(what: &str, ns: f64, echoes: f64, kept: f64, limit: f64) {
+    let held = match (echoes <= limit, kept <= limit) {
+        (true, true) => "held",
+        (false, true) => "held kept",
+        _ => "MISSED",
+    };
+    println!("  {what:<44} {ns:>9.0} {echoes:>8.2} {kept:>8.2}   {limit} {held}");
+}
+
+// Calls with one record at full tables.
+fn measure_one<V: Validator>(name: &str, number: fn(u64) -> u64) {
+    let (nearly, full, arrival) = full_tables::<V>(number);
+    let calls = [
+        echo(&*full),
+        one(&*full, &arrival, 41),
+        one(&*nearly, &arrival, 0),
+        figures(&*full),
+        kept_echo(&*full),
+        kept_one(&*full, &arrival),
+        kept_one(&*nearly, &arrival),
+    ];
+    let t = medians(1001, calls.map(|call| (20, call)));
+    println!("  {:<44} {:>9.0} {:>17.0} ns kept", format!("echo, {name} numbers"), t[0], t[4]);
+    line("one record, refused with 41", t[1], t[1] / t[0], t[5] / t[4], 7.0);
+    line("one record, passed", t[2], t[2] / t[0], t[6] / t[4], 7.0);
+    println!("  {:<44} {:>9.0} {:>8.2}", "figures", t[3], t[3] / t[0]);
+}
+
+// List calls of two lengths, and what one record more costs.
+fn measure_list<V: Validator>(name: &str, state: &V, bytes: &[u8]) {
+    let (short, long) = (CAPACITY / 8, CAPACITY / 2);
+    let (less, more) = (list(state, &bytes[..32 * short]), list(state, &bytes[..32 * long]));
+    let t = medians(101, [(20, echo(state)), (5, less), (5, more), (20, kept_echo(state))]);
+    let each = (t[2] - t[1]) / (long - short) as f64;
+    line(&format!("list {name}, a record ({short} to {long})"), each, each / t[0], each / t[3], 0.5);
+}
+
+// Numbers that all fall into one chain: one record, against all pairs in plain Rust and an echo.
+fn measure_hostile<V: Validator>(name: &str, number: fn(u64) -> u64) {
+    let (_, full, arrival) = full_tables::<V>(number);
+    let t = medians(51, [(20, echo(&*full)), (1, one(&*full, &arrival, 41)), (1, all_pairs(&*full))]);
+    let (wanted, ratio) = (t[2] + t[0], t[1] / (t[2] + t[0]));
+    let held = if ratio <= 1.0 { "held" } else { "MISSED" };
+    let what = format!("equal modulo {name}: all pairs {wanted:.0}; one record");
+    println!("  {what:<44} {:>9.0} {ratio:>8.2} of all pairs   1 {held}", t[1]);
+}
+
+fn measure<V: Validator>() {
+    println!("{} validator, {CAPACITY} records a ledger, a state of {} bytes", V::NAME, size_of::<V>());
+    println!("  {:<44} {:>9} {:>8} {:>8}   limit", "", "ns", "echoes", "kept");
+    measure_one::<V>("consecutive", |k| k + 1);
+    measure_one::<V>("random", random);
+    let [(half, mixed), (sent, arrivals)] = lists::<V>();
+    measure_list("of all kinds", &*half, &mixed);
+    measure_list("of arrivals", &*sent, &arrivals);
+    measure_hostile::<V>("2^10", |k| (k << 10) + 5);
+    measure_hostile::<V>("2^16", |k| (k << 16) + 5);
+    measure_hostile::<V>("2^32", |k| (k << 32) + 5);
+}
+
+fn main() {
+    measure::<Pair>();
+    measure::<Home>();
+}
