@@ -1,6 +1,16 @@
 // What the speed measurements call from Rust, by the C calling convention. An enum cannot cross, so that an answer goes as its number
 // and its place.
 ghost use mathlib.Core.Path.{_≡_};
+ghost use Rattle.answers.specs.Answers.{answer, unlessRefused};
+ghost use Rattle.answers.specs.declared.Answer.the-variants.{Passed};
+ghost use Rattle.bench_exports.specs.Told.{pairTold, pairFiguresTold, homeTold, homeFiguresTold};
+ghost use Rattle.home_tables.specs.Tables.{acceptsHome};
+ghost use Rattle.home_validator.specs.State.{homeTablesOf, homeChecker, homeOpenedState, homeZeroState, homeFiguresOf};
+ghost use Rattle.pair_tables.specs.Tables.{accepts};
+ghost use Rattle.pair_validator.specs.State.{tablesOf, pairChecker, openedState, zeroState, figuresOf};
+ghost use Rattle.rules.specs.Calls.{call, one, list};
+ghost use Rattle.rules.specs.HomeValidator.{homeOpeningRefusal};
+ghost use Rattle.rules.specs.PairValidator.{pairOpeningRefusal};
 ghost use Rattle.sha256_core.specs.Sha256.{sha256};
 use home_validator::HomeOutcome;
 use home_validator::HomeValidator;
@@ -43,7 +53,9 @@ pub struct PairToldFigures {
     pub flight: u64,
 }
 
-fn tell_pair(o: PairOutcome) -> PairTold {
+fn tell_pair(o: PairOutcome) -> PairTold
+    ensures { λ r. ⌜ r ≡ pairTold (o .answer) (o .state) ⌝ }
+{
     let answer = o.answer;
     let state = o.state;
     PairTold {
@@ -55,25 +67,37 @@ fn tell_pair(o: PairOutcome) -> PairTold {
 
 // An opening.
 #[no_mangle]
-pub extern "C" fn pair_open<'a>(homes: &'a [u64], fars: &'a [u64]) -> PairTold {
+pub extern "C" fn pair_open<'a>(homes: &'a [u64], fars: &'a [u64]) -> PairTold
+    ensures { λ r. ⌜ r ≡ pairTold (answer (pairOpeningRefusal (now (homes .entry)) (now (fars .entry))) 0)
+        (unlessRefused (pairOpeningRefusal (now (homes .entry)) (now (fars .entry))) (openedState (now (homes .entry)) (now (fars .entry)))
+        zeroState) ⌝ }
+{
     tell_pair(PairValidator::open(homes, fars))
 }
 
 // A call with one record.
 #[no_mangle]
-pub extern "C" fn pair_one(state: PairValidator, bytes: &[u8]) -> PairTold {
+pub extern "C" fn pair_one(state: PairValidator, bytes: &[u8]) -> PairTold
+    ensures { λ r. ⌜ r ≡ pairTold (call pairChecker state (one (now (bytes .entry))) .answer)
+        (call pairChecker state (one (now (bytes .entry))) .state) ⌝ }
+{
     tell_pair(state.step(Input::One, bytes))
 }
 
 // A call with a list.
 #[no_mangle]
-pub extern "C" fn pair_list(state: PairValidator, bytes: &[u8]) -> PairTold {
+pub extern "C" fn pair_list(state: PairValidator, bytes: &[u8]) -> PairTold
+    ensures { λ r. ⌜ r ≡ pairTold (call pairChecker state (list (now (bytes .entry))) .answer)
+        (call pairChecker state (list (now (bytes .entry))) .state) ⌝ }
+{
     tell_pair(state.step(Input::Many, bytes))
 }
 
 // The figures of a state.
 #[no_mangle]
-pub extern "C" fn pair_figures(state: PairValidator) -> PairToldFigures {
+pub extern "C" fn pair_figures(state: PairValidator) -> PairToldFigures
+    ensures { λ r. ⌜ r ≡ pairFiguresTold (figuresOf (accepts (tablesOf state)) (tablesOf state)) ⌝ }
+{
     let f = state.figures();
     let answer = f.answer;
     PairToldFigures {
@@ -87,7 +111,9 @@ pub extern "C" fn pair_figures(state: PairValidator) -> PairToldFigures {
 
 // The echo, which hands the state back and does nothing else.
 #[no_mangle]
-pub extern "C" fn pair_echo(state: PairValidator) -> PairTold {
+pub extern "C" fn pair_echo(state: PairValidator) -> PairTold
+    ensures { λ r. ⌜ r ≡ pairTold Passed state ⌝ }
+{
     PairTold {
         number: 0,
         place: 0,
@@ -114,7 +140,9 @@ pub struct HomeToldFigures {
     pub pool: u64,
 }
 
-fn tell_home(o: HomeOutcome) -> HomeTold {
+fn tell_home(o: HomeOutcome) -> HomeTold
+    ensures { λ r. ⌜ r ≡ homeTold (o .answer) (o .state) ⌝ }
+{
     let answer = o.answer;
     let state = o.state;
     HomeTold {
@@ -126,25 +154,37 @@ fn tell_home(o: HomeOutcome) -> HomeTold {
 
 // An opening.
 #[no_mangle]
-pub extern "C" fn home_open(balances: &[u64], fars: usize, far_total: u64) -> HomeTold {
+pub extern "C" fn home_open(balances: &[u64], fars: usize, far_total: u64) -> HomeTold
+    ensures { λ r. ⌜ r ≡ homeTold (answer (homeOpeningRefusal (now (balances .entry)) fars «far_total») 0)
+        (unlessRefused (homeOpeningRefusal (now (balances .entry)) fars «far_total»)
+        (homeOpenedState (now (balances .entry)) fars «far_total») homeZeroState) ⌝ }
+{
     tell_home(HomeValidator::open(balances, fars, far_total))
 }
 
 // A call with one record.
 #[no_mangle]
-pub extern "C" fn home_one(state: HomeValidator, bytes: &[u8]) -> HomeTold {
+pub extern "C" fn home_one(state: HomeValidator, bytes: &[u8]) -> HomeTold
+    ensures { λ r. ⌜ r ≡ homeTold (call homeChecker state (one (now (bytes .entry))) .answer)
+        (call homeChecker state (one (now (bytes .entry))) .state) ⌝ }
+{
     tell_home(state.step(Input::One, bytes))
 }
 
 // A call with a list.
 #[no_mangle]
-pub extern "C" fn home_list(state: HomeValidator, bytes: &[u8]) -> HomeTold {
+pub extern "C" fn home_list(state: HomeValidator, bytes: &[u8]) -> HomeTold
+    ensures { λ r. ⌜ r ≡ homeTold (call homeChecker state (list (now (bytes .entry))) .answer)
+        (call homeChecker state (list (now (bytes .entry))) .state) ⌝ }
+{
     tell_home(state.step(Input::Many, bytes))
 }
 
 // The figures of a state.
 #[no_mangle]
-pub extern "C" fn home_figures(state: HomeValidator) -> HomeToldFigures {
+pub extern "C" fn home_figures(state: HomeValidator) -> HomeToldFigures
+    ensures { λ r. ⌜ r ≡ homeFiguresTold (homeFiguresOf (acceptsHome (homeTablesOf state)) (homeTablesOf state)) ⌝ }
+{
     let f = state.figures();
     let answer = f.answer;
     HomeToldFigures {
@@ -157,7 +197,9 @@ pub extern "C" fn home_figures(state: HomeValidator) -> HomeToldFigures {
 
 // The echo, which hands the state back and does nothing else.
 #[no_mangle]
-pub extern "C" fn home_echo(state: HomeValidator) -> HomeTold {
+pub extern "C" fn home_echo(state: HomeValidator) -> HomeTold
+    ensures { λ r. ⌜ r ≡ homeTold Passed state ⌝ }
+{
     HomeTold {
         number: 0,
         place: 0,

@@ -1,0 +1,16 @@
+-- `bench_exports::tell_pair` meets its contract. Assumes nothing.
+use borrow.Author.Needs.{needs}
+use Rattle.bench_exports.proofs.tell_pair.Statement.{statement}
+use Rattle.bench_exports.proofs.tell_pair.Tie as tie
+
+number-requires : tie.Need-number-requires
+number-requires c κs = search needs
+
+place-requires : tie.Need-place-requires
+place-requires c κs = search needs
+
+returns : tie.Need-returns
+returns c = λ i. record { number = c .before .number .ensures i; place = c .place .ensures i; state = c .before .before .before .args .o .state }
+
+pub tell-pair-spec : {M : Type 1} → statement M
+tell-pair-spec = tie.close (tie.spec number-requires place-requires returns)

@@ -1,0 +1,3 @@
+-- What the exports for the measurements hand back. Assumes nothing.
+
+pub mod Told
