@@ -14,7 +14,12 @@ tell-home-requires c κs = search needs
 returns : tie.Need-returns
 returns c =
     c .tell-home .ensures
-    ∙ (λ i. record { number = numberOf (c .before .step .ensures .0 i); place = placeOf (c .before .step .ensures .0 i); state = c .before .step .ensures .1 i })
+    ∙ (λ i. record {
+      number = numberOf (c .before .step .ensures .0 i);
+      place = placeOf (c .before .step .ensures .0 i);
+      state = c
+          .before .step .ensures .1 i;
+    })
 
 pub home-list-spec : {M : Type 1} → statement M
 home-list-spec = tie.close (tie.spec step-requires tell-home-requires returns)

@@ -14,7 +14,12 @@ tell-home-requires c κs = search needs
 returns : tie.Need-returns
 returns c =
     c .tell-home .ensures
-    ∙ (λ i. record { number = numberOf (c .before .«open» .ensures .0 i); place = placeOf (c .before .«open» .ensures .0 i); state = c .before .«open» .ensures .1 i })
+    ∙ (λ i. record {
+      number = numberOf (c .before .«open» .ensures .0 i);
+      place = placeOf (c .before .«open» .ensures .0 i);
+      state = c
+          .before .«open» .ensures .1 i;
+    })
 
 pub home-open-spec : {M : Type 1} → statement M
 home-open-spec = tie.close (tie.spec open-requires tell-home-requires returns)

@@ -14,7 +14,12 @@ tell-pair-requires c κs = search needs
 returns : tie.Need-returns
 returns c =
     c .tell-pair .ensures
-    ∙ (λ i. record { number = numberOf (c .before .step .ensures .0 i); place = placeOf (c .before .step .ensures .0 i); state = c .before .step .ensures .1 i })
+    ∙ (λ i. record {
+      number = numberOf (c .before .step .ensures .0 i);
+      place = placeOf (c .before .step .ensures .0 i);
+      state = c
+          .before .step .ensures .1 i;
+    })
 
 pub pair-list-spec : {M : Type 1} → statement M
 pair-list-spec = tie.close (tie.spec step-requires tell-pair-requires returns)

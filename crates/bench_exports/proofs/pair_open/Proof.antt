@@ -14,7 +14,12 @@ tell-pair-requires c κs = search needs
 returns : tie.Need-returns
 returns c =
     c .tell-pair .ensures
-    ∙ (λ i. record { number = numberOf (c .before .«open» .ensures .0 i); place = placeOf (c .before .«open» .ensures .0 i); state = c .before .«open» .ensures .1 i })
+    ∙ (λ i. record {
+      number = numberOf (c .before .«open» .ensures .0 i);
+      place = placeOf (c .before .«open» .ensures .0 i);
+      state = c
+          .before .«open» .ensures .1 i;
+    })
 
 pub pair-open-spec : {M : Type 1} → statement M
 pair-open-spec = tie.close (tie.spec open-requires tell-pair-requires returns)

@@ -10,7 +10,12 @@ place-requires : tie.Need-place-requires
 place-requires c κs = search needs
 
 returns : tie.Need-returns
-returns c = λ i. record { number = c .before .number .ensures i; place = c .place .ensures i; state = c .before .before .before .args .o .state }
+returns c = λ i. record {
+  number = c .before .number .ensures i;
+  place = c .place .ensures i;
+  state = c .before .before .before .args .o
+      .state;
+}
 
 pub tell-home-spec : {M : Type 1} → statement M
 tell-home-spec = tie.close (tie.spec number-requires place-requires returns)
