@@ -1,4 +1,4 @@
-// Runs document 01's cases 1 to 14 on both validators, and as case 0 forged states and lists, and prints for each call the case,
+// Runs document 01's cases 1 to 14 on the validators, and as case 0 forged states and lists, and prints for each call the case,
 // the answer's number and the figures of the state that came back.
 use answers::Answer;
 use home_validator::HomeOutcome;
