@@ -51,3 +51,8 @@ else-refused (suc n) later h = refl
 pub instead-refused : {A : Type 0} (n : ℕ) (given instead : A) → (n ≡ 0 → ⊥) → instead ≡ unlessRefused n given instead
 instead-refused zero given instead h = absurd (h refl)
 instead-refused (suc n) given instead h = refl
+
+-- later refusals come after a test
+pub refuse-later : (s : Bool) (n later x : ℕ) → orElse (refuse s (suc n) later) x ≡ refuse s (suc n) (orElse later x)
+refuse-later true n later x = refl
+refuse-later false n later x = refl

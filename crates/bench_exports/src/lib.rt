@@ -12,10 +12,7 @@ ghost use Rattle.rules.specs.Calls.{call, one, list};
 ghost use Rattle.rules.specs.HomeValidator.{homeOpeningRefusal};
 ghost use Rattle.rules.specs.PairValidator.{pairOpeningRefusal};
 ghost use Rattle.sha256_core.specs.Sha256.{sha256};
-use home_validator::HomeOutcome;
 use home_validator::HomeValidator;
-use inputs::Input;
-use pair_validator::PairOutcome;
 use pair_validator::PairValidator;
 
 // The 32 bytes of a digest.
@@ -53,18 +50,6 @@ pub struct PairToldFigures {
     pub flight: u64,
 }
 
-fn tell_pair(o: PairOutcome) -> PairTold
-    ensures { λ r. ⌜ r ≡ pairTold (o .answer) (o .state) ⌝ }
-{
-    let answer = o.answer;
-    let state = o.state;
-    PairTold {
-        number: answer.number(),
-        place: answer.place(),
-        state,
-    }
-}
-
 // An opening.
 #[no_mangle]
 pub extern "C" fn pair_open<'a>(homes: &'a [u64], fars: &'a [u64]) -> PairTold
@@ -72,7 +57,14 @@ pub extern "C" fn pair_open<'a>(homes: &'a [u64], fars: &'a [u64]) -> PairTold
         (unlessRefused (pairOpeningRefusal (now (homes .entry)) (now (fars .entry))) (openedState (now (homes .entry)) (now (fars .entry)))
         zeroState) ⌝ }
 {
-    tell_pair(PairValidator::open(homes, fars))
+    let o = PairValidator::open(homes, fars);
+    let answer = o.answer;
+    let after = o.state;
+    PairTold {
+        number: answer.number(),
+        place: answer.place(),
+        state: after,
+    }
 }
 
 // A call with one record.
@@ -81,7 +73,14 @@ pub extern "C" fn pair_one(state: PairValidator, bytes: &[u8]) -> PairTold
     ensures { λ r. ⌜ r ≡ pairTold (call pairChecker state (one (now (bytes .entry))) .answer)
         (call pairChecker state (one (now (bytes .entry))) .state) ⌝ }
 {
-    tell_pair(state.step(Input::One, bytes))
+    let o = state.check_record(bytes);
+    let answer = o.answer;
+    let after = o.state;
+    PairTold {
+        number: answer.number(),
+        place: answer.place(),
+        state: after,
+    }
 }
 
 // A call with a list.
@@ -90,7 +89,14 @@ pub extern "C" fn pair_list(state: PairValidator, bytes: &[u8]) -> PairTold
     ensures { λ r. ⌜ r ≡ pairTold (call pairChecker state (list (now (bytes .entry))) .answer)
         (call pairChecker state (list (now (bytes .entry))) .state) ⌝ }
 {
-    tell_pair(state.step(Input::Many, bytes))
+    let o = state.check_list(bytes);
+    let answer = o.answer;
+    let after = o.state;
+    PairTold {
+        number: answer.number(),
+        place: answer.place(),
+        state: after,
+    }
 }
 
 // The figures of a state.
@@ -140,18 +146,6 @@ pub struct HomeToldFigures {
     pub pool: u64,
 }
 
-fn tell_home(o: HomeOutcome) -> HomeTold
-    ensures { λ r. ⌜ r ≡ homeTold (o .answer) (o .state) ⌝ }
-{
-    let answer = o.answer;
-    let state = o.state;
-    HomeTold {
-        number: answer.number(),
-        place: answer.place(),
-        state,
-    }
-}
-
 // An opening.
 #[no_mangle]
 pub extern "C" fn home_open(balances: &[u64], fars: usize, far_total: u64) -> HomeTold
@@ -159,7 +153,14 @@ pub extern "C" fn home_open(balances: &[u64], fars: usize, far_total: u64) -> Ho
         (unlessRefused (homeOpeningRefusal (now (balances .entry)) fars «far_total»)
         (homeOpenedState (now (balances .entry)) fars «far_total») homeZeroState) ⌝ }
 {
-    tell_home(HomeValidator::open(balances, fars, far_total))
+    let o = HomeValidator::open(balances, fars, far_total);
+    let answer = o.answer;
+    let after = o.state;
+    HomeTold {
+        number: answer.number(),
+        place: answer.place(),
+        state: after,
+    }
 }
 
 // A call with one record.
@@ -168,7 +169,14 @@ pub extern "C" fn home_one(state: HomeValidator, bytes: &[u8]) -> HomeTold
     ensures { λ r. ⌜ r ≡ homeTold (call homeChecker state (one (now (bytes .entry))) .answer)
         (call homeChecker state (one (now (bytes .entry))) .state) ⌝ }
 {
-    tell_home(state.step(Input::One, bytes))
+    let o = state.check_record(bytes);
+    let answer = o.answer;
+    let after = o.state;
+    HomeTold {
+        number: answer.number(),
+        place: answer.place(),
+        state: after,
+    }
 }
 
 // A call with a list.
@@ -177,7 +185,14 @@ pub extern "C" fn home_list(state: HomeValidator, bytes: &[u8]) -> HomeTold
     ensures { λ r. ⌜ r ≡ homeTold (call homeChecker state (list (now (bytes .entry))) .answer)
         (call homeChecker state (list (now (bytes .entry))) .state) ⌝ }
 {
-    tell_home(state.step(Input::Many, bytes))
+    let o = state.check_list(bytes);
+    let answer = o.answer;
+    let after = o.state;
+    HomeTold {
+        number: answer.number(),
+        place: answer.place(),
+        state: after,
+    }
 }
 
 // The figures of a state.

@@ -3,7 +3,6 @@
 use answers::Answer;
 use home_validator::HomeOutcome;
 use home_validator::HomeValidator;
-use inputs::Input;
 use ledgers::Kind;
 use ledgers::Ledger;
 use libc::STDOUT_FILENO;
@@ -72,14 +71,14 @@ fn home_opened() -> HomeValidator {
 
 // One record handed to a state of the pair validator: its line, and the state.
 fn pair_one(case: u64, s: PairValidator, bytes: [u8; 32]) -> PairValidator {
-    let o = s.step(Input::One, &bytes);
+    let o = s.check_record(&bytes);
     pair_line(case, o);
     o.state
 }
 
 // The same for the home validator.
 fn home_one(case: u64, s: HomeValidator, bytes: [u8; 32]) -> HomeValidator {
-    let o = s.step(Input::One, &bytes);
+    let o = s.check_record(&bytes);
     home_line(case, o);
     o.state
 }
@@ -203,8 +202,8 @@ fn full_table() {
     while number < 511 {
         let from = (number % 2) as u16;
         let bytes = bytes_of(Kind::Local(Ledger::Home), from, 1 - from, number, 1);
-        s = s.step(Input::One, &bytes).state;
-        h = h.step(Input::One, &bytes).state;
+        s = s.check_record(&bytes).state;
+        h = h.check_record(&bytes).state;
         number += 1;
     }
     let full = pair_one(13, s, bytes_of(Kind::Local(Ledger::Home), 1, 0, 511, 1));
@@ -244,14 +243,14 @@ fn list_lines(both: &[u8]) {
     if both.len() < 64 {
         return;
     }
-    let refused = opened().step(Input::Many, both);
+    let refused = opened().check_list(both);
     pair_line(0, refused);
     let answer = refused.answer;
     print(answer.place());
     io::write_all(STDOUT_FILENO, b"\n");
-    pair_line(0, opened().step(Input::Many, &both[0..64]));
-    pair_line(0, opened().step(Input::Many, &both[0..0]));
-    pair_line(0, opened().step(Input::One, &both[0..64]));
+    pair_line(0, opened().check_list(&both[0..64]));
+    pair_line(0, opened().check_list(&both[0..0]));
+    pair_line(0, opened().check_record(&both[0..64]));
 }
 
 // The bytes of a sending and its arrival, and the rest of the buffer as it is.

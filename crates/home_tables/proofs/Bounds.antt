@@ -1,14 +1,16 @@
 -- Laws of the bounds of a state, and of its sum in two limbs. Assumes nothing.
 use Prim.Native.Nat.{_≤_, ℕ}
 use mathlib.Core.Bool.{false, true}
+use mathlib.Core.List.{List}
 use mathlib.Core.Path.{_∙_, _≡_, ap, sym}
 use native.Mathlib.Omega.{arith}
 use lib.Dec.{eqb}
 use borrow.Author.Tests.{le-leb, leb-true, ne-eqb}
+use Rattle.home_tables.specs.Judging.{acceptsHomeAt}
 use Rattle.home_tables.specs.Tables.{homeBounds}
 use Rattle.ledgers.specs.Limits.{accountLimit, capacity, maxAmount}
 use Rattle.rules.specs.PairValidator.{supplyAllowed}
-use Rattle.table_checks.proofs.Openings.{count-facts, facts-count}
+use Rattle.table_laws.proofs.Openings.{count-facts, facts-count}
 use Rattle.table_checks.proofs.Sums.{wide-passes}
 use Rattle.table_checks.specs.Sums.{wide}
 use Rattle.table_checks.specs.declared.Wide.{Wide}
@@ -51,6 +53,14 @@ facts-home-bounds h f n supply b =
     (every-both _ _ (le-leb n capacity (b .room))
     (every-both _ _ (le-leb supply maxAmount (b .supply-fits))
     every-none)))
+
+-- tests that hold keep them
+pub accepts-bounds : (supply pool homes fars count : ℕ) (balances kinds ledgers senders receivers numbers amounts verdicts : List ℕ)
+    → acceptsHomeAt supply pool homes fars count balances kinds ledgers senders receivers numbers amounts verdicts ≡ true
+    → HomeBounds homes fars count supply
+unfolding acceptsHomeAt
+accepts-bounds supply pool homes fars count balances kinds ledgers senders receivers numbers amounts verdicts h =
+    home-bounds-facts homes fars count supply (every-first _ _ h .0)
 
 -- ## The sum in two limbs
 

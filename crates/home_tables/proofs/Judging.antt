@@ -1,25 +1,31 @@
 -- What the functions on the lent columns of the home ledger say of a record is what the rules say. Assumes nothing.
-use Prim.Native.Nat.{_≤_, suc, ℕ}
+use Prim.Native.Nat.{ℕ}
 use mathlib.Core.Bool.{Bool, false, true}
 use mathlib.Core.List.{List}
-use mathlib.Core.Path.{_∙_, _≡_, ap, refl, sym}
+use mathlib.Core.Path.{_∙_, _≡_, refl, sym}
 use lib.Dec.{leb}
+use lib.ListN.{replicate}
+use Rattle.answers.proofs.Answers.{refuse-later}
 use Rattle.answers.specs.Answers.{orElse, refuse}
-use Rattle.home_tables.proofs.Accept.{home-accounts-on}
 use Rattle.home_tables.specs.Judging.{accountsOn, homeJudgeAt, homeLastAt}
-use Rattle.home_tables.specs.Tables.{HomeSized, HomeTables, homeIn, homeViewOf}
 use Rattle.ledgers.specs.Ledgers.{ledgerOf, receiverLedger, senderLedger}
-use Rattle.ledgers.specs.Limits.{accountLimit, capacity}
+use Rattle.ledgers.specs.Limits.{capacity}
 use Rattle.ledgers.specs.declared.Kind.{Kind}
 use Rattle.ledgers.specs.declared.Kind.the-variants.{Local, Receiving, Sending}
-use Rattle.records.specs.declared.Reading.the-variants.{Read}
+use Rattle.number_index.proofs.Index.{index-of-zeros}
+use Rattle.number_index.specs.Index.{Indexed, chainCount}
 use Rattle.records.specs.declared.Record.{Record}
 use Rattle.rules.proofs.Lists.{never-both-tests}
-use Rattle.rules.specs.HomeValidator.{homeAccounts, homeJudge, homeJudgeRecord, homeLastRefusal, isFar, poolRefusal}
-use Rattle.rules.specs.PairValidator.{roomRefusal}
-use Rattle.rules.specs.Rules.{firstRefusal, isReceiving}
-use Rattle.tables.proofs.Judged.{first-at, first-else, funds-at, room-at}
-use Rattle.tables.specs.Columns.{firstAt, fundsAt}
+use Rattle.rules.specs.HomeValidator.{isFar, poolRefusal}
+use Rattle.rules.specs.Rules.{isReceiving}
+use Rattle.tables.specs.Columns.{firstBy, fundsAt, usedAt}
+use Rattle.tables.specs.Places.{anyAt}
+
+-- ## The index of no numbers
+
+-- zeros are one
+pub index-empty : (numbers : List ℕ) → Indexed numbers (replicate chainCount 0) (replicate capacity 0) 0 0 0
+index-empty numbers = index-of-zeros numbers (replicate capacity 0) chainCount 0 0
 
 -- ## By kind
 
@@ -36,54 +42,14 @@ module _ (balances : List ℕ) (homes pool : ℕ) (r : Record) where
   last-paid (Sending l) h = refl
   last-paid (Receiving l) h = absurd (never-both-tests h)
 
--- later refusals come after a test
-refuse-later : (s : Bool) (n later x : ℕ) → orElse (refuse s (suc n) later) x ≡ refuse s (suc n) (orElse later x)
-refuse-later true n later x = refl
-refuse-later false n later x = refl
-
 -- the refusals in order, from the ledgers' counts
 pub home-judge-by : (homes fars pool count : ℕ) (balances numbers : List ℕ) (r : Record)
-    (far senders receivers last full later rest n : ℕ)
+    (far senders receivers last full later : ℕ) (taken : Bool) (rest n : ℕ)
     → far ≡ refuse (isFar (ledgerOf (r .kind))) 33 0
     → senders ≡ accountsOn homes fars (senderLedger (r .kind)) → receivers ≡ accountsOn homes fars (receiverLedger (r .kind))
     → last ≡ homeLastAt balances homes pool r (r .kind) → full ≡ refuse (leb capacity count) 41 0 → later ≡ orElse last full
-    → rest ≡ firstAt numbers 0 count senders receivers r later → n ≡ orElse far rest
+    → taken ≡ anyAt (usedAt (r .number) numbers) 0 count → rest ≡ firstBy senders receivers r taken later → n ≡ orElse far rest
     → n ≡ homeJudgeAt homes fars pool count balances numbers r
 unfolding homeJudgeAt
-home-judge-by homes fars pool count balances numbers r far senders receivers last full later rest n ef es ev el eu ea er h =
-    h ∙ rw (ef, er, ea, el, eu, es, ev) (refuse-later (isFar (ledgerOf (r .kind))) 32 0 _)
-
--- ## As the rules say
-
-module _ (t : HomeTables) (z : HomeSized t) (fits : t .homes ≤ accountLimit) (r : Record) where
-  -- 25 or 32
-  last-of : (k : Kind) → homeLastRefusal (homeViewOf t) r k ≡ homeLastAt (t .balances) (t .homes) (t .pool) r k
-  unfolding homeIn
-  last-of (Local l) = funds-at (t .balances) 0 (t .homes) r
-  last-of (Sending l) = funds-at (t .balances) 0 (t .homes) r
-  last-of (Receiving l) = refl
-
-  -- 22, 23 and 24 and those after them
-  first-of : firstRefusal (homeAccounts (homeViewOf t)) (homeIn t .passed) r
-      (orElse (homeLastRefusal (homeViewOf t) r (r .kind)) (roomRefusal capacity (homeIn t .passed)))
-      ≡ firstAt (t .columns .numbers) 0 (t .count) (accountsOn (t .homes) (t .fars) (senderLedger (r .kind)))
-      (accountsOn (t .homes) (t .fars) (receiverLedger (r .kind))) r
-      (orElse (homeLastAt (t .balances) (t .homes) (t .pool) r (r .kind)) (refuse (leb capacity (t .count)) 41 0))
-  unfolding homeIn
-  first-of =
-      rw (last-of (r .kind), room-at capacity (t .columns) 0 (t .count))
-      (first-at (homeAccounts (homeViewOf t)) (t .columns) 0 (t .count) r _
-      ∙ rw (home-accounts-on t z fits (senderLedger (r .kind)), home-accounts-on t z fits (receiverLedger (r .kind))))
-
--- the refusals of the columns are the home validator's
-pub judge-home-is : (t : HomeTables) → HomeSized t → t .homes ≤ accountLimit → (r : Record)
-    → homeJudgeAt (t .homes) (t .fars) (t .pool) (t .count) (t .balances) (t .columns .numbers) r
-    ≡ homeJudge capacity (homeViewOf t) (Read r)
-unfolding homeJudgeAt homeJudgeRecord
-judge-home-is t z fits r =
-    sym
-    (refuse-later (isFar (ledgerOf (r .kind))) 32 _ (roomRefusal capacity (homeIn t .passed))
-    ∙ ap (refuse (isFar (ledgerOf (r .kind))) 33)
-    (first-else (homeAccounts (homeViewOf t)) (homeIn t .passed) r (homeLastRefusal (homeViewOf t) r (r .kind))
-    (roomRefusal capacity (homeIn t .passed))
-    ∙ first-of t z fits r))
+home-judge-by homes fars pool count balances numbers r far senders receivers last full later taken rest n ef es ev el eu ea et er h =
+    h ∙ rw (ef, er, et, ea, el, eu, es, ev) (refuse-later (isFar (ledgerOf (r .kind))) 32 0 _)

@@ -15,7 +15,7 @@ use Rattle.ledgers.specs.declared.Ledger.{Ledger}
 use Rattle.ledgers.specs.declared.Ledger.the-variants.{Far, Home}
 use Rattle.records.specs.declared.Record.{Record}
 use Rattle.rules.specs.HomeValidator.{isFar, poolRefusal}
-use Rattle.table_checks.specs.Chains.{valueFrom}
+use Rattle.number_index.specs.Index.{valueFrom}
 use Rattle.table_checks.specs.Checks.{allowedAt}
 use Rattle.tables.specs.Columns.{firstAt, fundsAt, zerosAt}
 use Rattle.tables.specs.Places.{allAt, apartAt, sumAt}

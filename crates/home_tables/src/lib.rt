@@ -1,6 +1,7 @@
 // The table of the home ledger in columns lent as slices, with what is known of the far ledger: what the home validator judges a
 // record and accepts a state by. Each function says in its `requires` that the columns are long enough.
 ghost use Prim.Native.Nat.{ℕ, _+_, _≤_};
+ghost use mathlib.Core.Bool.{not, true};
 ghost use mathlib.Core.Path.{_≡_};
 ghost use lib.Dec.{eqb};
 ghost use lib.ListN.{length, getD};
@@ -8,21 +9,29 @@ ghost use Rattle.home_tables.specs.Tables.{homeBounds};
 ghost use Rattle.home_tables.specs.Judging.{accountsOn, homeLastAt, homeJudgeAt, acceptsHomeAt};
 ghost use Rattle.ledgers.specs.Limits.{accountLimit, capacity, maxAmount};
 ghost use Rattle.rules.specs.HomeValidator.{isFar, poolRefusal};
-ghost use Rattle.table_checks.specs.Chains.{valueFrom};
-ghost use Rattle.tables.specs.Places.{apartAt, sumAt};
+ghost use Rattle.number_index.specs.Index.{chainCount, Indexed};
+ghost use Rattle.records.specs.Records.{reading};
+ghost use Rattle.answers.specs.Answers.{refuse};
+ghost use Rattle.tables.specs.Entries.{judgedAs, Found};
+ghost use Rattle.tables.specs.Places.{sumAt};
 use answers::first_refusal;
 use answers::refusal_if;
 use ledgers::Ledger;
+use number_index::CHAINS;
+use number_index::index_all;
+use number_index::is_used;
+use records::Reading;
 use records::Record;
 use table_checks::Wide;
 use table_checks::add_balances;
-use table_checks::chained;
 use table_checks::rows_allowed;
 use table_checks::zeros;
+use tables::Judgement;
 use tables::first_refusals;
 use tables::funds_refusal;
 use tables::is_count_allowed;
 use tables::is_receiving;
+use tables::refused;
 
 // ## Judging a record
 
@@ -72,9 +81,12 @@ pub fn judge<'a>(
     count: usize,
     balances: &'a [u64],
     numbers: &'a [u64],
+    heads: &'a [u16],
+    nexts: &'a [u16],
     r: Record,
 ) -> u32
-    requires { ⌜ (homes ≤ length (now balances)) × (count ≤ length (now numbers)) ⌝ }
+    requires { ⌜ (homes ≤ length (now balances)) × (count ≤ length (now numbers)) × (chainCount ≤ length (now heads))
+        × (count ≤ length (now nexts)) × Indexed (now numbers) (now heads) (now nexts) 0 0 count ⌝ }
     ensures { λ n. ⌜ n ≡ homeJudgeAt homes fars pool count (now (balances .entry)) (now (numbers .entry)) r ⌝ }
 {
     let kind = r.kind;
@@ -83,16 +95,33 @@ pub fn judge<'a>(
     let receivers = accounts_on(kind.receiver_ledger(), homes, fars);
     let last = last_refusal(balances, homes, pool, r);
     let full = refusal_if(Ledger::CAPACITY <= count, 41);
-    let rest = first_refusals(
-        numbers,
-        0,
-        count,
-        senders,
-        receivers,
-        r,
-        first_refusal(last, full),
-    );
+    let taken = is_used(numbers, heads, nexts, 0, 0, count, r.number);
+    let rest = first_refusals(senders, receivers, r, taken, first_refusal(last, full));
     first_refusal(far, rest)
+}
+
+// The refusal of bytes, 21 and then as above, or 0 and the record.
+pub fn judge_bytes<'a>(
+    homes: usize,
+    fars: usize,
+    pool: u64,
+    count: usize,
+    balances: &'a [u64],
+    numbers: &'a [u64],
+    heads: &'a [u16],
+    nexts: &'a [u16],
+    bytes: &'a [u8],
+) -> Judgement
+    requires { ⌜ (homes ≤ length (now balances)) × (count ≤ length (now numbers)) × (chainCount ≤ length (now heads))
+        × (count ≤ length (now nexts)) × Indexed (now numbers) (now heads) (now nexts) 0 0 count ⌝ }
+    ensures { λ j. ⌜ Found (now (bytes .entry)) (judgedAs (homeJudgeAt homes fars pool count (now (balances .entry))
+        (now (numbers .entry))) (reading (now (bytes .entry)))) j ⌝ }
+{
+    let Reading::Read(r) = Record::read(bytes) else {
+        return refused(21);
+    };
+    let refusal = judge(homes, fars, pool, count, balances, numbers, heads, nexts, r);
+    Judgement { refusal, read: r }
 }
 
 // ## 3
@@ -126,16 +155,7 @@ fn adds_up(balances: &[u64], homes: usize, pool: u64, supply: u64) -> bool
     sum.low == supply
 }
 
-// Whether no two held records have one number.
-fn are_apart(numbers: &[u64], count: usize) -> bool
-    requires { ⌜ (count ≤ length (now numbers)) × (count ≤ capacity) ⌝ }
-    ensures { λ b. ⌜ b ≡ apartAt (valueFrom (now (numbers .entry)) 0) 0 count ⌝ }
-{
-    let chain = chained(numbers, 0, count);
-    chain.apart
-}
-
-// All that 3 asks of a state.
+// All that 3 asks of a state; where it holds, the index of the numbers is made in place of an empty one.
 pub fn is_accepted<'a>(
     supply: u64,
     pool: u64,
@@ -150,12 +170,16 @@ pub fn is_accepted<'a>(
     numbers: &'a [u64],
     amounts: &'a [u64],
     verdicts: &'a [u8],
+    heads: &'a mut [u16],
+    nexts: &'a mut [u16],
 ) -> bool
     requires { ⌜ (length (now balances) ≡ accountLimit) × (length (now kinds) ≡ capacity) × (length (now ledgers) ≡ capacity)
         × (length (now senders) ≡ capacity) × (length (now receivers) ≡ capacity) × (length (now numbers) ≡ capacity)
-        × (length (now amounts) ≡ capacity) × (length (now verdicts) ≡ capacity) ⌝ }
-    ensures { λ b. ⌜ b ≡ acceptsHomeAt supply pool homes fars count (now (balances .entry)) (now (kinds .entry)) (now (ledgers .entry))
-        (now (senders .entry)) (now (receivers .entry)) (now (numbers .entry)) (now (amounts .entry)) (now (verdicts .entry)) ⌝ }
+        × (length (now amounts) ≡ capacity) × (length (now verdicts) ≡ capacity) × (length (now heads) ≡ chainCount)
+        × (length (now nexts) ≡ capacity) × Indexed (now numbers) (now heads) (now nexts) 0 0 0 ⌝ }
+    ensures accepts { λ b. ⌜ b ≡ acceptsHomeAt supply pool homes fars count (now (balances .entry)) (now (kinds .entry))
+        (now (ledgers .entry)) (now (senders .entry)) (now (receivers .entry)) (now (numbers .entry)) (now (amounts .entry)) (now (verdicts .entry)) ⌝ }
+    ensures index { λ b. ⌜ (b ≡ true → Indexed (now (numbers .entry)) (now (heads .exit)) (now (nexts .exit)) 0 0 count) ⌝ }
 {
     if !is_bounded(homes, fars, count, supply) {
         return false;
@@ -178,8 +202,69 @@ pub fn is_accepted<'a>(
     ) {
         return false;
     }
-    if !are_apart(numbers, count) {
+    if !index_all(numbers, heads, nexts, 0, 0, count) {
         return false;
     }
     adds_up(balances, homes, pool, supply)
+}
+
+// ## A call with one record
+
+// The refusal of a call with one record, 3 first, or 0 and the record.
+pub fn judge_call<'a>(
+    supply: u64,
+    pool: u64,
+    homes: usize,
+    fars: usize,
+    count: usize,
+    balances: &'a [u64],
+    kinds: &'a [u8],
+    ledgers: &'a [u8],
+    senders: &'a [u16],
+    receivers: &'a [u16],
+    numbers: &'a [u64],
+    amounts: &'a [u64],
+    verdicts: &'a [u8],
+    bytes: &'a [u8],
+) -> Judgement
+    requires { ⌜ (length (now balances) ≡ accountLimit) × (length (now kinds) ≡ capacity) × (length (now ledgers) ≡ capacity)
+        × (length (now senders) ≡ capacity) × (length (now receivers) ≡ capacity) × (length (now numbers) ≡ capacity)
+        × (length (now amounts) ≡ capacity) × (length (now verdicts) ≡ capacity) ⌝ }
+    ensures { λ j. ⌜ Found (now (bytes .entry)) (refuse (not (acceptsHomeAt supply pool homes fars count (now (balances .entry))
+        (now (kinds .entry)) (now (ledgers .entry)) (now (senders .entry)) (now (receivers .entry)) (now (numbers .entry))
+        (now (amounts .entry)) (now (verdicts .entry)))) 3 (judgedAs (homeJudgeAt homes fars pool count (now (balances .entry))
+        (now (numbers .entry))) (reading (now (bytes .entry))))) j ⌝ }
+{
+    let mut heads = [0u16; CHAINS];
+    let mut nexts = [0u16; Ledger::CAPACITY];
+    if !is_accepted(
+        supply,
+        pool,
+        homes,
+        fars,
+        count,
+        balances,
+        kinds,
+        ledgers,
+        senders,
+        receivers,
+        numbers,
+        amounts,
+        verdicts,
+        &mut heads,
+        &mut nexts,
+    ) {
+        return refused(3);
+    }
+    judge_bytes(
+        homes,
+        fars,
+        pool,
+        count,
+        balances,
+        numbers,
+        &heads,
+        &nexts,
+        bytes,
+    )
 }

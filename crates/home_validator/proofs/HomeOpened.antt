@@ -10,7 +10,7 @@ use lib.Seq.{take-append-seam}
 use borrow.Author.Tests.{eq-eqb, leb-true}
 use Rattle.answers.specs.declared.Answer.the-variants.{Passed}
 use Rattle.home_tables.proofs.Bounds.{HomeBounds}
-use Rattle.home_tables.proofs.Passing.{HomeSound, home-sound-accepts}
+use Rattle.home_laws.proofs.Passing.{HomeSound, home-sound-accepts}
 use Rattle.home_tables.specs.Tables.{HomeSized, HomeTables, acceptsHome, homeBounds, homeIn, homeOpenedTables, homeViewOf, homeZeroTables}
 use Rattle.home_validator.specs.State.{homeFiguresOf, homeOpenedState, homeStateWith}
 use Rattle.home_validator.specs.declared.HomeFigures.{HomeFigures}
@@ -20,7 +20,7 @@ use Rattle.rules.proofs.PairConserved.{opening-none}
 use Rattle.rules.specs.HomeValidator.{homeAccepts, homeOpened, homeOpeningRefusal}
 use Rattle.rules.specs.Lists.{total}
 use Rattle.rules.specs.PairValidator.{countAllowed, supplyAllowed}
-use Rattle.table_checks.proofs.Openings.{count-facts, fewer-zeros, padded-length, zero-after}
+use Rattle.table_laws.proofs.Openings.{count-facts, fewer-zeros, padded-length, zero-after}
 use Rattle.tables.proofs.Places.{all-of}
 use Rattle.tables.specs.Columns.{formedRows, padded, rows, zeroColumns, zerosAt}
 use Rattle.tables.specs.Places.{allAt, listAt}

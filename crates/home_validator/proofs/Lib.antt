@@ -1,4 +1,3 @@
 -- Laws of the home validator's calls, and the theorems about them. Assumes nothing.
 pub mod HomeOpened
 pub mod HomeStepping
-pub mod HomeClaimed

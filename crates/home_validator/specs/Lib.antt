@@ -1,4 +1,3 @@
 -- The home validator's state, its calls, and what is claimed of them. Assumes nothing.
 
 pub mod State
-pub mod Claims

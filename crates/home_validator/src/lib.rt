@@ -1,25 +1,23 @@
 // The home validator (document 01: guard), which sees the home ledger alone and never lets more arrive than the far opening total
 // and what home has sent: its state, and the calls that makers use. A call takes the state by value and hands it back beside the
-// answer, and copies it once to have it for a refusal; beside that the columns are lent and stored to in place. No call asks
+// answer; a list copies it once to have it for a refusal, and beside that the columns are lent and stored to in place. No call asks
 // anything of the state or of the bytes that it is given.
 ghost use Prim.Native.Nat.{ℕ, _+_};
 ghost use mathlib.Core.Path.{_≡_};
 ghost use Rattle.answers.specs.Answers.{answer, unlessRefused};
 ghost use Rattle.home_tables.specs.Tables.{acceptsHome};
 ghost use Rattle.home_validator.specs.State.{homeTablesOf, homeChecker, homeOpenedState, homeZeroState, homeFiguresOf};
-ghost use Rattle.inputs.specs.Inputs.{callOf};
-ghost use Rattle.rules.specs.Calls.{call};
+ghost use Rattle.rules.specs.Calls.{call, one, list};
 ghost use Rattle.rules.specs.HomeValidator.{homeOpeningRefusal};
 ghost use Rattle.rules.specs.Lists.{total};
 use answers::Answer;
 use home_tables::is_accepted;
-use home_tables::judge;
-use inputs::Input;
-use inputs::is_left;
+use home_tables::judge_bytes;
+use home_tables::judge_call;
 use inputs::part_end;
 use ledgers::Ledger;
-use records::Reading;
-use records::Record;
+use number_index::CHAINS;
+use number_index::add;
 use table_checks::Wide;
 use table_checks::add_balances;
 use tables::copy_numbers;
@@ -145,12 +143,68 @@ impl HomeValidator {
         }
     }
 
-    // A call with one record or with a list of records: 3, then of each record 21, 33 and 22 to 41. A refusal hands back the state
-    // as it came.
-    pub fn step(mut self, input: Input, bytes: &[u8]) -> HomeOutcome
-        ensures answers { λ r. ⌜ r .answer ≡ call homeChecker self (callOf input (now (bytes .entry))) .answer ⌝ }
-        ensures hands_back { λ r. ⌜ r .state ≡ call homeChecker self (callOf input (now (bytes .entry))) .state ⌝ }
+    // A call with one record: 3, 21, 33 and 22 to 41. A refusal hands back the state as it came.
+    pub fn check_record(mut self, bytes: &[u8]) -> HomeOutcome
+        ensures answers { λ r. ⌜ r .answer ≡ call homeChecker self (one (now (bytes .entry))) .answer ⌝ }
+        ensures hands_back { λ r. ⌜ r .state ≡ call homeChecker self (one (now (bytes .entry))) .state ⌝ }
     {
+        let judged = judge_call(
+            self.supply,
+            self.pool,
+            self.homes,
+            self.fars,
+            self.count,
+            &self.balances,
+            &self.kinds,
+            &self.ledgers,
+            &self.senders,
+            &self.receivers,
+            &self.numbers,
+            &self.amounts,
+            &self.verdicts,
+            bytes,
+        );
+        if judged.refusal != 0 {
+            return HomeOutcome {
+                answer: Answer::Refused {
+                    number: judged.refusal,
+                    place: 0,
+                },
+                state: self,
+            };
+        }
+        let r = judged.read;
+        let entry = entry_of(r, 0);
+        let from = entry.from;
+        let to = entry.to;
+        let paying = self.balances[from];
+        self.balances[from] = paying - entry.taken;
+        let paid = self.balances[to];
+        self.balances[to] = paid + entry.given;
+        let place = self.count;
+        self.kinds[place] = entry.kind;
+        self.ledgers[place] = entry.ledger;
+        self.senders[place] = r.sender;
+        self.receivers[place] = r.receiver;
+        self.numbers[place] = r.number;
+        self.amounts[place] = r.amount;
+        self.verdicts[place] = 1;
+        self.count = place + 1;
+        self.pool = self.pool + entry.taken - entry.given; // a sending enters it, an arrival leaves it
+        HomeOutcome {
+            answer: Answer::Passed,
+            state: self,
+        }
+    }
+
+    // A call with a list of records: 3, then of each record 21, 33 and 22 to 41. A refusal has its record's index, and hands back the
+    // state as it came.
+    pub fn check_list(mut self, bytes: &[u8]) -> HomeOutcome
+        ensures answers { λ r. ⌜ r .answer ≡ call homeChecker self (list (now (bytes .entry))) .answer ⌝ }
+        ensures hands_back { λ r. ⌜ r .state ≡ call homeChecker self (list (now (bytes .entry))) .state ⌝ }
+    {
+        let mut heads = [0u16; CHAINS];
+        let mut nexts = [0u16; Ledger::CAPACITY];
         if !is_accepted(
             self.supply,
             self.pool,
@@ -165,6 +219,8 @@ impl HomeValidator {
             &self.numbers,
             &self.amounts,
             &self.verdicts,
+            &mut heads,
+            &mut nexts,
         ) {
             return HomeOutcome {
                 answer: Answer::Refused {
@@ -177,35 +233,29 @@ impl HomeValidator {
         let before = self;
         let mut at = 0;
         let mut i: u64 = 0;
-        while is_left(input, i, at, bytes.len()) {
-            let end = part_end(input, at, bytes.len());
-            let Reading::Read(r) = Record::read(&bytes[at..end]) else {
-                return HomeOutcome {
-                    answer: Answer::Refused {
-                        number: 21,
-                        place: i,
-                    },
-                    state: before,
-                };
-            };
-            let refusal = judge(
+        while at < bytes.len() {
+            let end = part_end(at, bytes.len());
+            let judged = judge_bytes(
                 self.homes,
                 self.fars,
                 self.pool,
                 self.count,
                 &self.balances,
                 &self.numbers,
-                r,
+                &heads,
+                &nexts,
+                &bytes[at..end],
             );
-            if refusal != 0 {
+            if judged.refusal != 0 {
                 return HomeOutcome {
                     answer: Answer::Refused {
-                        number: refusal,
+                        number: judged.refusal,
                         place: i,
                     },
                     state: before, // nothing of the list is kept
                 };
             }
+            let r = judged.read;
             let entry = entry_of(r, 0);
             let from = entry.from;
             let to = entry.to;
@@ -223,6 +273,7 @@ impl HomeValidator {
             self.verdicts[place] = 1;
             self.count = place + 1;
             self.pool = self.pool + entry.taken - entry.given;
+            add(&mut heads, &mut nexts, 0, 0, place, r.number);
             at = end;
             i += 1;
         }
@@ -236,6 +287,8 @@ impl HomeValidator {
     pub fn figures(self) -> HomeFigures
         ensures { λ r. ⌜ r ≡ homeFiguresOf (acceptsHome (homeTablesOf self)) (homeTablesOf self) ⌝ }
     {
+        let mut heads = [0u16; CHAINS];
+        let mut nexts = [0u16; Ledger::CAPACITY];
         if !is_accepted(
             self.supply,
             self.pool,
@@ -250,6 +303,8 @@ impl HomeValidator {
             &self.numbers,
             &self.amounts,
             &self.verdicts,
+            &mut heads,
+            &mut nexts,
         ) {
             return HomeFigures {
                 answer: Answer::Refused {

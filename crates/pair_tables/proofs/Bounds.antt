@@ -1,13 +1,17 @@
 -- Laws of the bounds of a state, and of its sums in two limbs. Assumes nothing.
-use Prim.Native.Nat.{_<_, _^_, _≤_, ℕ}
+use Prim.Native.Nat.{_*_, _<_, _^_, _≤_, suc, zero, ℕ}
 use mathlib.Core.Bool.{Bool, false, true}
+use mathlib.Core.List.{List}
 use mathlib.Core.Path.{_≡_, refl, sym}
+use native.Mathlib.Omega.{arith}
 use lib.Dec.{eqb}
+use lib.ListN.{getD, length}
 use borrow.Author.Tests.{eq-eqb, eqb-false, eqb-true, le-leb, leb-true, ne-eqb}
 use Rattle.ledgers.specs.Limits.{accountLimit, capacity, maxAmount}
+use Rattle.pair_tables.specs.Judging.{Fits, acceptsAt}
 use Rattle.pair_tables.specs.Tables.{inBounds}
 use Rattle.rules.specs.PairValidator.{supplyAllowed}
-use Rattle.table_checks.proofs.Openings.{count-facts, facts-count}
+use Rattle.table_laws.proofs.Openings.{count-facts, facts-count}
 use Rattle.table_checks.proofs.Sums.{same-limbs, same-wide}
 use Rattle.table_checks.specs.Sums.{wide}
 use Rattle.table_checks.specs.declared.Wide.{Wide}
@@ -54,6 +58,40 @@ facts-bounds h f n m supply b =
     (every-both _ _ (le-leb m capacity (b .far-room))
     (every-both _ _ (le-leb supply maxAmount (b .supply-fits))
     every-none))))
+
+-- an accepted state is in bounds
+pub accepts-bounded : (supply : ℕ) (accounts counts balances kinds ledgers senders receivers numbers amounts verdicts : List ℕ)
+    → acceptsAt supply accounts counts balances kinds ledgers senders receivers numbers amounts verdicts ≡ true
+    → Bounds (getD accounts 0 0) (getD accounts 1 0) (getD counts 0 0) (getD counts 1 0) supply
+unfolding acceptsAt
+accepts-bounded supply accounts counts balances kinds ledgers senders receivers numbers amounts verdicts p =
+    bounds-facts _ _ _ _ _ (every-first _ _ p .0)
+
+-- one of two is at most what both are
+each-of-two : (xs : List ℕ) (most : ℕ) → getD xs 0 0 ≤ most → getD xs 1 0 ≤ most → (l : ℕ) → l < 2 → getD xs l 0 ≤ most
+each-of-two xs most a b zero h = a
+each-of-two xs most a b (suc zero) h = b
+each-of-two xs most a b (suc (suc l)) h = absurd (omega arith)
+
+-- columns of the right lengths in bounds fit
+pub bounds-fit : (supply : ℕ) (accounts counts balances kinds senders receivers numbers amounts : List ℕ)
+    → Bounds (getD accounts 0 0) (getD accounts 1 0) (getD counts 0 0) (getD counts 1 0) supply
+    → length accounts ≡ 2 → length counts ≡ 2 → length balances ≡ 2 * accountLimit → length kinds ≡ 2 * capacity
+    → length senders ≡ 2 * capacity → length receivers ≡ 2 * capacity → length numbers ≡ 2 * capacity
+    → length amounts ≡ 2 * capacity → Fits accounts counts balances kinds senders receivers numbers amounts
+bounds-fit supply accounts counts balances kinds senders receivers numbers amounts b p q r s t u v w =
+    record {
+      accounts-are = p;
+      counts-are = q;
+      balances-are = r;
+      kinds-are = s;
+      senders-are = t;
+      receivers-are = u;
+      numbers-are = v;
+      amounts-are = w;
+      accounts-fit = each-of-two accounts accountLimit (b .home-fits) (b .far-fits);
+      counts-fit = each-of-two counts capacity (b .home-room) (b .far-room);
+    }
 
 -- ## Sums in two limbs
 

@@ -1,5 +1,4 @@
 -- Laws of the tables of both ledgers. Assumes nothing.
 pub mod Bounds
-pub mod Accept
+pub mod Indexes
 pub mod Judging
-pub mod Passing

@@ -13,8 +13,8 @@ use Rattle.ledgers.specs.declared.Kind.{Kind}
 use Rattle.ledgers.specs.declared.Kind.the-variants.{Local, Receiving, Sending}
 use Rattle.pair_tables.specs.Tables.{inBounds}
 use Rattle.records.specs.declared.Record.{Record}
-use Rattle.table_checks.specs.Chains.{valueFrom}
-use Rattle.table_checks.specs.Checks.{allowedAt, backedAt, flowAt}
+use Rattle.number_index.specs.Index.{Indexed, backedAt, chainCount, valueFrom}
+use Rattle.table_checks.specs.Checks.{allowedAt, flowAt}
 use Rattle.tables.specs.Columns.{firstAt, fundsAt, matchAt, zerosAt}
 use Rattle.tables.specs.Places.{allAt, apartAt, sumAt}
 use Rattle.wire.specs.BigEndian.{every}
@@ -54,6 +54,13 @@ pub record Fits (accounts counts balances kinds senders receivers numbers amount
   pub amounts-are : length amounts ≡ 2 * capacity
   pub accounts-fit : (l : ℕ) → l < 2 → getD accounts l 0 ≤ accountLimit
   pub counts-fit : (l : ℕ) → l < 2 → getD counts l 0 ≤ capacity
+
+-- the indexes of n home and m far numbers, home first
+pub record Indexes (n m : ℕ) (numbers heads nexts : List ℕ) : Type 0 where
+  pub heads-are : length heads ≡ 2 * chainCount
+  pub nexts-are : length nexts ≡ 2 * capacity
+  pub home : Indexed numbers heads nexts 0 0 n
+  pub far : Indexed numbers heads nexts chainCount capacity m
 
 -- ## 3
 

@@ -1,29 +1,43 @@
 // The tables of both ledgers in one set of columns, lent as slices: home first, far after as many accounts and places as a ledger
 // can have. What the pair validator judges a record and accepts a state by. Each function says in its `requires` that the columns are long enough.
 ghost use Prim.Native.Nat.{_*_, _<_, _≤_};
+ghost use mathlib.Core.Bool.{not, true};
 ghost use mathlib.Core.Path.{_≡_};
-ghost use lib.ListN.{length};
+ghost use lib.ListN.{length, getD};
+ghost use Rattle.answers.specs.Answers.{refuse};
 ghost use Rattle.ledgers.specs.Ledgers.{ledgerByte};
 ghost use Rattle.ledgers.specs.Limits.{accountLimit, capacity};
 ghost use Rattle.pair_tables.specs.Tables.{inBounds};
-ghost use Rattle.pair_tables.specs.Judging.{lastAt, judgeAt, Fits, paddedAt, rowsAt, matchedAt, addsUpAt, acceptsAt};
+ghost use Rattle.pair_tables.specs.Judging.{lastAt, judgeAt, Fits, Indexes, paddedAt, rowsAt, matchedAt, addsUpAt, acceptsAt};
+ghost use Rattle.records.specs.Records.{reading};
+ghost use Rattle.tables.specs.Entries.{judgedAs, Found};
 use answers::first_refusal;
 use answers::refusal_if;
 use ledgers::Kind;
 use ledgers::Ledger;
+use number_index::CHAINS;
+use number_index::all_backed;
+use number_index::index_all;
+use number_index::is_sent;
+use number_index::is_used;
+use records::Reading;
 use records::Record;
 use table_checks::Wide;
 use table_checks::add_amounts;
 use table_checks::add_balances;
-use table_checks::all_backed;
-use table_checks::chained;
 use table_checks::rows_allowed;
 use table_checks::zeros;
+use tables::Judgement;
 use tables::first_refusals;
 use tables::funds_refusal;
 use tables::is_count_allowed;
 use tables::is_receiving;
-use tables::match_refusal;
+use tables::refused;
+
+// The heads of both ledgers' indexes.
+pub const HEADS: usize = 2 * CHAINS;
+// The places of both ledgers.
+pub const PLACES: usize = 2 * Ledger::CAPACITY;
 
 // ## Judging a record
 
@@ -47,27 +61,37 @@ fn last_refusal<'a>(
     receivers: &'a [u16],
     numbers: &'a [u64],
     amounts: &'a [u64],
+    heads: &'a [u16],
+    nexts: &'a [u16],
     r: Record,
     l: usize,
     o: usize,
 ) -> u32
     requires { ⌜ Fits (now accounts) (now counts) (now balances) (now kinds) (now senders) (now receivers) (now numbers) (now amounts)
+        × Indexes (getD (now counts) 0 0) (getD (now counts) 1 0) (now numbers) (now heads) (now nexts)
         × (l < 2) × (o < 2) ⌝ }
     ensures { λ n. ⌜ n ≡ lastAt (now (accounts .entry)) (now (counts .entry)) (now (balances .entry)) (now (kinds .entry))
         (now (senders .entry)) (now (receivers .entry)) (now (numbers .entry)) (now (amounts .entry)) r l o (r .kind) ⌝ }
 {
     let kind = r.kind;
     if is_receiving(kind) {
-        return match_refusal(
+        let matched = is_sent(
             kinds,
             senders,
             receivers,
             numbers,
             amounts,
+            heads,
+            nexts,
+            o * CHAINS,
             o * Ledger::CAPACITY,
             counts[o],
-            r,
+            r.number,
+            r.sender,
+            r.receiver,
+            r.amount,
         );
+        return refusal_if(!matched, 31);
     }
     funds_refusal(balances, l * Ledger::ACCOUNTS, accounts[l], r)
 }
@@ -82,9 +106,12 @@ pub fn judge<'a>(
     receivers: &'a [u16],
     numbers: &'a [u64],
     amounts: &'a [u64],
+    heads: &'a [u16],
+    nexts: &'a [u16],
     r: Record,
 ) -> u32
-    requires { ⌜ Fits (now accounts) (now counts) (now balances) (now kinds) (now senders) (now receivers) (now numbers) (now amounts) ⌝ }
+    requires { ⌜ Fits (now accounts) (now counts) (now balances) (now kinds) (now senders) (now receivers) (now numbers) (now amounts)
+        × Indexes (getD (now counts) 0 0) (getD (now counts) 1 0) (now numbers) (now heads) (now nexts) ⌝ }
     ensures { λ n. ⌜ n ≡ judgeAt (now (accounts .entry)) (now (counts .entry)) (now (balances .entry)) (now (kinds .entry))
         (now (senders .entry)) (now (receivers .entry)) (now (numbers .entry)) (now (amounts .entry)) r ⌝ }
 {
@@ -100,6 +127,8 @@ pub fn judge<'a>(
         receivers,
         numbers,
         amounts,
+        heads,
+        nexts,
         r,
         l,
         o,
@@ -107,15 +136,61 @@ pub fn judge<'a>(
     let full = refusal_if(Ledger::CAPACITY <= counts[l], 41);
     let open_senders = accounts[index(kind.sender_ledger())];
     let open_receivers = accounts[index(kind.receiver_ledger())];
-    first_refusals(
+    let taken = is_used(
         numbers,
+        heads,
+        nexts,
+        l * CHAINS,
         l * Ledger::CAPACITY,
         counts[l],
+        r.number,
+    );
+    first_refusals(
         open_senders,
         open_receivers,
         r,
+        taken,
         first_refusal(last, full),
     )
+}
+
+// The refusal of bytes, 21 and then as above, or 0 and the record.
+pub fn judge_bytes<'a>(
+    accounts: &'a [usize],
+    counts: &'a [usize],
+    balances: &'a [u64],
+    kinds: &'a [u8],
+    senders: &'a [u16],
+    receivers: &'a [u16],
+    numbers: &'a [u64],
+    amounts: &'a [u64],
+    heads: &'a [u16],
+    nexts: &'a [u16],
+    bytes: &'a [u8],
+) -> Judgement
+    requires { ⌜ Fits (now accounts) (now counts) (now balances) (now kinds) (now senders) (now receivers) (now numbers) (now amounts)
+        × Indexes (getD (now counts) 0 0) (getD (now counts) 1 0) (now numbers) (now heads) (now nexts) ⌝ }
+    ensures { λ j. ⌜ Found (now (bytes .entry)) (judgedAs (judgeAt (now (accounts .entry)) (now (counts .entry)) (now (balances .entry)) (now (kinds .entry))
+        (now (senders .entry)) (now (receivers .entry)) (now (numbers .entry)) (now (amounts .entry)))
+        (reading (now (bytes .entry)))) j ⌝ }
+{
+    let Reading::Read(r) = Record::read(bytes) else {
+        return refused(21);
+    };
+    let refusal = judge(
+        accounts,
+        counts,
+        balances,
+        kinds,
+        senders,
+        receivers,
+        numbers,
+        amounts,
+        heads,
+        nexts,
+        r,
+    );
+    Judgement { refusal, read: r }
 }
 
 // ## 3
@@ -165,7 +240,7 @@ fn are_rows_allowed<'a>(
 ) -> bool
     requires { ⌜ (length (now kinds) ≡ 2 * capacity) × (length (now ledgers) ≡ 2 * capacity) × (length (now senders) ≡ 2 * capacity)
         × (length (now receivers) ≡ 2 * capacity) × (length (now amounts) ≡ 2 * capacity)
-        × (length (now verdicts) ≡ 2 * capacity) × (n ≤ capacity) × (m ≤ capacity) ⌝ }
+        × (length (now verdicts) ≡ 2 * capacity) × (n ≤ capacity) × (m ≤ capacity) × (h ≤ accountLimit) × (f ≤ accountLimit) ⌝ }
     ensures { λ b. ⌜ b ≡ rowsAt (now (kinds .entry)) (now (ledgers .entry)) (now (senders .entry)) (now (receivers .entry))
         (now (amounts .entry)) (now (verdicts .entry)) h f n m ⌝ }
 {
@@ -199,27 +274,29 @@ fn are_rows_allowed<'a>(
     )
 }
 
-// Numbers that are apart, and receivings with their sendings.
+// Numbers that are apart, and receivings with their sendings; where it holds, the indexes are made in place of empty ones.
 fn are_matched<'a>(
     kinds: &'a [u8],
     senders: &'a [u16],
     receivers: &'a [u16],
     numbers: &'a [u64],
     amounts: &'a [u64],
+    heads: &'a mut [u16],
+    nexts: &'a mut [u16],
     n: usize,
     m: usize,
 ) -> bool
     requires { ⌜ (length (now kinds) ≡ 2 * capacity) × (length (now senders) ≡ 2 * capacity) × (length (now receivers) ≡ 2 * capacity)
-        × (length (now numbers) ≡ 2 * capacity) × (length (now amounts) ≡ 2 * capacity) × (n ≤ capacity) × (m ≤ capacity) ⌝ }
-    ensures { λ b. ⌜ b ≡ matchedAt (now (kinds .entry)) (now (senders .entry)) (now (receivers .entry)) (now (numbers .entry))
+        × (length (now numbers) ≡ 2 * capacity) × (length (now amounts) ≡ 2 * capacity) × (n ≤ capacity) × (m ≤ capacity)
+        × Indexes 0 0 (now numbers) (now heads) (now nexts) ⌝ }
+    ensures matched { λ b. ⌜ b ≡ matchedAt (now (kinds .entry)) (now (senders .entry)) (now (receivers .entry)) (now (numbers .entry))
         (now (amounts .entry)) n m ⌝ }
+    ensures index { λ b. ⌜ (b ≡ true → Indexes n m (now (numbers .entry)) (now (heads .exit)) (now (nexts .exit))) ⌝ }
 {
-    let home = chained(numbers, 0, n);
-    if !home.apart {
+    if !index_all(numbers, heads, nexts, 0, 0, n) {
         return false;
     }
-    let far = chained(numbers, Ledger::CAPACITY, m);
-    if !far.apart {
+    if !index_all(numbers, heads, nexts, CHAINS, Ledger::CAPACITY, m) {
         return false;
     }
     if !all_backed(
@@ -228,8 +305,9 @@ fn are_matched<'a>(
         receivers,
         numbers,
         amounts,
-        &far.heads,
-        &far.nexts,
+        heads,
+        nexts,
+        CHAINS,
         Ledger::CAPACITY,
         m,
         0,
@@ -243,8 +321,9 @@ fn are_matched<'a>(
         receivers,
         numbers,
         amounts,
-        &home.heads,
-        &home.nexts,
+        heads,
+        nexts,
+        0,
         0,
         n,
         Ledger::CAPACITY,
@@ -298,7 +377,7 @@ fn adds_up<'a>(
     sent.low == received.low
 }
 
-// All that 3 asks of a state.
+// All that 3 asks of a state; where it holds, the indexes of the numbers are made in place of empty ones.
 pub fn is_accepted<'a>(
     supply: u64,
     accounts: &'a [usize],
@@ -311,14 +390,19 @@ pub fn is_accepted<'a>(
     numbers: &'a [u64],
     amounts: &'a [u64],
     verdicts: &'a [u8],
+    heads: &'a mut [u16],
+    nexts: &'a mut [u16],
 ) -> bool
     requires { ⌜ (length (now accounts) ≡ 2) × (length (now counts) ≡ 2) × (length (now balances) ≡ 2 * accountLimit)
         × (length (now kinds) ≡ 2 * capacity) × (length (now ledgers) ≡ 2 * capacity) × (length (now senders) ≡ 2 * capacity)
         × (length (now receivers) ≡ 2 * capacity) × (length (now numbers) ≡ 2 * capacity)
-        × (length (now amounts) ≡ 2 * capacity) × (length (now verdicts) ≡ 2 * capacity) ⌝ }
-    ensures { λ b. ⌜ b ≡ acceptsAt supply (now (accounts .entry)) (now (counts .entry)) (now (balances .entry)) (now (kinds .entry))
+        × (length (now amounts) ≡ 2 * capacity) × (length (now verdicts) ≡ 2 * capacity)
+        × Indexes 0 0 (now numbers) (now heads) (now nexts) ⌝ }
+    ensures accepts { λ b. ⌜ b ≡ acceptsAt supply (now (accounts .entry)) (now (counts .entry)) (now (balances .entry)) (now (kinds .entry))
         (now (ledgers .entry)) (now (senders .entry)) (now (receivers .entry)) (now (numbers .entry)) (now (amounts .entry))
         (now (verdicts .entry)) ⌝ }
+    ensures index { λ b. ⌜ (b ≡ true → Indexes (getD (now (counts .entry)) 0 0) (getD (now (counts .entry)) 1 0)
+        (now (numbers .entry)) (now (heads .exit)) (now (nexts .exit))) ⌝ }
 {
     let h = accounts[0];
     let f = accounts[1];
@@ -344,8 +428,79 @@ pub fn is_accepted<'a>(
     ) {
         return false;
     }
-    if !are_matched(kinds, senders, receivers, numbers, amounts, n, m) {
+    if !are_matched(
+        kinds,
+        senders,
+        receivers,
+        numbers,
+        amounts,
+        heads,
+        nexts,
+        n,
+        m,
+    ) {
         return false;
     }
     adds_up(balances, kinds, amounts, h, f, n, m, supply)
+}
+
+// ## A call with one record
+
+// The refusal of a call with one record, 3 first, or 0 and the record.
+pub fn judge_call<'a>(
+    supply: u64,
+    accounts: &'a [usize],
+    counts: &'a [usize],
+    balances: &'a [u64],
+    kinds: &'a [u8],
+    ledgers: &'a [u8],
+    senders: &'a [u16],
+    receivers: &'a [u16],
+    numbers: &'a [u64],
+    amounts: &'a [u64],
+    verdicts: &'a [u8],
+    bytes: &'a [u8],
+) -> Judgement
+    requires { ⌜ (length (now accounts) ≡ 2) × (length (now counts) ≡ 2) × (length (now balances) ≡ 2 * accountLimit)
+        × (length (now kinds) ≡ 2 * capacity) × (length (now ledgers) ≡ 2 * capacity) × (length (now senders) ≡ 2 * capacity)
+        × (length (now receivers) ≡ 2 * capacity) × (length (now numbers) ≡ 2 * capacity)
+        × (length (now amounts) ≡ 2 * capacity) × (length (now verdicts) ≡ 2 * capacity) ⌝ }
+    ensures { λ j. ⌜ Found (now (bytes .entry)) (refuse (not (acceptsAt supply (now (accounts .entry)) (now (counts .entry))
+        (now (balances .entry)) (now (kinds .entry)) (now (ledgers .entry)) (now (senders .entry)) (now (receivers .entry))
+        (now (numbers .entry)) (now (amounts .entry)) (now (verdicts .entry)))) 3
+        (judgedAs (judgeAt (now (accounts .entry)) (now (counts .entry)) (now (balances .entry)) (now (kinds .entry))
+        (now (senders .entry)) (now (receivers .entry)) (now (numbers .entry)) (now (amounts .entry))) (reading (now (bytes .entry))))) j ⌝ }
+{
+    let mut heads = [0u16; HEADS];
+    let mut nexts = [0u16; PLACES];
+    if !is_accepted(
+        supply,
+        accounts,
+        counts,
+        balances,
+        kinds,
+        ledgers,
+        senders,
+        receivers,
+        numbers,
+        amounts,
+        verdicts,
+        &mut heads,
+        &mut nexts,
+    ) {
+        return refused(3);
+    }
+    judge_bytes(
+        accounts,
+        counts,
+        balances,
+        kinds,
+        senders,
+        receivers,
+        numbers,
+        amounts,
+        &heads,
+        &nexts,
+        bytes,
+    )
 }

@@ -10,7 +10,7 @@ use lib.Seq.{drop-at, drop-drop, getD-append-add, take-append-le, take-append-se
 use borrow.Author.Tests.{eq-eqb, le-leb}
 use Rattle.answers.specs.declared.Answer.the-variants.{Passed}
 use Rattle.ledgers.specs.Limits.{accountLimit, capacity}
-use Rattle.pair_tables.proofs.Passing.{Sound, sound-accepts, sound-of}
+use Rattle.pair_laws.proofs.Passing.{Sound, sound-accepts, sound-of}
 use Rattle.pair_tables.specs.Tables.{PairTables, Sized, accepts, accountsAt, balancesOf, countAt, formedOn, heldOf, inBounds}
 use Rattle.pair_tables.specs.Tables.{openedTables, pairViewOf, zeroBeyond, zeroTables}
 use Rattle.pair_validator.specs.State.{figuresOf, openedState, stateWith}
@@ -20,8 +20,8 @@ use Rattle.rules.proofs.PairConserved.{opening-none, pair-opened-accepted}
 use Rattle.rules.specs.Lists.{total}
 use Rattle.rules.specs.PairValidator.{countAllowed, pairAccepts, pairOpened, pairOpeningRefusal}
 use Rattle.rules.specs.Rules.{inFlight}
-use Rattle.table_checks.proofs.Allowed.{balances-sum}
-use Rattle.table_checks.proofs.Openings.{count-facts, fewer-zeros, low-is-wide, padded-length, zero-after}
+use Rattle.table_laws.proofs.Allowed.{balances-sum}
+use Rattle.table_laws.proofs.Openings.{count-facts, fewer-zeros, low-is-wide, padded-length, zero-after}
 use Rattle.table_checks.proofs.Sums.{added-value}
 use Rattle.table_checks.specs.Sums.{Added}
 use Rattle.table_checks.specs.declared.Wide.{Wide}

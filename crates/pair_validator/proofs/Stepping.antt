@@ -1,33 +1,38 @@
--- One turn of a call over its records: refused, or passed with the record stored. Assumes nothing.
-use Prim.Native.Nat.{_*_, _+_, _-_, _<_, _≤_, suc, zero, ℕ}
-use mathlib.Core.Bool.{true}
+-- A record of a call: refused, or passed and stored. Assumes nothing.
+use Prim.Native.Nat.{_%_, _*_, _+_, _-_, _<_, _≤_, suc, zero, ℕ}
+use mathlib.Core.Bool.{Bool, false, not, true}
 use mathlib.Core.List.{List}
-use mathlib.Core.Path.{_∙_, _≡_, ap, subst, sym}
+use mathlib.Core.Path.{_∙_, _≡_, ap, refl, subst, sym}
 use native.Mathlib.Omega.{arith}
 use lib.ListN.{drop, getD, length, set, take}
+use Rattle.answers.specs.Answers.{refuse}
 use Rattle.answers.specs.declared.Answer.the-variants.{Refused}
-use Rattle.inputs.proofs.Parts.{parts, turn-passed, turn-refused}
-use Rattle.inputs.specs.Inputs.{isLeft, partEnd}
-use Rattle.inputs.specs.declared.Input.{Input}
+use Rattle.inputs.proofs.Parts.{one-accepted, parts, refusalOfOne, turn-passed, turn-refused}
+use Rattle.inputs.specs.Inputs.{partEnd}
 use Rattle.ledgers.specs.Ledgers.{counterpart, kindByte, ledgerByte, ledgerOf}
 use Rattle.ledgers.specs.Limits.{accountLimit, capacity, maxAmount}
-use Rattle.pair_tables.proofs.Judging.{judge-is, judgeTables}
-use Rattle.pair_tables.proofs.Passing.{Passes, Sound, accounts-fit, balance-fits, counts-fit, next-of, passes-of}
-use Rattle.pair_tables.specs.Judging.{Fits}
-use Rattle.pair_tables.specs.Tables.{PairTables, withRecord}
+use Rattle.number_index.specs.Index.{chainCount}
+use Rattle.pair_laws.proofs.Accept.{accepts-is}
+use Rattle.pair_tables.proofs.Indexes.{indexes-added}
+use Rattle.pair_laws.proofs.Judging.{judge-is, judgeTables}
+use Rattle.pair_laws.proofs.Passing.{Passes, Sound, accounts-fit, balance-fits, counts-fit, next-of, passes-of, sound-of}
+use Rattle.pair_tables.specs.Judging.{Fits, Indexes, acceptsAt}
+use Rattle.pair_tables.specs.Tables.{PairTables, Sized, accepts, withRecord}
 use Rattle.pair_validator.specs.State.{pairChecker, stateWith, tablesOf, viewOfState}
 use Rattle.pair_validator.specs.declared.PairValidator.{PairValidator}
 use Rattle.records.specs.Records.{reading}
+use Rattle.records.specs.declared.Reading.{Reading}
 use Rattle.records.specs.declared.Reading.the-variants.{Read, Unreadable}
 use Rattle.records.specs.declared.Record.{Record}
 use Rattle.rules.proofs.Ledgers.{read-amount}
 use Rattle.rules.specs.Calls.{callList}
 use Rattle.rules.specs.Lists.{lowered, raised}
 use Rattle.rules.specs.PairValidator.{pairJudge}
-use Rattle.tables.proofs.Held.{given-most, stored-fits, taken-given}
+use Rattle.table_laws.proofs.Held.{given-most, stored-fits, taken-given}
 use Rattle.tables.specs.Columns.{takenBy, withRow}
-use Rattle.tables.specs.Entries.{entryOf}
+use Rattle.tables.specs.Entries.{Found, entryOf, judgedAs}
 use Rattle.tables.specs.declared.Entry.{Entry}
+use Rattle.tables.specs.declared.Judgement.{Judgement}
 
 -- the state with a record stored, as the program stores it
 abbrev pub storedState : PairValidator → Record → ℕ → Entry → PairValidator
@@ -89,42 +94,101 @@ fits-of t s =
       counts-fit = counts-fit t s;
     }
 
-module _ (s : PairValidator) (z : Sound (tablesOf s)) (r : Record) (n : ℕ) (j : n ≡ judgeTables (tablesOf s) r) where
-  -- the refusal is the rules'
-  judged : n ≡ pairJudge capacity (viewOfState s .pair) (Read r)
-  judged = j ∙ judge-is (tablesOf s) (z .sized) (accounts-fit (tablesOf s) z) r
+-- ## What judging bytes says
+
+-- what is tested of the columns
+abbrev pub acceptsTables : PairTables → Bool
+acceptsTables t =
+    acceptsAt (t .supply) (t .accounts) (t .counts) (t .balances) (t .columns .kinds) (t .columns .ledgers) (t .columns .senders)
+    (t .columns .receivers) (t .columns .numbers) (t .columns .amounts) (t .columns .verdicts)
+
+-- the refusal of bytes by the columns
+abbrev pub bytesRefusal : PairValidator → List ℕ → ℕ
+bytesRefusal s b = judgedAs (judgeTables (tablesOf s)) (reading b)
+
+-- it is the rules'
+bytes-judged : (s : PairValidator) → Sound (tablesOf s) → (b : List ℕ) → bytesRefusal s b ≡ pairChecker .judge s b
+bytes-judged s z b = go (reading b)
+  where
+    go : (x : Reading) → judgedAs (judgeTables (tablesOf s)) x ≡ pairJudge capacity (viewOfState s .pair) x
+    go Unreadable = refl
+    go (Read r) = judge-is (tablesOf s) (z .sized) (accounts-fit (tablesOf s) z) r
+
+-- the refusal of a call with one record by the columns
+abbrev pub callRefusal : PairValidator → List ℕ → ℕ
+callRefusal s b = refuse (not (acceptsTables (tablesOf s))) 3 (bytesRefusal s b)
+
+-- it is the rules'
+pub call-judged : (s : PairValidator) → Sized (tablesOf s) → (b : List ℕ) → callRefusal s b ≡ refusalOfOne pairChecker s b
+call-judged s z b = go (accepts (tablesOf s)) refl
+  where
+    go : (t : Bool) → accepts (tablesOf s) ≡ t → callRefusal s b ≡ refusalOfOne pairChecker s b
+    go true q = rw (accepts-is (tablesOf s) z, q) (bytes-judged s (sound-of (tablesOf s) z q) b)
+    go false q = rw (accepts-is (tablesOf s) z, q)
+
+-- a call with one record that is not refused: the state is accepted, and its bytes are not refused
+pub call-accepted : (s : PairValidator) → Sized (tablesOf s) → (b : List ℕ) → callRefusal s b ≡ 0
+    → Sound (tablesOf s) × (bytesRefusal s b ≡ 0)
+call-accepted s z b h =
+    let a = one-accepted _ _ h in
+    (sound-of (tablesOf s) z (sym (accepts-is (tablesOf s) z) ∙ a .0), a .1)
+
+-- bytes that are not refused read as a record that the columns do not refuse
+pub record Judged (s : PairValidator) (b : List ℕ) (r : Record) : Type 0 where
+  pub sound : Sound (tablesOf s)
+  pub reads : reading b ≡ Read r
+  pub passes : judgeTables (tablesOf s) r ≡ 0
+
+-- where judging has found no refusal
+pub judged-of : (s : PairValidator) → Sound (tablesOf s) → (b : List ℕ) (n : ℕ) (j : Judgement) → Found b n j → n ≡ 0 → bytesRefusal s b ≡ 0
+    → Judged s b (j .read)
+judged-of s z b n j f h k =
+    let q = f .read-is h in
+    record { sound = z; reads = q; passes = sym (ap (judgedAs (judgeTables (tablesOf s))) q) ∙ k }
+
+-- ## The state after a pass
+
+module _ (s : PairValidator) (b : List ℕ) (r : Record) (j : Judged s b r) where
+  -- the rules pass it
+  judged-passes : pairJudge capacity (viewOfState s .pair) (Read r) ≡ 0
+  judged-passes =
+      sym (judge-is (tablesOf s) (j .sound .sized) (accounts-fit (tablesOf s) (j .sound)) r) ∙ j .passes
 
   -- what a pass says
-  pub passes-at : n ≡ 0 → Passes (tablesOf s) r (ledgerByte (ledgerOf (r .kind))) (ledgerByte (counterpart (ledgerOf (r .kind))))
-  passes-at h = passes-of (tablesOf s) z r (sym judged ∙ h)
+  passes-at : Passes (tablesOf s) r (ledgerByte (ledgerOf (r .kind))) (ledgerByte (counterpart (ledgerOf (r .kind))))
+  passes-at = passes-of (tablesOf s) (j .sound) r judged-passes
 
-module _ (start s : PairValidator) (z : Sound (tablesOf s)) (input : Input) (i at : ℕ) (b : List ℕ) (end : ℕ)
-    (e : end ≡ partEnd input at (length b)) (left : isLeft input i at (length b) ≡ true) (h : at ≤ length b) where
-  -- a record that does not read
-  pub turn-unread : reading (take (end - at) (drop at b)) ≡ Unreadable
-      → callList pairChecker start i s (parts input i at b) ≡ record { answer = Refused 21 i; state = start }
-  turn-unread q = turn-refused pairChecker start s input i at b end e left h 21 (rw q) (λ y. omega arith)
-
-  module _ (r : Record) (n : ℕ) (q : reading (take (end - at) (drop at b)) ≡ Read r) (j : n ≡ judgeTables (tablesOf s) r) where
-    -- a record that is refused
-    pub turn-judged : (n ≡ 0 → ⊥) → callList pairChecker start i s (parts input i at b) ≡ record { answer = Refused n i; state = start }
-    turn-judged y = turn-refused pairChecker start s input i at b end e left h n (rw q (sym (judged s z r n j))) y
-
-    -- a record that passes is stored, and the call goes on
-    pub turn-stored : n ≡ 0 → (l : ℕ) (x : Entry) → l ≡ ledgerByte (ledgerOf (r .kind)) → x ≡ entryOf r (l * accountLimit)
-        → callList pairChecker start i s (parts input i at b)
-        ≡ callList pairChecker start (i + 1) (storedState s r l x) (parts input (i + 1) end b)
-    turn-stored y l x a p =
-        turn-passed pairChecker start s input i at b end e left h (rw q (sym (judged s z r n j) ∙ y))
-        ∙ ap (λ (t : PairValidator). callList pairChecker start (i + 1) t (parts input (i + 1) end b))
-        (rw q (sym (stored-is s r l x a p)))
+  module _ (l : ℕ) (x : Entry) (a : l ≡ ledgerByte (ledgerOf (r .kind))) (p : x ≡ entryOf r (l * accountLimit)) where
+    -- the record is stored as the rules say
+    pub stored-after : pairChecker .after s b ≡ storedState s r l x
+    stored-after = rw (j .reads) (sym (stored-is s r l x a p))
 
     -- and the state is accepted again
-    pub turn-sound : n ≡ 0 → (l : ℕ) (x : Entry) → l ≡ ledgerByte (ledgerOf (r .kind)) → x ≡ entryOf r (l * accountLimit)
-        → Sound (tablesOf (storedState s r l x))
-    turn-sound y l x a p =
+    pub stored-sound : Sound (tablesOf (storedState s r l x))
+    stored-sound =
         subst (λ (t : PairValidator). Sound (tablesOf t)) (sym (stored-is s r l x a p))
-        (next-of (tablesOf s) z r (take (end - at) (drop at b)) q (sym (judged s z r n j) ∙ y) .sound)
+        (next-of (tablesOf s) (j .sound) r b (j .reads) judged-passes .sound)
+
+-- ## A turn over a list
+
+module _ (start s : PairValidator) (z : Sound (tablesOf s)) (i at : ℕ) (b : List ℕ) (end : ℕ)
+    (e : end ≡ partEnd at (length b)) (h : at < length b) where
+  -- the bytes of the record
+  abbrev part : List ℕ
+  part = take (end - at) (drop at b)
+
+  -- a record that is refused
+  pub turn-stops : (n : ℕ) → n ≡ bytesRefusal s part → (n ≡ 0 → ⊥)
+      → callList pairChecker start i s (parts at b) ≡ record { answer = Refused n i; state = start }
+  turn-stops n q y = turn-refused pairChecker start s i at b end e h n (sym (q ∙ bytes-judged s z part)) y
+
+  -- a record that passes is stored, and the call goes on
+  pub turn-stored : (r : Record) → Judged s part r → (l : ℕ) (x : Entry) → l ≡ ledgerByte (ledgerOf (r .kind))
+      → x ≡ entryOf r (l * accountLimit)
+      → callList pairChecker start i s (parts at b) ≡ callList pairChecker start (i + 1) (storedState s r l x) (parts end b)
+  turn-stored r j l x a p =
+      turn-passed pairChecker start s i at b end e h (rw (j .reads) (judged-passes s part r j))
+      ∙ ap (λ (t : PairValidator). callList pairChecker start (i + 1) t (parts end b)) (stored-after s part r j l x a p)
 
 -- ## What the stores of a passed record need
 
@@ -165,8 +229,16 @@ writes-by s z r l o p m =
     }
 
 -- so does a judgement without a refusal
-pub writes-of : (s : PairValidator) (z : Sound (tablesOf s)) (r : Record) (n : ℕ) → n ≡ judgeTables (tablesOf s) r → n ≡ 0
-    → (b : List ℕ) → reading b ≡ Read r → (l : ℕ) (x : Entry) → l ≡ ledgerByte (ledgerOf (r .kind)) → x ≡ entryOf r (l * accountLimit)
-    → Writes s l x
-writes-of s z r n j h b q l x a p =
-    rw (p, a) (writes-by s z r _ _ (passes-at s z r n j h) (read-amount b r q .1))
+pub writes-of : (s : PairValidator) (b : List ℕ) (r : Record) → Judged s b r → (l : ℕ) (x : Entry) → l ≡ ledgerByte (ledgerOf (r .kind))
+    → x ≡ entryOf r (l * accountLimit) → Writes s l x
+writes-of s b r j l x a p = rw (p, a) (writes-by s (j .sound) r _ _ (passes-at s b r j) (read-amount b r (j .reads) .1))
+
+-- the indexes are those of the state again
+pub stored-indexes : (s : PairValidator) (l x : ℕ) {heads nexts : List ℕ} → l < 2 → length (s .counts) ≡ 2
+    → length (s .numbers) ≡ 2 * capacity → getD (s .counts) l 0 < capacity → getD (s .counts) 0 0 ≤ capacity
+    → Indexes (getD (s .counts) 0 0) (getD (s .counts) 1 0) (s .numbers) heads nexts
+    → Indexes (getD (set (s .counts) l (getD (s .counts) l 0 + 1)) 0 0) (getD (set (s .counts) l (getD (s .counts) l 0 + 1)) 1 0)
+    (set (s .numbers) (l * capacity + getD (s .counts) l 0) x)
+    (set heads (l * chainCount + x % chainCount) (getD (s .counts) l 0 + 1))
+    (set nexts (l * capacity + getD (s .counts) l 0) (getD heads (l * chainCount + x % chainCount) 0))
+stored-indexes s l x h k m n o i = indexes-added (s .counts) (s .numbers) l x h k m n o i

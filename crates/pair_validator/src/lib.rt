@@ -4,22 +4,22 @@
 ghost use mathlib.Core.Path.{_≡_};
 ghost use Prim.Native.Nat.{ℕ, _+_};
 ghost use Rattle.answers.specs.Answers.{answer, unlessRefused};
-ghost use Rattle.inputs.specs.Inputs.{callOf};
 ghost use Rattle.pair_tables.specs.Tables.{accepts};
 ghost use Rattle.pair_validator.specs.State.{tablesOf, pairChecker, openedState, zeroState, figuresOf};
-ghost use Rattle.rules.specs.Calls.{call};
+ghost use Rattle.rules.specs.Calls.{call, one, list};
 ghost use Rattle.rules.specs.Lists.{total};
 ghost use Rattle.rules.specs.PairValidator.{pairOpeningRefusal};
 use answers::Answer;
-use inputs::Input;
-use inputs::is_left;
 use inputs::part_end;
 use ledgers::Ledger;
+use number_index::CHAINS;
+use number_index::add;
+use pair_tables::HEADS;
+use pair_tables::PLACES;
 use pair_tables::index;
 use pair_tables::is_accepted;
-use pair_tables::judge;
-use records::Reading;
-use records::Record;
+use pair_tables::judge_bytes;
+use pair_tables::judge_call;
 use table_checks::Wide;
 use table_checks::add_balances;
 use tables::copy_numbers;
@@ -28,8 +28,6 @@ use tables::is_count_allowed;
 
 // The accounts of both ledgers.
 pub const ACCOUNTS: usize = 2 * Ledger::ACCOUNTS;
-// The places of both ledgers.
-pub const PLACES: usize = 2 * Ledger::CAPACITY;
 
 // The state. Of both ledgers home stands first: in `accounts` (their number) and `counts` (of held records), in the balances, and
 // in each column, of which a held record is one entry. Entries at or beyond the count are not looked at, and only a passed record
@@ -148,11 +146,67 @@ impl PairValidator {
         }
     }
 
-    // A call with one record or with a list of records: 3, then of each record 21 to 41. A refusal hands back the state as it came.
-    pub fn step(mut self, input: Input, bytes: &[u8]) -> PairOutcome
-        ensures answers { λ r. ⌜ r .answer ≡ call pairChecker self (callOf input (now (bytes .entry))) .answer ⌝ }
-        ensures hands_back { λ r. ⌜ r .state ≡ call pairChecker self (callOf input (now (bytes .entry))) .state ⌝ }
+    // A call with one record: 3, 21 to 41. A refusal hands back the state as it came.
+    pub fn check_record(mut self, bytes: &[u8]) -> PairOutcome
+        ensures answers { λ r. ⌜ r .answer ≡ call pairChecker self (one (now (bytes .entry))) .answer ⌝ }
+        ensures hands_back { λ r. ⌜ r .state ≡ call pairChecker self (one (now (bytes .entry))) .state ⌝ }
     {
+        let judged = judge_call(
+            self.supply,
+            &self.accounts,
+            &self.counts,
+            &self.balances,
+            &self.kinds,
+            &self.ledgers,
+            &self.senders,
+            &self.receivers,
+            &self.numbers,
+            &self.amounts,
+            &self.verdicts,
+            bytes,
+        );
+        if judged.refusal != 0 {
+            return PairOutcome {
+                answer: Answer::Refused {
+                    number: judged.refusal,
+                    place: 0,
+                },
+                state: self,
+            };
+        }
+        let r = judged.read;
+        let kind = r.kind;
+        let l = index(kind.ledger());
+        let entry = entry_of(r, l * Ledger::ACCOUNTS);
+        let from = entry.from;
+        let to = entry.to;
+        let paying = self.balances[from];
+        self.balances[from] = paying - entry.taken;
+        let paid = self.balances[to];
+        self.balances[to] = paid + entry.given;
+        let count = self.counts[l];
+        let place = l * Ledger::CAPACITY + count;
+        self.kinds[place] = entry.kind;
+        self.ledgers[place] = entry.ledger;
+        self.senders[place] = r.sender;
+        self.receivers[place] = r.receiver;
+        self.numbers[place] = r.number;
+        self.amounts[place] = r.amount;
+        self.verdicts[place] = 1;
+        self.counts[l] = count + 1;
+        PairOutcome {
+            answer: Answer::Passed,
+            state: self,
+        }
+    }
+
+    // A call with a list of records: 3, then of each record 21 to 41. A refusal has its record's index, and hands back the state as it came.
+    pub fn check_list(mut self, bytes: &[u8]) -> PairOutcome
+        ensures answers { λ r. ⌜ r .answer ≡ call pairChecker self (list (now (bytes .entry))) .answer ⌝ }
+        ensures hands_back { λ r. ⌜ r .state ≡ call pairChecker self (list (now (bytes .entry))) .state ⌝ }
+    {
+        let mut heads = [0u16; HEADS];
+        let mut nexts = [0u16; PLACES];
         if !is_accepted(
             self.supply,
             &self.accounts,
@@ -165,6 +219,8 @@ impl PairValidator {
             &self.numbers,
             &self.amounts,
             &self.verdicts,
+            &mut heads,
+            &mut nexts,
         ) {
             return PairOutcome {
                 answer: Answer::Refused {
@@ -177,18 +233,9 @@ impl PairValidator {
         let before = self;
         let mut at = 0;
         let mut i: u64 = 0;
-        while is_left(input, i, at, bytes.len()) {
-            let end = part_end(input, at, bytes.len());
-            let Reading::Read(r) = Record::read(&bytes[at..end]) else {
-                return PairOutcome {
-                    answer: Answer::Refused {
-                        number: 21,
-                        place: i,
-                    },
-                    state: before,
-                };
-            };
-            let refusal = judge(
+        while at < bytes.len() {
+            let end = part_end(at, bytes.len());
+            let judged = judge_bytes(
                 &self.accounts,
                 &self.counts,
                 &self.balances,
@@ -197,17 +244,20 @@ impl PairValidator {
                 &self.receivers,
                 &self.numbers,
                 &self.amounts,
-                r,
+                &heads,
+                &nexts,
+                &bytes[at..end],
             );
-            if refusal != 0 {
+            if judged.refusal != 0 {
                 return PairOutcome {
                     answer: Answer::Refused {
-                        number: refusal,
+                        number: judged.refusal,
                         place: i,
                     },
                     state: before, // nothing of the list is kept
                 };
             }
+            let r = judged.read;
             let kind = r.kind;
             let l = index(kind.ledger());
             let entry = entry_of(r, l * Ledger::ACCOUNTS);
@@ -227,6 +277,14 @@ impl PairValidator {
             self.amounts[place] = r.amount;
             self.verdicts[place] = 1;
             self.counts[l] = count + 1;
+            add(
+                &mut heads,
+                &mut nexts,
+                l * CHAINS,
+                l * Ledger::CAPACITY,
+                count,
+                r.number,
+            );
             at = end;
             i += 1;
         }
@@ -240,6 +298,8 @@ impl PairValidator {
     pub fn figures(self) -> PairFigures
         ensures { λ r. ⌜ r ≡ figuresOf (accepts (tablesOf self)) (tablesOf self) ⌝ }
     {
+        let mut heads = [0u16; HEADS];
+        let mut nexts = [0u16; PLACES];
         if !is_accepted(
             self.supply,
             &self.accounts,
@@ -252,6 +312,8 @@ impl PairValidator {
             &self.numbers,
             &self.amounts,
             &self.verdicts,
+            &mut heads,
+            &mut nexts,
         ) {
             return PairFigures {
                 answer: Answer::Refused {

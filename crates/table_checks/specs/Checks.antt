@@ -1,13 +1,11 @@
 -- What the functions that judge a table answer, place by place: for inner functions only. It is proved to be what the rules say
 -- (proofs/Allowed.antt), and no published contract cites it. Assumes nothing.
 use Prim.Native.Nat.{ℕ}
-use mathlib.Core.Bool.{Bool, not, cond, _||_}
+use mathlib.Core.Bool.{Bool, cond, _&&_}
 use mathlib.Core.List.{List, [], _∷_}
 use lib.Dec.{eqb, ltb, leb}
 use lib.ListN.{getD}
 use Rattle.ledgers.specs.Limits.{maxAmount}
-use Rattle.tables.specs.Columns.{sendsAt}
-use Rattle.tables.specs.Places.{anyAt}
 use Rattle.wire.specs.BigEndian.{every}
 
 -- what 3 asks of one held record of a ledger by itself: with the ledger's byte, the number of its accounts and of the other's
@@ -31,13 +29,21 @@ allowedAt l own other kinds ledgers senders receivers amounts verdicts i =
     rowAllowed l own other (getD kinds i 0) (getD ledgers i 0) (getD senders i 0) (getD receivers i 0) (getD amounts i 0)
     (getD verdicts i 0)
 
--- place i has no receiving, or its sending is at one of the n places from another on
-abbrev pub backedAt : List ℕ → List ℕ → List ℕ → List ℕ → List ℕ → ℕ → ℕ → ℕ → Bool
-backedAt kinds senders receivers numbers amounts from n i =
-    not (eqb (getD kinds i 0) 3)
-    || anyAt
-    (sendsAt kinds senders receivers numbers amounts (getD numbers i 0) (getD senders i 0) (getD receivers i 0) (getD amounts i 0))
-    from n
+-- the kind at place i is one of the three
+abbrev pub kindAllowedAt : List ℕ → ℕ → Bool
+kindAllowedAt kinds i = ltb 0 (getD kinds i 0) && leb (getD kinds i 0) 3
+
+-- the byte at place i is x
+abbrev pub equalAt : ℕ → List ℕ → ℕ → Bool
+equalAt x xs i = eqb (getD xs i 0) x
+
+-- the amount at place i is from 1 to the greatest one
+abbrev pub amountAllowedAt : List ℕ → ℕ → Bool
+amountAllowedAt amounts i = ltb 0 (getD amounts i 0) && leb (getD amounts i 0) maxAmount
+
+-- the account at place i is one of the other ledger's where the kind there is `crosses`, and else one of its own ledger's
+abbrev pub accountAllowedAt : ℕ → ℕ → ℕ → List ℕ → List ℕ → ℕ → Bool
+accountAllowedAt crosses own other kinds accounts i = ltb (getD accounts i 0) (cond (eqb (getD kinds i 0) crosses) other own)
 
 -- the amount at place i where its kind is a given byte
 abbrev pub flowAt : ℕ → List ℕ → List ℕ → ℕ → ℕ

@@ -1,5 +1,4 @@
 -- What is asked of a table of held records. Assumes nothing.
 
 pub mod Checks
-pub mod Chains
 pub mod Sums

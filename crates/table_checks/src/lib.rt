@@ -1,26 +1,84 @@
-// What refusal 3 asks of a table of held records, over columns lent as slices: each record by itself, numbers that are apart,
-// receivings with their sendings, and exact sums. A ledger's records stand at n places from a place `from` on.
-ghost use Prim.Native.Nat.{ℕ, _+_, _*_, _%_, _^_, _<_, _≤_};
+// What refusal 3 asks of a table of held records, over columns lent as slices: each record by itself, and exact sums. A
+// ledger's records stand at n places from a place `from` on.
+ghost use Prim.Native.Nat.{ℕ, _+_, _*_, _^_, _<_, _≤_};
 ghost use mathlib.Core.Path.{_≡_};
 ghost use mathlib.Core.Bool.{cond};
 ghost use lib.Dec.{eqb};
 ghost use lib.ListN.{length, getD};
-ghost use Rattle.ledgers.specs.Limits.{capacity};
-ghost use Rattle.tables.specs.Places.{anyAt, allAt, sumAt};
-ghost use Rattle.tables.specs.Columns.{sendsAt, zerosAt};
-ghost use Rattle.table_checks.specs.Checks.{rowAllowed, allowedAt, backedAt, flowAt};
-ghost use Rattle.table_checks.specs.Chains.{chainCount, valueFrom, Chains, Chained};
-ghost use Rattle.table_checks.specs.Sums.{Added};
+ghost use Rattle.ledgers.specs.Limits.{accountLimit};
+ghost use Rattle.tables.specs.Places.{allAt, sumAt};
+ghost use Rattle.tables.specs.Columns.{zerosAt};
+ghost use Rattle.table_checks.specs.Checks.{accountAllowedAt, allowedAt, amountAllowedAt, equalAt, flowAt, kindAllowedAt};
+ghost use Rattle.table_checks.specs.Sums.{Added, wide};
 use ledgers::Kind;
-use ledgers::Ledger;
 use records::Record;
-use tables::as_index;
-use tables::sends;
 
 // ## Each record by itself
 
+// Whether each of n kinds is one of the three.
+fn kinds_allowed(kinds: &[u8], from: usize, n: usize) -> bool
+    requires { ⌜ from + n ≤ length (now kinds) ⌝ }
+    ensures { λ b. ⌜ b ≡ allAt (kindAllowedAt (now (kinds .entry))) from n ⌝ }
+{
+    let mut good = true;
+    let end = from + n;
+    let mut i = from;
+    while i < end {
+        if kinds[i] == 0 {
+            good = false;
+        }
+        if Kind::RECEIVING < kinds[i] {
+            good = false;
+        }
+        i += 1;
+    }
+    good
+}
+
+// Whether each of n bytes is x.
+fn all_equal(xs: &[u8], from: usize, n: usize, x: u8) -> bool
+    requires { ⌜ from + n ≤ length (now xs) ⌝ }
+    ensures { λ b. ⌜ b ≡ allAt (equalAt x (now (xs .entry))) from n ⌝ }
+{
+    let mut good = true;
+    let end = from + n;
+    let mut i = from;
+    while i < end {
+        if xs[i] != x {
+            good = false;
+        }
+        i += 1;
+    }
+    good
+}
+
+// The first number that is no amount.
+const TOO_GREAT: u64 = 9223372036854775808;
+
+// Whether each of n amounts is from 1 to the greatest one. The quotients are 0 exactly where no amount is too great.
+fn amounts_allowed(amounts: &[u64], from: usize, n: usize) -> bool
+    requires { ⌜ from + n ≤ length (now amounts) ⌝ }
+    ensures { λ b. ⌜ b ≡ allAt (amountAllowedAt (now (amounts .entry))) from n ⌝ }
+{
+    let mut good = true;
+    let mut quotients: u64 = 0;
+    let end = from + n;
+    let mut i = from;
+    while i < end {
+        if amounts[i] == 0 {
+            good = false;
+        }
+        quotients += amounts[i] / TOO_GREAT;
+        i += 1;
+    }
+    if quotients != 0 {
+        return false;
+    }
+    good
+}
+
 // The accounts of the other ledger where the kind is the one that names an account there, and else those of its own.
-fn accounts_of(kind: u8, crosses: u8, own: usize, other: usize) -> usize
+fn limit_of(kind: u8, crosses: u8, own: u16, other: u16) -> u16
     ensures { λ n. ⌜ n ≡ cond (eqb kind crosses) other own ⌝ }
 {
     if kind == crosses {
@@ -29,42 +87,30 @@ fn accounts_of(kind: u8, crosses: u8, own: usize, other: usize) -> usize
     own
 }
 
-// What 3 asks of one held record of a ledger by itself.
-fn row_allowed(
-    l: u8,
-    own: usize,
-    other: usize,
-    kind: u8,
-    ledger: u8,
-    sender: u16,
-    receiver: u16,
-    amount: u64,
-    verdict: u8,
+// Whether each of n accounts is one of the ledger's that its kind names.
+fn accounts_allowed<'a>(
+    kinds: &'a [u8],
+    accounts: &'a [u16],
+    from: usize,
+    n: usize,
+    crosses: u8,
+    own: u16,
+    other: u16,
 ) -> bool
-    ensures { λ b. ⌜ b ≡ rowAllowed l own other kind ledger sender receiver amount verdict ⌝ }
+    requires { ⌜ (from + n ≤ length (now kinds)) × (from + n ≤ length (now accounts)) ⌝ }
+    ensures { λ b. ⌜ b ≡ allAt (accountAllowedAt crosses own other (now (kinds .entry)) (now (accounts .entry))) from n ⌝ }
 {
-    if kind == 0 {
-        return false;
+    let mut good = true;
+    let end = from + n;
+    let mut i = from;
+    while i < end {
+        let limit = limit_of(kinds[i], crosses, own, other);
+        if limit <= accounts[i] {
+            good = false;
+        }
+        i += 1;
     }
-    if Kind::RECEIVING < kind {
-        return false;
-    }
-    if ledger != l {
-        return false;
-    }
-    if verdict != 1 {
-        return false;
-    }
-    if amount == 0 {
-        return false;
-    }
-    if Record::MAX_AMOUNT < amount {
-        return false;
-    }
-    if accounts_of(kind, Kind::RECEIVING, own, other) <= as_index(sender) {
-        return false;
-    }
-    as_index(receiver) < accounts_of(kind, Kind::SENDING, own, other)
+    good
 }
 
 // What 3 asks of each of the held records of a ledger by itself.
@@ -82,29 +128,45 @@ pub fn rows_allowed<'a>(
     other: usize,
 ) -> bool
     requires { ⌜ (from + n ≤ length (now kinds)) × (from + n ≤ length (now ledgers)) × (from + n ≤ length (now senders))
-        × (from + n ≤ length (now receivers)) × (from + n ≤ length (now amounts)) × (from + n ≤ length (now verdicts)) ⌝ }
+        × (from + n ≤ length (now receivers)) × (from + n ≤ length (now amounts)) × (from + n ≤ length (now verdicts))
+        × (own ≤ accountLimit) × (other ≤ accountLimit) ⌝ }
     ensures { λ b. ⌜ b ≡ allAt (allowedAt l own other (now (kinds .entry)) (now (ledgers .entry)) (now (senders .entry))
         (now (receivers .entry)) (now (amounts .entry)) (now (verdicts .entry))) from n ⌝ }
 {
-    let end = from + n;
-    let mut i = from;
-    while i < end {
-        if !row_allowed(
-            l,
-            own,
-            other,
-            kinds[i],
-            ledgers[i],
-            senders[i],
-            receivers[i],
-            amounts[i],
-            verdicts[i],
-        ) {
-            return false;
-        }
-        i += 1;
+    if !kinds_allowed(kinds, from, n) {
+        return false;
     }
-    true
+    if !all_equal(ledgers, from, n, l) {
+        return false;
+    }
+    if !all_equal(verdicts, from, n, 1) {
+        return false;
+    }
+    if !amounts_allowed(amounts, from, n) {
+        return false;
+    }
+    let own_limit = own as u16;
+    let other_limit = other as u16;
+    if !accounts_allowed(
+        kinds,
+        senders,
+        from,
+        n,
+        Kind::RECEIVING,
+        own_limit,
+        other_limit,
+    ) {
+        return false;
+    }
+    accounts_allowed(
+        kinds,
+        receivers,
+        from,
+        n,
+        Kind::SENDING,
+        own_limit,
+        other_limit,
+    )
 }
 
 // Whether n balances are zero.
@@ -123,162 +185,13 @@ pub fn zeros(balances: &[u64], from: usize, n: usize) -> bool
     true
 }
 
-// ## Numbers that are apart
-
-// The number of chains.
-pub const CHAINS: usize = 1024;
-
-// Chains of places by the low bits of their numbers, and whether no two of the numbers are the same.
-pub struct Chain {
-    pub heads: [u16; CHAINS],
-    pub nexts: [u16; Ledger::CAPACITY],
-    pub apart: bool,
-}
-
-fn low_bits(x: u64) -> usize
-    ensures { λ r. ⌜ r ≡ x % chainCount ⌝ }
-{
-    (x % 1024) as usize
-}
-
-fn next_place(i: usize) -> u16
-    requires { ⌜ i < capacity ⌝ }
-    ensures { λ r. ⌜ r ≡ i + 1 ⌝ }
-{
-    (i + 1) as u16
-}
-
-// The chains of n numbers.
-pub fn chained(numbers: &[u64], from: usize, n: usize) -> Chain
-    requires { ⌜ (from + n ≤ length (now numbers)) × (n ≤ capacity) ⌝ }
-    ensures { λ c. ⌜ Chained (valueFrom (now (numbers .entry)) from) n c ⌝ }
-{
-    let mut heads = [0u16; CHAINS];
-    let mut nexts = [0u16; Ledger::CAPACITY];
-    let mut i = 0;
-    while i < n {
-        let x = numbers[from + i];
-        let h = low_bits(x);
-        let first = heads[h];
-        let mut at = as_index(first);
-        while 0 < at {
-            let j = at - 1;
-            if numbers[from + j] == x {
-                return Chain {
-                    heads,
-                    nexts,
-                    apart: false,
-                };
-            }
-            at = as_index(nexts[j]);
-        }
-        nexts[i] = first;
-        heads[h] = next_place(i);
-        i += 1;
-    }
-    Chain {
-        heads,
-        nexts,
-        apart: true,
-    }
-}
-
-// Whether the receiving at place i has its sending among the n places whose chains these are.
-fn backed<'a>(
-    kinds: &'a [u8],
-    senders: &'a [u16],
-    receivers: &'a [u16],
-    numbers: &'a [u64],
-    amounts: &'a [u64],
-    heads: &'a [u16],
-    nexts: &'a [u16],
-    from: usize,
-    n: usize,
-    i: usize,
-) -> bool
-    requires { ⌜ (from + n ≤ length (now kinds)) × (from + n ≤ length (now senders)) × (from + n ≤ length (now receivers))
-        × (from + n ≤ length (now numbers)) × (from + n ≤ length (now amounts))
-        × (i < length (now senders)) × (i < length (now receivers)) × (i < length (now numbers)) × (i < length (now amounts))
-        × (chainCount ≤ length (now heads)) × (n ≤ length (now nexts))
-        × Chains (valueFrom (now numbers) from) (now heads) (now nexts) n ⌝ }
-    ensures { λ b. ⌜ b ≡ anyAt (sendsAt (now (kinds .entry)) (now (senders .entry)) (now (receivers .entry)) (now (numbers .entry))
-        (now (amounts .entry)) (getD (now (numbers .entry)) i 0) (getD (now (senders .entry)) i 0)
-        (getD (now (receivers .entry)) i 0) (getD (now (amounts .entry)) i 0)) from n ⌝ }
-{
-    let number = numbers[i];
-    let sender = senders[i];
-    let receiver = receivers[i];
-    let amount = amounts[i];
-    let mut at = as_index(heads[low_bits(number)]);
-    while 0 < at {
-        let j = at - 1;
-        if sends(
-            kinds,
-            senders,
-            receivers,
-            numbers,
-            amounts,
-            number,
-            sender,
-            receiver,
-            amount,
-            from + j,
-        ) {
-            return true;
-        }
-        at = as_index(nexts[j]);
-    }
-    false
-}
-
-// Whether each receiving of the m places from `own` on has its sending among the n places from `from` on, whose chains these are.
-pub fn all_backed<'a>(
-    kinds: &'a [u8],
-    senders: &'a [u16],
-    receivers: &'a [u16],
-    numbers: &'a [u64],
-    amounts: &'a [u64],
-    heads: &'a [u16],
-    nexts: &'a [u16],
-    from: usize,
-    n: usize,
-    own: usize,
-    m: usize,
-) -> bool
-    requires { ⌜ (from + n ≤ length (now kinds)) × (from + n ≤ length (now senders)) × (from + n ≤ length (now receivers))
-        × (from + n ≤ length (now numbers)) × (from + n ≤ length (now amounts))
-        × (own + m ≤ length (now kinds)) × (own + m ≤ length (now senders)) × (own + m ≤ length (now receivers))
-        × (own + m ≤ length (now numbers)) × (own + m ≤ length (now amounts))
-        × (chainCount ≤ length (now heads)) × (n ≤ length (now nexts))
-        × Chains (valueFrom (now numbers) from) (now heads) (now nexts) n ⌝ }
-    ensures { λ b. ⌜ b ≡ allAt (backedAt (now (kinds .entry)) (now (senders .entry)) (now (receivers .entry)) (now (numbers .entry))
-        (now (amounts .entry)) from n) own m ⌝ }
-{
-    let end = own + m;
-    let mut i = own;
-    while i < end {
-        if kinds[i] == Kind::RECEIVING {
-            if !backed(
-                kinds,
-                senders,
-                receivers,
-                numbers,
-                amounts,
-                heads,
-                nexts,
-                from,
-                n,
-                i,
-            ) {
-                return false;
-            }
-        }
-        i += 1;
-    }
-    true
-}
-
 // ## Exact sums
+
+// 2^32: the halves of a number are its quotient and its remainder by it.
+const HALF: u64 = 4294967296;
+
+// 2^31: as many times HALF is 2^63.
+const HALVES: u64 = 2147483648;
 
 // A sum that may pass 64 bits: high * 2^63 + low, with low below 2^63.
 pub struct Wide {
@@ -318,6 +231,19 @@ impl Wide {
         }
         self.add_half(x)
     }
+
+    // high * 2^32 + low more: sums of the halves of numbers.
+    fn add_halves(self, high: u64, low: u64) -> Wide
+        requires { ⌜ (self .low < 2 ^ 63) × (low < 2 ^ 63) × (self .high * 2 ^ 31 + high < 65535 * 2 ^ 31) ⌝ }
+        ensures { λ r. ⌜ (wide r ≡ wide self + (high * 2 ^ 32 + low)) × (r .low < 2 ^ 63) ⌝ }
+    {
+        let w = Wide {
+            high: self.high + high / HALVES,
+            low: self.low,
+        };
+        let v = w.add_half(high % HALVES * HALF);
+        v.add_half(low)
+    }
 }
 
 // The amount, where the kind is the one that is wanted.
@@ -343,15 +269,17 @@ pub fn add_amounts<'a>(
         × (start .high + 2 * n < 65535) ⌝ }
     ensures { λ w. ⌜ Added start (sumAt (flowAt kind (now (kinds .entry)) (now (amounts .entry))) from n) (2 * n) w ⌝ }
 {
-    let mut w = start;
+    let mut high: u64 = 0;
+    let mut low: u64 = 0;
     let end = from + n;
     let mut i = from;
     while i < end {
         let a = counted(kinds[i], kind, amounts[i]);
-        w = w.add(a);
+        high += a / HALF;
+        low += a % HALF;
         i += 1;
     }
-    w
+    start.add_halves(high, low)
 }
 
 // The balances added.
@@ -359,12 +287,15 @@ pub fn add_balances(balances: &[u64], from: usize, n: usize, start: Wide) -> Wid
     requires { ⌜ (from + n ≤ length (now balances)) × (start .low < 2 ^ 63) × (start .high + 2 * n < 65535) ⌝ }
     ensures { λ w. ⌜ Added start (sumAt (λ (i : ℕ). getD (now (balances .entry)) i 0) from n) (2 * n) w ⌝ }
 {
-    let mut w = start;
+    let mut high: u64 = 0;
+    let mut low: u64 = 0;
     let end = from + n;
     let mut i = from;
     while i < end {
-        w = w.add(balances[i]);
+        let b = balances[i];
+        high += b / HALF;
+        low += b % HALF;
         i += 1;
     }
-    w
+    start.add_halves(high, low)
 }

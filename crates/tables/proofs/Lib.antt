@@ -1,5 +1,3 @@
 -- Laws of tables of held records. Assumes nothing.
 pub mod Places
-pub mod Rows
-pub mod Judged
-pub mod Held
+pub mod Finding

@@ -115,14 +115,19 @@ givenBy (Receiving l) amount = amount
 abbrev pub usedAt : ℕ → List ℕ → ℕ → Bool
 usedAt x numbers i = eqb x (getD numbers i 0)
 
--- 22 by the accounts of the sender's and the receiver's ledger, 23, 24 by the n places from one on, then the later refusals
-unfoldable pub firstAt : List ℕ → ℕ → ℕ → ℕ → ℕ → Record → ℕ → ℕ
-firstAt numbers from n senders receivers r later =
+-- 22 by the accounts of the sender's and the receiver's ledger, 23, 24 where its number is used, then the later refusals
+unfoldable pub firstBy : ℕ → ℕ → Record → Bool → ℕ → ℕ
+firstBy senders receivers r isUsed later =
     refuse (leb senders (r .sender)) 22
     (refuse (leb receivers (r .receiver)) 22
     (refuse (not (r .verified)) 23
-    (refuse (anyAt (usedAt (r .number) numbers) from n) 24
+    (refuse isUsed 24
     later)))
+
+-- the same where the numbers are at the n places from one on
+abbrev pub firstAt : List ℕ → ℕ → ℕ → ℕ → ℕ → Record → ℕ → ℕ
+firstAt numbers from n senders receivers r later =
+    firstBy senders receivers r (anyAt (usedAt (r .number) numbers) from n) later
 
 -- 25, of the n accounts from a place on
 unfoldable pub fundsAt : List ℕ → ℕ → ℕ → Record → ℕ

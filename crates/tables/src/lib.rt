@@ -7,8 +7,8 @@ ghost use lib.ListN.{length, take, drop};
 ghost use Rattle.tables.specs.Places.{anyAt};
 ghost use Rattle.rules.specs.PairValidator.{countAllowed};
 ghost use Rattle.rules.specs.Rules.{isReceiving};
-ghost use Rattle.tables.specs.Columns.{usedAt, sendsAt, balanceAt, firstAt, fundsAt, matchAt, takenBy, givenBy};
-ghost use Rattle.tables.specs.Entries.{entryOf};
+ghost use Rattle.tables.specs.Columns.{usedAt, sendsAt, balanceAt, firstBy, fundsAt, takenBy, givenBy};
+ghost use Rattle.tables.specs.Entries.{entryOf, noRecord};
 use answers::first_refusal;
 use answers::refusal_if;
 use ledgers::Kind;
@@ -30,37 +30,29 @@ pub fn used(numbers: &[u64], from: usize, n: usize, x: u64) -> bool
     ensures { λ b. ⌜ b ≡ anyAt (usedAt x (now (numbers .entry))) from n ⌝ }
 {
     let end = from + n;
+    let mut found = false;
     let mut i = from;
     while i < end {
         if x == numbers[i] {
-            return true;
+            found = true; // going on lets the compiler compare several at a time
         }
         i += 1;
     }
-    false
+    found
 }
 
-// 22 by the accounts of the sender's and the receiver's ledger, 23, 24, then the later refusals, or 0.
-pub fn first_refusals(
-    numbers: &[u64],
-    from: usize,
-    n: usize,
-    senders: usize,
-    receivers: usize,
-    r: Record,
-    later: u32,
-) -> u32
-    requires { ⌜ from + n ≤ length (now numbers) ⌝ }
-    ensures { λ k. ⌜ k ≡ firstAt (now (numbers .entry)) from n senders receivers r later ⌝ }
+// 22 by the accounts of the sender's and the receiver's ledger, 23, 24 where the number is used, then the later refusals, or 0.
+pub fn first_refusals(senders: usize, receivers: usize, r: Record, is_used: bool, later: u32) -> u32
+    ensures { λ k. ⌜ k ≡ firstBy senders receivers r «is_used» later ⌝ }
 {
     let sender = refusal_if(senders <= as_index(r.sender), 22);
     let receiver = refusal_if(receivers <= as_index(r.receiver), 22);
     let signature = refusal_if(!r.verified, 23);
-    let number = refusal_if(used(numbers, from, n, r.number), 24);
+    let number = refusal_if(is_used, 24);
     first_refusal(
         sender,
         first_refusal(
-            receiver,
+            receiver, // before 23
             first_refusal(signature, first_refusal(number, later)),
         ),
     )
@@ -120,7 +112,7 @@ pub fn sends<'a>(
 }
 
 // Whether one of the places has it.
-fn sent<'a>(
+pub fn sent<'a>(
     kinds: &'a [u8],
     senders: &'a [u16],
     receivers: &'a [u16],
@@ -128,12 +120,15 @@ fn sent<'a>(
     amounts: &'a [u64],
     from: usize,
     n: usize,
-    r: Record,
+    number: u64,
+    sender: u16,
+    receiver: u16,
+    amount: u64,
 ) -> bool
     requires { ⌜ (from + n ≤ length (now kinds)) × (from + n ≤ length (now senders)) × (from + n ≤ length (now receivers))
         × (from + n ≤ length (now numbers)) × (from + n ≤ length (now amounts)) ⌝ }
     ensures { λ b. ⌜ b ≡ anyAt (sendsAt (now (kinds .entry)) (now (senders .entry)) (now (receivers .entry)) (now (numbers .entry))
-        (now (amounts .entry)) (r .number) (r .sender) (r .receiver) (r .amount)) from n ⌝ }
+        (now (amounts .entry)) number sender receiver amount) from n ⌝ }
 {
     let end = from + n;
     let mut i = from;
@@ -144,10 +139,10 @@ fn sent<'a>(
             receivers,
             numbers,
             amounts,
-            r.number,
-            r.sender,
-            r.receiver,
-            r.amount,
+            number,
+            sender,
+            receiver,
+            amount,
             i,
         ) {
             return true;
@@ -155,28 +150,6 @@ fn sent<'a>(
         i += 1;
     }
     false
-}
-
-// 31, or 0.
-pub fn match_refusal<'a>(
-    kinds: &'a [u8],
-    senders: &'a [u16],
-    receivers: &'a [u16],
-    numbers: &'a [u64],
-    amounts: &'a [u64],
-    from: usize,
-    n: usize,
-    r: Record,
-) -> u32
-    requires { ⌜ (from + n ≤ length (now kinds)) × (from + n ≤ length (now senders)) × (from + n ≤ length (now receivers))
-        × (from + n ≤ length (now numbers)) × (from + n ≤ length (now amounts)) ⌝ }
-    ensures { λ k. ⌜ k ≡ matchAt (now (kinds .entry)) (now (senders .entry)) (now (receivers .entry)) (now (numbers .entry))
-        (now (amounts .entry)) from n r ⌝ }
-{
-    refusal_if(
-        !sent(kinds, senders, receivers, numbers, amounts, from, n, r),
-        31,
-    )
 }
 
 // Whether a record comes from the other ledger.
@@ -195,7 +168,7 @@ pub fn taken_by(k: Kind, amount: u64) -> u64
     ensures { λ r. ⌜ r ≡ takenBy k amount ⌝ }
 {
     match k {
-        Kind::Local(_) => amount,
+        Kind::Local(_) => amount, // from its sender
         Kind::Sending(_) => amount,
         Kind::Receiving(_) => 0,
     }
@@ -206,9 +179,32 @@ pub fn given_by(k: Kind, amount: u64) -> u64
     ensures { λ r. ⌜ r ≡ givenBy k amount ⌝ }
 {
     match k {
-        Kind::Local(_) => amount,
+        Kind::Local(_) => amount, // to its receiver
         Kind::Sending(_) => 0,
         Kind::Receiving(_) => amount,
+    }
+}
+
+// What was found of the bytes of a record: the refusal, or 0 and the record.
+pub struct Judgement {
+    pub refusal: u32,
+    pub read: Record,
+}
+
+// A refusal of bytes, whose record is not looked at.
+pub fn refused(refusal: u32) -> Judgement
+    ensures { λ j. ⌜ j ≡ noRecord refusal ⌝ }
+{
+    Judgement {
+        refusal,
+        read: Record {
+            kind: Kind::Local(Ledger::Home),
+            sender: 0,
+            receiver: 0,
+            number: 0,
+            amount: 0,
+            verified: false,
+        },
     }
 }
 

@@ -1,25 +1,27 @@
 -- `bench_exports::home_one` meets its contract. Assumes nothing.
-use mathlib.Core.Path.{_∙_}
+use mathlib.Core.Path.{_∙_, ap}
 use borrow.Author.Needs.{needs}
 use Rattle.answers.specs.Answers.{numberOf, placeOf}
 use Rattle.bench_exports.proofs.home_one.Statement.{statement}
 use Rattle.bench_exports.proofs.home_one.Tie as tie
 
-step-requires : tie.Need-step-requires
-step-requires c κs = search needs
+check-record-requires : tie.Need-check-record-requires
+check-record-requires c κs = search needs
 
-tell-home-requires : tie.Need-tell-home-requires
-tell-home-requires c κs = search needs
+number-requires : tie.Need-number-requires
+number-requires c κs = search needs
+
+place-requires : tie.Need-place-requires
+place-requires c κs = search needs
 
 returns : tie.Need-returns
 returns c =
-    c .tell-home .ensures
-    ∙ (λ i. record {
-      number = numberOf (c .before .step .ensures .0 i);
-      place = placeOf (c .before .step .ensures .0 i);
-      state = c
-          .before .step .ensures .1 i;
-    })
+    let e = c .before .before .before .check-record .ensures in
+    λ i. record {
+      number = (c .before .number .ensures ∙ ap numberOf (e .0)) i;
+      place = (c .place .ensures ∙ ap placeOf (e .0)) i;
+      state = e .1 i;
+    }
 
 pub home-one-spec : {M : Type 1} → statement M
-home-one-spec = tie.close (tie.spec step-requires tell-home-requires returns)
+home-one-spec = tie.close (tie.spec check-record-requires number-requires place-requires returns)

@@ -28,17 +28,17 @@ sub-bytes-of c = search needs
 bytes-of-requires : tie.Need-bytes-of-requires Inv-loop μ-loop
 bytes-of-requires c κs = search needs
 
-slice-aggregate-step : tie.Need-slice-aggregate-step Inv-loop μ-loop
-slice-aggregate-step c = search needs
+slice-aggregate-check-record : tie.Need-slice-aggregate-check-record Inv-loop μ-loop
+slice-aggregate-check-record c = search needs
 
-step-requires : tie.Need-step-requires Inv-loop μ-loop
-step-requires c κs = search needs
+check-record-requires : tie.Need-check-record-requires Inv-loop μ-loop
+check-record-requires c κs = search needs
 
-slice-aggregate-step-2 : tie.Need-slice-aggregate-step-2 Inv-loop μ-loop
-slice-aggregate-step-2 c = search needs
+slice-aggregate-check-record-2 : tie.Need-slice-aggregate-check-record-2 Inv-loop μ-loop
+slice-aggregate-check-record-2 c = search needs
 
-step-requires-2 : tie.Need-step-requires-2 Inv-loop μ-loop
-step-requires-2 c κs = search needs
+check-record-requires-2 : tie.Need-check-record-requires-2 Inv-loop μ-loop
+check-record-requires-2 c κs = search needs
 
 add-number : tie.Need-add-number Inv-loop μ-loop
 add-number c = search needs
@@ -106,10 +106,10 @@ full-table-spec =
     cast-from
     sub-bytes-of
     bytes-of-requires
-    slice-aggregate-step
-    step-requires
-    slice-aggregate-step-2
-    step-requires-2
+    slice-aggregate-check-record
+    check-record-requires
+    slice-aggregate-check-record-2
+    check-record-requires-2
     add-number
     loop-less
     loop-again

@@ -9,8 +9,8 @@ returns c = search needs
 opened-requires : tie.Need-opened-requires
 opened-requires c κs = search needs
 
-step-requires : tie.Need-step-requires
-step-requires c κs = search needs
+check-list-requires : tie.Need-check-list-requires
+check-list-requires c κs = search needs
 
 pair-line-requires : tie.Need-pair-line-requires
 pair-line-requires c κs = search needs
@@ -30,17 +30,17 @@ write-all-requires c κs = search needs
 opened-requires-2 : tie.Need-opened-requires-2
 opened-requires-2 c κs = search needs
 
-sub-step : tie.Need-sub-step
-sub-step c = search needs
+sub-check-list : tie.Need-sub-check-list
+sub-check-list c = search needs
 
-part-step-start : tie.Need-part-step-start
-part-step-start c = search needs
+part-check-list-start : tie.Need-part-check-list-start
+part-check-list-start c = search needs
 
-part-step-end : tie.Need-part-step-end
-part-step-end c = search needs
+part-check-list-end : tie.Need-part-check-list-end
+part-check-list-end c = search needs
 
-step-requires-2 : tie.Need-step-requires-2
-step-requires-2 c κs = search needs
+check-list-requires-2 : tie.Need-check-list-requires-2
+check-list-requires-2 c κs = search needs
 
 pair-line-requires-2 : tie.Need-pair-line-requires-2
 pair-line-requires-2 c κs = search needs
@@ -48,17 +48,17 @@ pair-line-requires-2 c κs = search needs
 opened-requires-3 : tie.Need-opened-requires-3
 opened-requires-3 c κs = search needs
 
-sub-step-2 : tie.Need-sub-step-2
-sub-step-2 c = search needs
+sub-check-list-2 : tie.Need-sub-check-list-2
+sub-check-list-2 c = search needs
 
-part-step-start-2 : tie.Need-part-step-start-2
-part-step-start-2 c = search needs
+part-check-list-start-2 : tie.Need-part-check-list-start-2
+part-check-list-start-2 c = search needs
 
-part-step-end-2 : tie.Need-part-step-end-2
-part-step-end-2 c = search needs
+part-check-list-end-2 : tie.Need-part-check-list-end-2
+part-check-list-end-2 c = search needs
 
-step-requires-3 : tie.Need-step-requires-3
-step-requires-3 c κs = search needs
+check-list-requires-3 : tie.Need-check-list-requires-3
+check-list-requires-3 c κs = search needs
 
 pair-line-requires-3 : tie.Need-pair-line-requires-3
 pair-line-requires-3 c κs = search needs
@@ -66,17 +66,18 @@ pair-line-requires-3 c κs = search needs
 opened-requires-4 : tie.Need-opened-requires-4
 opened-requires-4 c κs = search needs
 
-sub-step-3 : tie.Need-sub-step-3
-sub-step-3 c = search needs
+sub-check-record : tie.Need-sub-check-record
+sub-check-record c = search needs
 
-part-step-start-3 : tie.Need-part-step-start-3
-part-step-start-3 c = search needs
+part-check-record-start : tie.Need-part-check-record-start
+part-check-record-start c = search needs
 
-part-step-end-3 : tie.Need-part-step-end-3
-part-step-end-3 c = c .before .before .before .before .before .before .before .before .before .before .before .before .before .before .before .before .if1 .left
+part-check-record-end : tie.Need-part-check-record-end
+part-check-record-end c =
+    c .before .before .before .before .before .before .before .before .before .before .before .before .before .before .before .before .if1 .left
 
-step-requires-4 : tie.Need-step-requires-4
-step-requires-4 c κs = search needs
+check-record-requires : tie.Need-check-record-requires
+check-record-requires c κs = search needs
 
 pair-line-requires-4 : tie.Need-pair-line-requires-4
 pair-line-requires-4 c κs = search needs
@@ -90,28 +91,28 @@ list-lines-spec =
     (tie.spec
     returns
     opened-requires
-    step-requires
+    check-list-requires
     pair-line-requires
     place-requires
     print-requires
     slice-aggregate-write-all
     write-all-requires
     opened-requires-2
-    sub-step
-    part-step-start
-    part-step-end
-    step-requires-2
+    sub-check-list
+    part-check-list-start
+    part-check-list-end
+    check-list-requires-2
     pair-line-requires-2
     opened-requires-3
-    sub-step-2
-    part-step-start-2
-    part-step-end-2
-    step-requires-3
+    sub-check-list-2
+    part-check-list-start-2
+    part-check-list-end-2
+    check-list-requires-3
     pair-line-requires-3
     opened-requires-4
-    sub-step-3
-    part-step-start-3
-    part-step-end-3
-    step-requires-4
+    sub-check-record
+    part-check-record-start
+    part-check-record-end
+    check-record-requires
     pair-line-requires-4
     returns-2)

@@ -1,6 +1,7 @@
 -- `home_tables::judge` meets its contract. Assumes nothing.
 use mathlib.Core.Bool.{Bool}
 use mathlib.Core.Path.{_∙_, ap}
+use native.Mathlib.Omega.{arith}
 use borrow.Author.Needs.{needs}
 use Rattle.answers.specs.Answers.{refuse}
 use Rattle.home_tables.proofs.Judging.{home-judge-by}
@@ -36,6 +37,11 @@ last-refusal-requires c κs = search needs
 refusal-if-requires-2 : tie.Need-refusal-if-requires-2
 refusal-if-requires-2 c κs = search needs
 
+is-used-requires : tie.Need-is-used-requires
+is-used-requires c κs =
+    let p = c .before .before .before .before .before .before .before .before .before .before .before .before .before .pre in
+    (omega (arith, p .1), omega (arith, p .2), omega (arith, p .3), p .4)
+
 first-refusal-requires : tie.Need-first-refusal-requires
 first-refusal-requires c κs = search needs
 
@@ -47,12 +53,12 @@ first-refusal-requires-2 c κs = search needs
 
 returns : tie.Need-returns
 returns c =
-    let c3 = c .before .before .before in
+    let c3 = c .before .before .before .before in
     let c5 = c3 .before .before in
     let c7 = c5 .before .before in
     let c9 = c7 .before .before in
-    let a = c9 .before .before .before .before .before .args in
-    home-judge-by (a .homes) (a .fars) (a .pool) (a .count) (a .balances .now) (a .numbers .now) (a .r) _ _ _ _ _ _ _ _
+    let a = c9 .before .before .before .before .before .before .before .args in
+    home-judge-by (a .homes) (a .fars) (a .pool) (a .count) (a .balances .now) (a .numbers .now) (a .r) _ _ _ _ _ _ _ _ _
     (c9 .refusal-if .ensures
     ∙ ap (λ (s : Bool). refuse s 33 0) (c9 .before .is-far .ensures ∙ ap isFar (c9 .before .before .ledger .ensures)))
     (c7 .accounts-on .ensures ∙ ap (accountsOn (a .homes) (a .fars)) (c7 .before .sender-ledger .ensures))
@@ -60,6 +66,7 @@ returns c =
     (c3 .before .last-refusal .ensures)
     (c3 .refusal-if2 .ensures)
     (c .before .before .first-refusal .ensures)
+    (c .before .before .before .is-used .ensures)
     (c .before .first-refusals .ensures)
     (c .first-refusal2 .ensures)
 
@@ -76,6 +83,7 @@ judge-spec =
     accounts-on-requires-2
     last-refusal-requires
     refusal-if-requires-2
+    is-used-requires
     first-refusal-requires
     first-refusals-requires
     first-refusal-requires-2

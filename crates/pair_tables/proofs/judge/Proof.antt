@@ -1,9 +1,12 @@
 -- `pair_tables::judge` meets its contract. Assumes nothing.
 use mathlib.Core.Path.{_∙_, ap}
+use native.Mathlib.Omega.{arith}
 use lib.ListN.{getD}
 use borrow.Author.Needs.{needs}
 use Rattle.ledgers.specs.Ledgers.{counterpart, ledgerByte}
 use Rattle.ledgers.specs.Limits.{capacity}
+use Rattle.number_index.specs.Index.{chainCount}
+use Rattle.pair_tables.proofs.Indexes.{index-at}
 use Rattle.pair_tables.proofs.Judging.{judge-by, within-both}
 use Rattle.pair_tables.proofs.judge.Statement.{statement}
 use Rattle.pair_tables.proofs.judge.Tie as tie
@@ -25,8 +28,7 @@ index-requires-2 c κs = search needs
 
 last-refusal-requires : tie.Need-last-refusal-requires
 last-refusal-requires c κs =
-    let c13 = c .before .before .before .before .before .before .before .before .before .before .before .before .before in
-    (c13 .pre, c .before .before .before .index .ensures .1, c .index2 .ensures .1)
+    (c .before .before .before .before .before .before .before .before .before .before .before .before .before .before .before .pre .0, c .before .before .before .before .before .before .before .before .before .before .before .before .before .before .before .pre .1, c .before .before .before .index .ensures .1, c .index2 .ensures .1)
 
 mul-refusal-if : tie.Need-mul-refusal-if
 mul-refusal-if c = search needs
@@ -59,52 +61,55 @@ mul-open-receivers : tie.Need-mul-open-receivers
 mul-open-receivers c = search needs
 
 shared-slice-read-open-receivers : tie.Need-shared-slice-read-open-receivers
-shared-slice-read-open-receivers c = search needs
+shared-slice-read-open-receivers c =
+    rw (c .before .before .before .before .before .before .before .before .before .before .before .before .before .before .before .before .before .before .before .before .before .before .before .before .pre .0 .accounts-are) (c .before .index4 .ensures .1)
 
-mul-first-refusals : tie.Need-mul-first-refusals
-mul-first-refusals c = search needs
+mul-is-used : tie.Need-mul-is-used
+mul-is-used c = search needs
 
-mul-first-refusals-2 : tie.Need-mul-first-refusals-2
-mul-first-refusals-2 c = search needs
+mul-is-used-2 : tie.Need-mul-is-used-2
+mul-is-used-2 c = search needs
 
-shared-slice-read-first-refusals : tie.Need-shared-slice-read-first-refusals
-shared-slice-read-first-refusals c = search needs
+mul-is-used-3 : tie.Need-mul-is-used-3
+mul-is-used-3 c = search needs
+
+shared-slice-read-is-used : tie.Need-shared-slice-read-is-used
+shared-slice-read-is-used c =
+    rw (c .before .before .before .before .before .before .before .before .before .before .before .before .before .before .before .before .before .before .before .before .before .before .before .before .before .pre .0 .counts-are) (c .before .before .before .before .before .before .before .before .before .before .before .before .before .index .ensures .1)
+
+is-used-requires : tie.Need-is-used-requires
+is-used-requires c κs =
+    let a = c .before .before .before .before .before .before .before .before .before .before .before .before .before .before .before .before .before .before .before .before .before .before .before .before .before .args in
+    let f = c .before .before .before .before .before .before .before .before .before .before .before .before .before .before .before .before .before .before .before .before .before .before .before .before .before .pre .0 in
+    let i = c .before .before .before .before .before .before .before .before .before .before .before .before .before .before .before .before .before .before .before .before .before .before .before .before .before .pre .1 in
+    let l = c .before .before .before .before .before .before .before .before .before .before .before .before .before .index .result in
+    let h = c .before .before .before .before .before .before .before .before .before .before .before .before .before .index .ensures .1 in
+    let w = within-both l (getD (a .counts .now) l 0) capacity h (f .counts-fit l h) in (
+      rw (f .numbers-are) w,
+      rw (i .heads-are) (within-both l chainCount chainCount h (omega arith)),
+      rw (i .nexts-are) w,
+      index-at (a .counts .now) i l h,
+    )
 
 first-refusal-requires : tie.Need-first-refusal-requires
 first-refusal-requires c κs = search needs
 
 first-refusals-requires : tie.Need-first-refusals-requires
-first-refusals-requires c κs =
-    let c14 = c .before .before .before .before .before .before .before .before .before .before .before .before .before .before in
-    let c24 = c14 .before .before .before .before .before .before .before .before .before .before in
-    rw (c24 .pre .numbers-are)
-    (within-both (c14 .index .result) (getD (c24 .args .counts .now) (c14 .index .result) 0) capacity (c14 .index .ensures .1)
-    (c24 .pre .counts-fit (c14 .index .result) (c14 .index .ensures .1)))
+first-refusals-requires c κs = search needs
 
 returns : tie.Need-returns
 returns c =
-    let c4 = c .before .before .before .before in
-    let c5 = c4 .before in
-    let c7 = c5 .before .before in
-    let c8 = c7 .before in
-    let c9 = c8 .before in
-    let c11 = c9 .before .before in
-    let c12 = c11 .before in
-    let c13 = c12 .before in
-    let c14 = c13 .before in
-    let c15 = c14 .before in
-    let c16 = c15 .before in
-    let c25 = c16 .before .before .before .before .before .before .before .before .before in
-    let a = c25 .args in
+    let a = c .before .before .before .before .before .before .before .before .before .before .before .before .before .before .before .before .before .before .before .before .before .before .before .before .before .before .before .before .args in
     judge-by (a .accounts .now) (a .counts .now) (a .balances .now) (a .kinds .now) (a .senders .now) (a .receivers .now)
-    (a .numbers .now) (a .amounts .now) (a .r) _ _ _ _ _ _ _ _
-    (c15 .index .ensures .0 ∙ ap ledgerByte (c16 .ledger .ensures))
-    (c12 .index2 .ensures .0 ∙ ap ledgerByte (c13 .counterpart .ensures ∙ ap counterpart (c14 .ledger2 .ensures)))
-    (c7 .index3 .ensures .0 ∙ ap ledgerByte (c8 .sender-ledger .ensures))
-    (c4 .index4 .ensures .0 ∙ ap ledgerByte (c5 .receiver-ledger .ensures))
-    (c11 .last-refusal .ensures)
-    (c9 .refusal-if .ensures)
+    (a .numbers .now) (a .amounts .now) (a .r) _ _ _ _ _ _ _ _ _
+    (c .before .before .before .before .before .before .before .before .before .before .before .before .before .before .before .before .index .ensures .0 ∙ ap ledgerByte (c .before .before .before .before .before .before .before .before .before .before .before .before .before .before .before .before .before .ledger .ensures))
+    (c .before .before .before .before .before .before .before .before .before .before .before .before .before .index2 .ensures .0 ∙ ap ledgerByte (c .before .before .before .before .before .before .before .before .before .before .before .before .before .before .counterpart .ensures ∙ ap counterpart (c .before .before .before .before .before .before .before .before .before .before .before .before .before .before .before .ledger2 .ensures)))
+    (c .before .before .before .before .before .before .before .before .index3 .ensures .0 ∙ ap ledgerByte (c .before .before .before .before .before .before .before .before .before .sender-ledger .ensures))
+    (c .before .before .before .before .before .index4 .ensures .0 ∙ ap ledgerByte (c .before .before .before .before .before .before .receiver-ledger .ensures))
+    (c .before .before .before .before .before .before .before .before .before .before .before .before .last-refusal .ensures)
+    (c .before .before .before .before .before .before .before .before .before .before .refusal-if .ensures)
     (c .before .first-refusal .ensures)
+    (c .before .before .is-used .ensures)
     (c .first-refusals .ensures)
 
 pub judge-spec : {M : Type 1} → statement M
@@ -128,9 +133,11 @@ judge-spec =
     index-requires-4
     mul-open-receivers
     shared-slice-read-open-receivers
-    mul-first-refusals
-    mul-first-refusals-2
-    shared-slice-read-first-refusals
+    mul-is-used
+    mul-is-used-2
+    mul-is-used-3
+    shared-slice-read-is-used
+    is-used-requires
     first-refusal-requires
     first-refusals-requires
     returns)

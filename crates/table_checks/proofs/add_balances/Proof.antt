@@ -1,48 +1,63 @@
 -- `table_checks::add_balances` meets its contract. Assumes nothing.
-use Prim.Native.Nat.{_*_, _-_, _≤_, ℕ}
+use Prim.Native.Nat.{_+_, _-_, _<_, _^_, _≤_, ℕ}
 use mathlib.Core.Path.{_≡_}
 use native.Mathlib.Omega.{arith}
 use lib.ListN.{getD}
 use borrow.Author.Needs.{needs}
-use Rattle.table_checks.specs.Sums.{Added}
+use Rattle.table_checks.proofs.Sums.{
+  Halves,
+  all-places,
+  half-fits,
+  half-low,
+  halves-added,
+  halves-fit,
+  halves-more,
+  halves-none,
+}
 use Rattle.tables.proofs.Places.{sum-more, sum-none}
 use Rattle.tables.specs.Places.{sumAt}
-use Rattle.wire.specs.BigEndian.{value}
 use Rattle.table_checks.proofs.add_balances.Statement.{statement}
 use Rattle.table_checks.proofs.add_balances.Tie as tie
 
 abbrev Inv-loop : tie.InvT-loop
-Inv-loop balances from n w₀ end i₀ w i =
-    (from ≤ i) × (i ≤ end) × Added w₀ (sumAt (λ (j : ℕ). getD balances j 0) from (i - from)) (2 * (i - from)) w
+Inv-loop balances from n start high₀ low₀ end i₀ high low i =
+    (from ≤ i) × (i ≤ end) × Halves (sumAt (λ (j : ℕ). getD balances j 0) from (i - from)) (i - from) high low
 
 abbrev μ-loop : tie.MeasureT-loop
-μ-loop balances from n w₀ end i₀ w i = end - i
+μ-loop balances from n start high₀ low₀ end i₀ high low i = end - i
 
 add-end : tie.Need-add-end Inv-loop μ-loop
 add-end c = search needs
 
 loop-holds : tie.Need-loop-holds Inv-loop μ-loop
 loop-holds c =
-    let a = c .before .args in (
-      search needs,
-      search needs,
-      record {
-        value = omega (arith, sum-none (λ (j : ℕ). getD (a .balances .now) j 0) (a .from));
-        low-fits = c .before .pre .1;
-        high-most = omega arith;
-      },
-    )
+    let a = c .before .args in
+    (search needs, search needs, halves-none _ _ (sum-none (λ (j : ℕ). getD (a .balances .now) j 0) (a .from)))
 
-mul-add : tie.Need-mul-add Inv-loop μ-loop
-mul-add c = search needs
+mul-b : tie.Need-mul-b Inv-loop μ-loop
+mul-b c = search needs
 
-shared-slice-read-add : tie.Need-shared-slice-read-add Inv-loop μ-loop
-shared-slice-read-add c = search needs
+shared-slice-read-b : tie.Need-shared-slice-read-b Inv-loop μ-loop
+shared-slice-read-b c = search needs
 
-add-requires : tie.Need-add-requires Inv-loop μ-loop
-add-requires c κs =
-    let l = c .before .before .loop in
-    (l .inv .2 .low-fits, omega (arith, l .inv .2 .high-most))
+add-high : tie.Need-add-high Inv-loop μ-loop
+add-high c =
+    let c2 = c .before .before in
+    let c4 = c2 .before .before in
+    let a = c4 .args in
+    let l = c2 .loop in
+    let m : getD (a .balances .now) (l .i) 0 < 2 ^ 64 = omega (arith, c .shared-slice-known2 .given (l .i)) in
+    let t = c .before .loop-test .taken in
+    record { fits = half-fits (a .start .high) (a .from) (a .n) (l .i) (l .high) _ (c4 .pre .2) t (l .inv .2 .high-most) (omega (arith, m)) }
+
+add-low : tie.Need-add-low Inv-loop μ-loop
+add-low c =
+    let c2 = c .before .before in
+    let c4 = c2 .before .before in
+    let a = c4 .args in
+    let l = c2 .loop in
+    let t = c .before .loop-test .taken in
+    record { fits = half-fits (a .start .high) (a .from) (a .n) (l .i) (l .low) _ (c4 .pre .2) t (l .inv .2 .low-most) (half-low _) }
 
 add-i : tie.Need-add-i Inv-loop μ-loop
 add-i c = search needs
@@ -52,26 +67,36 @@ loop-less c = search needs
 
 loop-again : tie.Need-loop-again Inv-loop μ-loop
 loop-again c =
-    let c5 = c .before .before .before .before .before in
-    let a = c5 .args in
-    let l = c .before .before .before .loop in
-    let s = sum-more (λ (j : ℕ). getD (a .balances .now) j 0) (a .from) (l .i) (l .inv .0) in
-    let e = c .add .ensures in (
+    let c2 = c .before .before in
+    let a = c2 .before .before .args in
+    let l = c2 .loop in
+    let f : ℕ → ℕ = λ (j : ℕ). getD (a .balances .now) j 0 in
+    let m : f (l .i) < 2 ^ 64 = omega (arith, c .shared-slice-known2 .given (l .i)) in
+    let k : l .i + 1 - a .from ≡ l .i - a .from + 1 = omega arith in (
       search needs,
       search needs,
-      record {
-        value = omega (arith, s, e .value, l .inv .2 .value);
-        low-fits = e .low-fits;
-        high-most = omega (arith, e .high-most, l .inv .2 .high-most);
-      },
+      halves-more _ _ (l .high) (l .low) (f (l .i)) _ _ (l .inv .2) m (sum-more f (a .from) (l .i) (l .inv .0)) k,
     )
+
+add-halves-requires : tie.Need-add-halves-requires Inv-loop μ-loop
+add-halves-requires c κs =
+    let c1 = c .before in
+    let c3 = c1 .before .before in
+    let a = c3 .args in
+    let l = c1 .loop in
+    let z = all-places (a .from) (a .n) (l .i) (l .inv .1) (c .loop-test .left) in
+    let f = halves-fit (a .start .high) (rw z at (l .inv .2)) (c3 .pre .2) in
+    (c3 .pre .1, f .0, f .1)
 
 returns : tie.Need-returns Inv-loop μ-loop
 returns c =
-    let a = c .before .before .before .args in
-    let l = c .before .loop in
-    let z : l .i - a .from ≡ a .n = omega arith in
-    rw (← z) (l .inv .2)
+    let c2 = c .before .before in
+    let c4 = c2 .before .before in
+    let a = c4 .args in
+    let l = c2 .loop in
+    let z = all-places (a .from) (a .n) (l .i) (l .inv .1) (c .before .loop-test .left) in
+    let e = c .add-halves .ensures in
+    halves-added (a .start) _ (rw z at (l .inv .2)) (c4 .pre .1) (e .0) (e .1)
 
 pub add-balances-spec : {M : Type 1} → statement M
 add-balances-spec =
@@ -81,10 +106,12 @@ add-balances-spec =
     μ-loop
     add-end
     loop-holds
-    mul-add
-    shared-slice-read-add
-    add-requires
+    mul-b
+    shared-slice-read-b
+    add-high
+    add-low
     add-i
     loop-less
     loop-again
+    add-halves-requires
     returns)

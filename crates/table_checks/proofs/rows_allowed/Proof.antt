@@ -1,110 +1,127 @@
 -- `table_checks::rows_allowed` meets its contract. Assumes nothing.
-use Prim.Native.Nat.{_+_, _-_, _≤_}
-use mathlib.Core.Path.{_∙_, _≡_, sym}
-use native.Mathlib.Omega.{arith}
+use mathlib.Core.Path.{_∙_, sym}
 use borrow.Author.Needs.{needs}
-use borrow.Author.Tests.{not-false, not-true}
-use Rattle.table_checks.specs.Checks.{allowedAt}
-use Rattle.tables.proofs.Places.{all-end, all-here, all-on, from-start}
-use Rattle.tables.specs.Places.{allAt}
+use Rattle.table_checks.proofs.Columns.{and-on, and-stop, columns-allowed}
 use Rattle.table_checks.proofs.rows_allowed.Statement.{statement}
 use Rattle.table_checks.proofs.rows_allowed.Tie as tie
 
-abbrev Inv-loop : tie.InvT-loop
-Inv-loop kinds ledgers senders receivers amounts verdicts from n l own other end i₀ i =
-    (from ≤ i)
-    × (i ≤ end)
-    × (allAt (allowedAt l own other kinds ledgers senders receivers amounts verdicts) from n
-    ≡ allAt (allowedAt l own other kinds ledgers senders receivers amounts verdicts) i (from + n - i))
+kinds-allowed-requires : tie.Need-kinds-allowed-requires
+kinds-allowed-requires c κs = search needs
 
-abbrev μ-loop : tie.MeasureT-loop
-μ-loop kinds ledgers senders receivers amounts verdicts from n l own other end i₀ i = end - i
-
-add-end : tie.Need-add-end Inv-loop μ-loop
-add-end c = search needs
-
-loop-holds : tie.Need-loop-holds Inv-loop μ-loop
-loop-holds c = (search needs, search needs, from-start (allAt _) _ _)
-
-shared-slice-read-row-allowed : tie.Need-shared-slice-read-row-allowed Inv-loop μ-loop
-shared-slice-read-row-allowed c = search needs
-
-shared-slice-read-row-allowed-2 : tie.Need-shared-slice-read-row-allowed-2 Inv-loop μ-loop
-shared-slice-read-row-allowed-2 c = search needs
-
-mul-row-allowed : tie.Need-mul-row-allowed Inv-loop μ-loop
-mul-row-allowed c = search needs
-
-shared-slice-read-row-allowed-3 : tie.Need-shared-slice-read-row-allowed-3 Inv-loop μ-loop
-shared-slice-read-row-allowed-3 c = search needs
-
-mul-row-allowed-2 : tie.Need-mul-row-allowed-2 Inv-loop μ-loop
-mul-row-allowed-2 c = search needs
-
-shared-slice-read-row-allowed-4 : tie.Need-shared-slice-read-row-allowed-4 Inv-loop μ-loop
-shared-slice-read-row-allowed-4 c = search needs
-
-mul-row-allowed-3 : tie.Need-mul-row-allowed-3 Inv-loop μ-loop
-mul-row-allowed-3 c = search needs
-
-shared-slice-read-row-allowed-5 : tie.Need-shared-slice-read-row-allowed-5 Inv-loop μ-loop
-shared-slice-read-row-allowed-5 c = search needs
-
-shared-slice-read-row-allowed-6 : tie.Need-shared-slice-read-row-allowed-6 Inv-loop μ-loop
-shared-slice-read-row-allowed-6 c = search needs
-
-row-allowed-requires : tie.Need-row-allowed-requires Inv-loop μ-loop
-row-allowed-requires c κs = search needs
-
-returns : tie.Need-returns Inv-loop μ-loop
+returns : tie.Need-returns
 returns c =
-    let c9 = c .before .before .before .before .before .before .before .before .before in
-    let a = c9 .before .before .before .before .before .before .before .args in
-    let l = c9 .loop in
-    let not-here = sym (c .before .row-allowed .ensures) ∙ not-true _ (c .if1 .taken) in
-    sym (l .inv .2 ∙ all-here _ (l .i) (a .from + a .n) (search needs) not-here)
+    let a = c .before .before .before .before .before .before .before .before .args in
+    sym
+    (columns-allowed (a .l) (a .own) (a .other) (a .kinds .now) (a .ledgers .now) (a .senders .now) (a .receivers .now) (a .amounts .now)
+    (a .verdicts .now) (a .from) (a .n)
+    ∙ and-stop _ _ _ (c .before .kinds-allowed .ensures) (c .if1 .taken))
 
-add-i : tie.Need-add-i Inv-loop μ-loop
-add-i c = search needs
+all-equal-requires : tie.Need-all-equal-requires
+all-equal-requires c κs = search needs
 
-loop-less : tie.Need-loop-less Inv-loop μ-loop
-loop-less c = search needs
-
-loop-again : tie.Need-loop-again Inv-loop μ-loop
-loop-again c =
-    let c9 = c .before .before .before .before .before .before .before .before .before in
-    let a = c9 .before .before .before .before .before .before .before .args in
-    let l = c9 .loop in
-    let here = sym (c .before .row-allowed .ensures) ∙ not-false _ (c .if1 .left) in
-    (search needs, search needs, l .inv .2 ∙ all-on _ (l .i) (a .from + a .n) (search needs) here)
-
-returns-2 : tie.Need-returns-2 Inv-loop μ-loop
+returns-2 : tie.Need-returns-2
 returns-2 c =
-    let c8 = c .before .before .before .before .before .before .before .before in
-    let a = c8 .args in
-    let l = c .before .loop in
-    sym (l .inv .2 ∙ all-end _ (l .i) (a .from + a .n) (omega arith))
+    let c2 = c .before .before in
+    let a = c2 .before .before .before .before .before .before .before .before .args in
+    sym
+    (columns-allowed (a .l) (a .own) (a .other) (a .kinds .now) (a .ledgers .now) (a .senders .now) (a .receivers .now) (a .amounts .now)
+    (a .verdicts .now) (a .from) (a .n)
+    ∙ and-on _ _ _ (c2 .before .kinds-allowed .ensures) (c2 .if1 .left)
+    ∙ and-stop _ _ _ (c .before .all-equal .ensures) (c .if2 .taken))
+
+all-equal-requires-2 : tie.Need-all-equal-requires-2
+all-equal-requires-2 c κs = search needs
+
+returns-3 : tie.Need-returns-3
+returns-3 c =
+    let c2 = c .before .before in
+    let c4 = c2 .before .before in
+    let a = c4 .before .before .before .before .before .before .before .before .args in
+    sym
+    (columns-allowed (a .l) (a .own) (a .other) (a .kinds .now) (a .ledgers .now) (a .senders .now) (a .receivers .now) (a .amounts .now)
+    (a .verdicts .now) (a .from) (a .n)
+    ∙ and-on _ _ _ (c4 .before .kinds-allowed .ensures) (c4 .if1 .left)
+    ∙ and-on _ _ _ (c2 .before .all-equal .ensures) (c2 .if2 .left)
+    ∙ and-stop _ _ _ (c .before .all-equal2 .ensures) (c .if3 .taken))
+
+amounts-allowed-requires : tie.Need-amounts-allowed-requires
+amounts-allowed-requires c κs = search needs
+
+returns-4 : tie.Need-returns-4
+returns-4 c =
+    let c2 = c .before .before in
+    let c4 = c2 .before .before in
+    let c6 = c4 .before .before in
+    let a = c6 .before .before .before .before .before .before .before .before .args in
+    sym
+    (columns-allowed (a .l) (a .own) (a .other) (a .kinds .now) (a .ledgers .now) (a .senders .now) (a .receivers .now) (a .amounts .now)
+    (a .verdicts .now) (a .from) (a .n)
+    ∙ and-on _ _ _ (c6 .before .kinds-allowed .ensures) (c6 .if1 .left)
+    ∙ and-on _ _ _ (c4 .before .all-equal .ensures) (c4 .if2 .left)
+    ∙ and-on _ _ _ (c2 .before .all-equal2 .ensures) (c2 .if3 .left)
+    ∙ and-stop _ _ _ (c .before .amounts-allowed .ensures) (c .if4 .taken))
+
+cast-own-limit : tie.Need-cast-own-limit
+cast-own-limit c = search needs
+
+cast-other-limit : tie.Need-cast-other-limit
+cast-other-limit c = search needs
+
+accounts-allowed-requires : tie.Need-accounts-allowed-requires
+accounts-allowed-requires c κs = search needs
+
+returns-5 : tie.Need-returns-5
+returns-5 c =
+    let c2 = c .before .before in
+    let c4 = c2 .before .before in
+    let c6 = c4 .before .before in
+    let c8 = c6 .before .before in
+    let a = c8 .before .before .before .before .before .before .before .before .args in
+    sym
+    (columns-allowed (a .l) (a .own) (a .other) (a .kinds .now) (a .ledgers .now) (a .senders .now) (a .receivers .now) (a .amounts .now)
+    (a .verdicts .now) (a .from) (a .n)
+    ∙ and-on _ _ _ (c8 .before .kinds-allowed .ensures) (c8 .if1 .left)
+    ∙ and-on _ _ _ (c6 .before .all-equal .ensures) (c6 .if2 .left)
+    ∙ and-on _ _ _ (c4 .before .all-equal2 .ensures) (c4 .if3 .left)
+    ∙ and-on _ _ _ (c2 .before .amounts-allowed .ensures) (c2 .if4 .left)
+    ∙ and-stop _ _ _ (c .before .accounts-allowed .ensures) (c .if5 .taken))
+
+accounts-allowed-requires-2 : tie.Need-accounts-allowed-requires-2
+accounts-allowed-requires-2 c κs = search needs
+
+returns-6 : tie.Need-returns-6
+returns-6 c =
+    let c1 = c .before in
+    let c3 = c1 .before .before in
+    let c5 = c3 .before .before in
+    let c7 = c5 .before .before in
+    let c9 = c7 .before .before in
+    let a = c9 .before .before .before .before .before .before .before .before .args in
+    sym
+    (columns-allowed (a .l) (a .own) (a .other) (a .kinds .now) (a .ledgers .now) (a .senders .now) (a .receivers .now) (a .amounts .now)
+    (a .verdicts .now) (a .from) (a .n)
+    ∙ and-on _ _ _ (c9 .before .kinds-allowed .ensures) (c9 .if1 .left)
+    ∙ and-on _ _ _ (c7 .before .all-equal .ensures) (c7 .if2 .left)
+    ∙ and-on _ _ _ (c5 .before .all-equal2 .ensures) (c5 .if3 .left)
+    ∙ and-on _ _ _ (c3 .before .amounts-allowed .ensures) (c3 .if4 .left)
+    ∙ and-on _ _ _ (c1 .before .accounts-allowed .ensures) (c1 .if5 .left)
+    ∙ sym (c .accounts-allowed2 .ensures))
 
 pub rows-allowed-spec : {M : Type 1} → statement M
 rows-allowed-spec =
     tie.close
     (tie.spec
-    Inv-loop
-    μ-loop
-    add-end
-    loop-holds
-    shared-slice-read-row-allowed
-    shared-slice-read-row-allowed-2
-    mul-row-allowed
-    shared-slice-read-row-allowed-3
-    mul-row-allowed-2
-    shared-slice-read-row-allowed-4
-    mul-row-allowed-3
-    shared-slice-read-row-allowed-5
-    shared-slice-read-row-allowed-6
-    row-allowed-requires
+    kinds-allowed-requires
     returns
-    add-i
-    loop-less
-    loop-again
-    returns-2)
+    all-equal-requires
+    returns-2
+    all-equal-requires-2
+    returns-3
+    amounts-allowed-requires
+    returns-4
+    cast-own-limit
+    cast-other-limit
+    accounts-allowed-requires
+    returns-5
+    accounts-allowed-requires-2
+    returns-6)

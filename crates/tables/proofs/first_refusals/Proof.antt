@@ -7,8 +7,7 @@ use lib.Dec.{leb}
 use borrow.Author.Needs.{needs}
 use Rattle.answers.proofs.Answers.{refuse-else}
 use Rattle.answers.specs.Answers.{orElse, refuse}
-use Rattle.tables.specs.Columns.{firstAt, usedAt}
-use Rattle.tables.specs.Places.{anyAt}
+use Rattle.tables.specs.Columns.{firstBy}
 use Rattle.tables.proofs.first_refusals.Statement.{statement}
 use Rattle.tables.proofs.first_refusals.Tie as tie
 
@@ -27,9 +26,6 @@ refusal-if-requires-2 c κs = search needs
 refusal-if-requires-3 : tie.Need-refusal-if-requires-3
 refusal-if-requires-3 c κs = search needs
 
-used-requires : tie.Need-used-requires
-used-requires c κs = search needs
-
 refusal-if-requires-4 : tie.Need-refusal-if-requires-4
 refusal-if-requires-4 c κs = search needs
 
@@ -46,24 +42,24 @@ first-refusal-requires-4 : tie.Need-first-refusal-requires-4
 first-refusal-requires-4 c κs = search needs
 
 returns : tie.Need-returns
-unfolding firstAt
+unfolding firstBy
 returns c =
     let c4 = c .before .before .before .before in
-    let c5 = c4 .before in
-    let c10 = c5 .before .before .before .before .before in
-    let a = c10 .before .before .before .args in
+    let c7 = c4 .before .before .before in
+    let c9 = c7 .before .before in
+    let a = c9 .before .before .args in
     let noSender = leb (a .senders) (a .r .sender) in
     let noReceiver = leb (a .receivers) (a .r .receiver) in
     let unverified = not (a .r .verified) in
-    let isUsed = anyAt (usedAt (a .r .number) (a .numbers .now)) (a .from) (a .n) in
+    let isUsed = a .is-used in
     let from24 = refuse isUsed 24 (a .later) in
     let from23 = refuse unverified 23 from24 in
-    let sender = c10 .refusal-if .ensures ∙ ap (λ (k : ℕ). refuse (leb (a .senders) k) 22 0) (c10 .before .as-index .ensures) in
+    let sender = c9 .refusal-if .ensures ∙ ap (λ (k : ℕ). refuse (leb (a .senders) k) 22 0) (c9 .before .as-index .ensures) in
     let receiver =
-    c5 .before .before .before .refusal-if2 .ensures
-    ∙ ap (λ (k : ℕ). refuse (leb (a .receivers) k) 22 0) (c5 .before .before .before .before .as-index2 .ensures) in
-    let signature = c5 .before .refusal-if3 .ensures in
-    let number = c4 .refusal-if4 .ensures ∙ ap (λ (t : Bool). refuse t 24 0) (c5 .used .ensures) in
+    c7 .refusal-if2 .ensures
+    ∙ ap (λ (k : ℕ). refuse (leb (a .receivers) k) 22 0) (c7 .before .as-index2 .ensures) in
+    let signature = c4 .before .refusal-if3 .ensures in
+    let number = c4 .refusal-if4 .ensures in
     let e24 =
     c .before .before .before .first-refusal .ensures
     ∙ ap (λ (k : ℕ). orElse k (a .later)) number
@@ -81,7 +77,6 @@ first-refusals-spec =
     as-index-requires-2
     refusal-if-requires-2
     refusal-if-requires-3
-    used-requires
     refusal-if-requires-4
     first-refusal-requires
     first-refusal-requires-2

@@ -10,12 +10,12 @@ use Rattle.tables.proofs.sent.Statement.{statement}
 use Rattle.tables.proofs.sent.Tie as tie
 
 abbrev Inv-loop : tie.InvT-loop
-Inv-loop kinds senders receivers numbers amounts from n r end i₀ i =
-    let p = sendsAt kinds senders receivers numbers amounts (r .number) (r .sender) (r .receiver) (r .amount) in
+Inv-loop kinds senders receivers numbers amounts from n number sender receiver amount end i₀ i =
+    let p = sendsAt kinds senders receivers numbers amounts number sender receiver amount in
     (from ≤ i) × (i ≤ from + n) × (anyAt p from n ≡ anyAt p i (from + n - i))
 
 abbrev μ-loop : tie.MeasureT-loop
-μ-loop kinds senders receivers numbers amounts from n r end i₀ i = from + n - i
+μ-loop kinds senders receivers numbers amounts from n number sender receiver amount end i₀ i = from + n - i
 
 add-end : tie.Need-add-end Inv-loop μ-loop
 add-end c = search needs

@@ -3,8 +3,9 @@ use mathlib.Core.Path.{_∙_, _≡_, sym}
 use native.Mathlib.Omega.{arith}
 use borrow.Author.Needs.{needs}
 use borrow.Author.Tests.{not-false, not-true}
-use Rattle.pair_tables.proofs.Accept.{accepts-is}
-use Rattle.pair_tables.proofs.Passing.{Sound, sound-of}
+use Rattle.pair_laws.proofs.Accept.{accepts-is}
+use Rattle.pair_tables.proofs.Indexes.{indexes-of-none}
+use Rattle.pair_laws.proofs.Passing.{Sound, sound-of}
 use Rattle.pair_tables.specs.Tables.{Sized, accepts}
 use Rattle.pair_validator.proofs.Opened.{far-total, figures-passed, home-total, supply-shared}
 use Rattle.pair_validator.specs.State.{tablesOf}
@@ -12,14 +13,30 @@ use Rattle.pair_validator.specs.declared.PairValidator.{PairValidator}
 use Rattle.pair_validator.proofs.PairValidator.figures.Statement.{statement}
 use Rattle.pair_validator.proofs.PairValidator.figures.Tie as tie
 
+slice-aggregate-is-accepted : tie.Need-slice-aggregate-is-accepted
+slice-aggregate-is-accepted c = search needs
+
+slice-aggregate-is-accepted-2 : tie.Need-slice-aggregate-is-accepted-2
+slice-aggregate-is-accepted-2 c = search needs
+
 is-accepted-requires : tie.Need-is-accepted-requires
-is-accepted-requires c κs = search needs
+is-accepted-requires c κs = (
+  search needs,
+  search needs,
+  search needs,
+  search needs,
+  search needs,
+  search needs,
+  search needs,
+  search needs,
+  search needs,
+  search needs,
+  indexes-of-none _,
+)
 
 -- the state that is asked for its figures
 abbrev stateAt : tie.After-is-accepted → PairValidator
-stateAt c =
-    let c11 = c .before .before .before .before .before .before .before .before .before .before .before in
-    c11 .before .before .before .before .before .before .before .before .before .before .before .args .t1
+stateAt c = c .before .before .before .before .before .before .before .before .before .before .before .before .before .before .before .before .before .before .before .before .before .before .before .before .args .t1
 
 -- its columns are as long as both ledgers need
 sized-at : (c : tie.After-is-accepted) → Sized (tablesOf (stateAt c))
@@ -39,14 +56,14 @@ sized-at c =
 
 -- it is accepted where the call says so
 accepts-at : (c : tie.After-is-accepted) → accepts (tablesOf (stateAt c)) ≡ c .is-accepted .result
-accepts-at c = sym (accepts-is (tablesOf (stateAt c)) (sized-at c)) ∙ sym (c .is-accepted .ensures)
+accepts-at c = sym (accepts-is (tablesOf (stateAt c)) (sized-at c)) ∙ sym (c .is-accepted .ensures .0)
 
 returns : tie.Need-returns
-returns c = rw (accepts-at (c .before) ∙ not-true _ (c .if1 .taken))
+returns c = rw (accepts-at (c .before .before .before) ∙ not-true _ (c .if1 .taken))
 
 -- an accepted state
-sound-at : (c : tie.Else1) → Sound (tablesOf (stateAt (c .before)))
-sound-at c = sound-of (tablesOf (stateAt (c .before))) (sized-at (c .before)) (accepts-at (c .before) ∙ not-false _ (c .if1 .left))
+sound-at : (c : tie.Else1) → Sound (tablesOf (stateAt (c .before .before .before)))
+sound-at c = sound-of (tablesOf (stateAt (c .before .before .before))) (sized-at (c .before .before .before)) (accepts-at (c .before .before .before) ∙ not-false _ (c .if1 .left))
 
 element-copy-out-homes : tie.Need-element-copy-out-homes
 element-copy-out-homes c = search needs
@@ -56,49 +73,41 @@ element-copy-out-fars c = search needs
 
 add-balances-requires : tie.Need-add-balances-requires
 add-balances-requires c κs =
-    let c5 = c .before .before .before .before .before in
-    let s = sound-at (c5) in
+    let s = sound-at (c .before .before .before .before .before) in
     (omega (arith, s .sized .balances-are, s .bounds .home-fits), omega arith, omega (arith, s .bounds .home-fits))
 
 add-balances-requires-2 : tie.Need-add-balances-requires-2
 add-balances-requires-2 c κs =
-    let c9 = c .before .before .before .before .before .before .before .before .before in
-    let s = sound-at (c9) in
+    let s = sound-at (c .before .before .before .before .before .before .before .before .before) in
     (omega (arith, s .sized .balances-are, s .bounds .far-fits), omega arith, omega (arith, s .bounds .far-fits))
 
-sub-t42 : tie.Need-sub-t42
-sub-t42 c =
-    let c5 = c .before .before .before .before .before in
-    let s = sound-at (c5 .before .before .before .before .before .before) in
-    omega (arith, home-total _ s (c5 .add-balances .ensures), supply-shared _ s)
+sub-t48 : tie.Need-sub-t48
+sub-t48 c =
+    let s = sound-at (c .before .before .before .before .before .before .before .before .before .before .before) in
+    omega (arith, home-total _ s (c .before .before .before .before .before .add-balances .ensures), supply-shared _ s)
 
-sub-t43 : tie.Need-sub-t43
-sub-t43 c =
-    let c6 = c .before .before .before .before .before .before in
-    let s = sound-at (c6 .before .before .before .before .before .before) in
-    omega (
-      arith,
-      home-total _ s (c6 .add-balances .ensures),
-      far-total _ s (c .before .before .add-balances2 .ensures),
-      supply-shared _ s,
-    )
+sub-t49 : tie.Need-sub-t49
+sub-t49 c =
+    let s = sound-at (c .before .before .before .before .before .before .before .before .before .before .before .before) in
+    omega (arith, home-total _ s (c .before .before .before .before .before .before .add-balances .ensures), far-total _ s (c .before .before .add-balances2 .ensures), supply-shared _ s)
 
 returns-2 : tie.Need-returns-2
 returns-2 c =
-    let c6 = c .before .before .before .before .before .before in
-    let s = sound-at (c6 .before .before .before .before .before .before) in
-    figures-passed _ s _ _ (home-total _ s (c6 .add-balances .ensures)) (far-total _ s (c .before .before .add-balances2 .ensures))
+    let s = sound-at (c .before .before .before .before .before .before .before .before .before .before .before .before) in
+    figures-passed _ s _ _ (home-total _ s (c .before .before .before .before .before .before .add-balances .ensures)) (far-total _ s (c .before .before .add-balances2 .ensures))
 
 pub figures-spec : {M : Type 1} → statement M
 figures-spec =
     tie.close
     (tie.spec
+    slice-aggregate-is-accepted
+    slice-aggregate-is-accepted-2
     is-accepted-requires
     returns
     element-copy-out-homes
     element-copy-out-fars
     add-balances-requires
     add-balances-requires-2
-    sub-t42
-    sub-t43
+    sub-t48
+    sub-t49
     returns-2)

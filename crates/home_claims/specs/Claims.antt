@@ -1,0 +1,136 @@
+-- What is claimed of the home validator's calls over the state that the program holds: the second half of demand 3.
+-- Assumes nothing.
+use Prim.Native.Nat.{_+_, _<_, _≤_, suc, ℕ}
+use mathlib.Core.Bool.{false, true}
+use mathlib.Core.List.{List, _++_, _∷_}
+use mathlib.Core.Logic.{_↔_}
+use mathlib.Core.Path.{_≡_}
+use lib.ListN.{length}
+use Rattle.answers.specs.declared.Answer.the-variants.{Passed, Refused}
+use Rattle.home_tables.specs.Tables.{HomeSized, acceptsHome, homeIn}
+use Rattle.home_validator.specs.State.{homeChecker, homeFiguresOf, homeOpenedState, homeTablesOf, homeViewOfState, homeZeroState}
+use Rattle.home_validator.specs.declared.HomeValidator.{HomeValidator}
+use Rattle.ledgers.specs.Limits.{capacity}
+use Rattle.ledgers.specs.declared.Kind.the-variants.{Receiving}
+use Rattle.ledgers.specs.declared.Ledger.the-variants.{Home}
+use Rattle.records.specs.Records.{reading}
+use Rattle.records.specs.declared.Reading.the-variants.{Read, Unreadable}
+use Rattle.records.specs.declared.Record.{Record}
+use Rattle.rules.specs.Calls.{Call, CallBytes, ListsInTurn, RefusedUnaltered, call, handed, one, passedRecords, recordsOn, run}
+use Rattle.rules.specs.HomeValidator.{HomeRecord, Possible, farPoolOf, homeAfter, homeJudgeRecord, homeOpened, homeOpeningRefusal}
+use Rattle.rules.specs.HomeValidator.{homeValidator, received, sent}
+use Rattle.rules.specs.Lists.{total}
+use Rattle.rules.specs.Rules.{opened}
+use Rattle.wire.specs.BigEndian.{All}
+
+-- ## The rules' calls
+
+-- an accepted opening gives, seen as the rules' state, the rules' opening
+unfoldable pub HomeOpenedAsRules : Type 0
+HomeOpenedAsRules =
+    (homes : List ℕ) (fars farTotal : ℕ) → homeOpeningRefusal homes fars farTotal ≡ 0
+    → homeViewOfState (homeOpenedState homes fars farTotal) ≡ homeOpened homes fars farTotal
+
+-- any call in an accepted state has the answer of the rules' call and, seen as the rules' state, its state
+unfoldable pub HomeCallsAsRules : Type 0
+HomeCallsAsRules =
+    (s : HomeValidator) → HomeSized (homeTablesOf s) → acceptsHome (homeTablesOf s) ≡ true → (d : Call)
+    → (call homeChecker s d .answer ≡ call (homeValidator capacity) (homeViewOfState s) d .answer)
+    × (homeViewOfState (call homeChecker s d .state) ≡ call (homeValidator capacity) (homeViewOfState s) d .state)
+
+-- 3 is answered in its condition, with the state as it came, and not otherwise
+unfoldable pub HomeThreeExactly : Type 0
+HomeThreeExactly =
+    (s : HomeValidator) (d : Call)
+    → (acceptsHome (homeTablesOf s) ≡ false → call homeChecker s d ≡ record { answer = Refused 3 0; state = s })
+    × (acceptsHome (homeTablesOf s) ≡ true → (place : ℕ) → call homeChecker s d .answer ≡ Refused 3 place → ⊥)
+
+-- ## A call with one record
+
+-- what holds of it, whatever its bytes, in an accepted state: each refusal with its own number, 41 last, and a pass with the
+-- state that follows
+pub record HomeStateAnswers (s : HomeValidator) (b : List ℕ) : Type 0 where
+  -- what does not read is refused 21
+  pub unreadable : reading b ≡ Unreadable → call homeChecker s (one b) ≡ record { answer = Refused 21 0; state = s }
+  -- a record that 33, 22, 23, 24, 25 or 32 refuses is refused with that number
+  pub refuses-as : (r : Record) (n : ℕ) → reading b ≡ Read r → homeJudgeRecord (homeViewOfState s) r ≡ suc n
+      → call homeChecker s (one b) ≡ record { answer = Refused (suc n) 0; state = s }
+  -- any other is refused 41 where the table is full
+  pub refuses-full : (r : Record) → reading b ≡ Read r → homeJudgeRecord (homeViewOfState s) r ≡ 0
+      → capacity ≤ length (homeViewOfState s .home .passed) → call homeChecker s (one b) ≡ record { answer = Refused 41 0; state = s }
+  -- and else passes
+  pub passes : (r : Record) → reading b ≡ Read r → homeJudgeRecord (homeViewOfState s) r ≡ 0
+      → length (homeViewOfState s .home .passed) < capacity → call homeChecker s (one b) .answer ≡ Passed
+  -- the state beside a pass is, seen as the rules' state, the one that follows
+  pub gives : (r : Record) → reading b ≡ Read r → call homeChecker s (one b) .answer ≡ Passed
+      → homeViewOfState (call homeChecker s (one b) .state) ≡ homeAfter (homeViewOfState s) (Read r)
+
+-- in every state that the home validator accepts, and for every byte string
+unfoldable pub HomeStatesAnswer : Type 0
+HomeStatesAnswer =
+    (s : HomeValidator) → HomeSized (homeTablesOf s) → acceptsHome (homeTablesOf s) ≡ true → (b : List ℕ) → HomeStateAnswers s b
+
+-- a call with a list answers by its records in turn; a refusal of any call hands back the state handed in
+unfoldable pub HomeListsAndRefusals : Type 0
+HomeListsAndRefusals = ListsInTurn homeChecker × RefusedUnaltered homeChecker
+
+-- a call in any accepted state, reached by a run or not, hands back an accepted one
+unfoldable pub HomeStatesStayAccepted : Type 0
+HomeStatesStayAccepted =
+    (s : HomeValidator) → HomeSized (homeTablesOf s) → acceptsHome (homeTablesOf s) ≡ true → (d : Call)
+    → HomeSized (homeTablesOf (call homeChecker s d .state)) × (acceptsHome (homeTablesOf (call homeChecker s d .state)) ≡ true)
+
+-- ## Demand 3, second half
+
+-- the state after calls from an opening
+abbrev pub homeStateOfRun : List ℕ → ℕ → ℕ → List Call → HomeValidator
+homeStateOfRun homes fars farTotal ds = run homeChecker (homeOpenedState homes fars farTotal) ds
+
+-- the records that passed in them
+abbrev pub homePassedOfRun : List ℕ → ℕ → ℕ → List Call → List (List ℕ)
+homePassedOfRun homes fars farTotal ds = passedRecords homeChecker (homeOpenedState homes fars farTotal) ds
+
+-- what holds after the calls of a run
+pub record HomeStateWithin (homes : List ℕ) (fars farTotal : ℕ) (ds : List Call) : Type 0 where
+  -- a further call with a home record or home list, up to the capacity with the records passed before, passes exactly when some far
+  -- list makes it possible, for each way of splitting the far total over the far accounts
+  pub exactly : All CallBytes ds → (d : Call) → CallBytes d → All HomeRecord (handed d)
+      → length (homePassedOfRun homes fars farTotal ds) + length (handed d) ≤ capacity
+      → (split : List ℕ) → length split ≡ fars → total split ≡ farTotal
+      → (call homeChecker (homeStateOfRun homes fars farTotal ds) d .answer ≡ Passed)
+      ↔ Possible (opened homes split) (homePassedOfRun homes fars farTotal ds ++ handed d)
+  -- at every beginning of the passed records, what was received is at most the far opening total and what was sent
+  pub bounded : (xs ys : List (List ℕ)) → homePassedOfRun homes fars farTotal ds ≡ xs ++ ys
+      → received (recordsOn Home xs) ≤ farTotal + sent (recordsOn Home xs)
+  -- a receiving among them is at most the far pool of the records before it
+  pub each : (xs ys : List (List ℕ)) (b : List ℕ) (r : Record) → homePassedOfRun homes fars farTotal ds ≡ xs ++ b ∷ ys
+      → reading b ≡ Read r → r .kind ≡ Receiving Home → r .amount ≤ farPoolOf farTotal (recordsOn Home xs)
+  -- the figures that the validator gives are the home total and the far pool worked out
+  pub figures : homeFiguresOf (acceptsHome (homeTablesOf (homeStateOfRun homes fars farTotal ds)))
+      (homeTablesOf (homeStateOfRun homes fars farTotal ds))
+      ≡ record {
+        answer = Passed;
+        home = total (homeIn (homeTablesOf (homeStateOfRun homes fars farTotal ds)) .balances);
+        pool = farPoolOf farTotal (recordsOn Home (homePassedOfRun homes fars farTotal ds));
+      }
+  -- the state is, seen as the rules' state, the one that the rules' run reaches
+  pub as-rules : homeViewOfState (homeStateOfRun homes fars farTotal ds) ≡ run (homeValidator capacity) (homeOpened homes fars farTotal) ds
+  -- every passed record is a home one
+  pub home-records : All HomeRecord (homePassedOfRun homes fars farTotal ds)
+  -- the table holds the passed records, in order
+  pub table : homeIn (homeTablesOf (homeStateOfRun homes fars farTotal ds)) .passed
+      ≡ recordsOn Home (homePassedOfRun homes fars farTotal ds)
+  -- the state is accepted
+  pub accepted : acceptsHome (homeTablesOf (homeStateOfRun homes fars farTotal ds)) ≡ true
+  -- no call answers 3
+  pub never-3 : (d : Call) (place : ℕ) → call homeChecker (homeStateOfRun homes fars farTotal ds) d .answer ≡ Refused 3 place → ⊥
+
+-- DEMAND 3, SECOND HALF, of the program's states: at every accepted opening and after every list of calls
+unfoldable pub HomeStatesWithin : Type 0
+HomeStatesWithin =
+    (homes : List ℕ) (fars farTotal : ℕ) → homeOpeningRefusal homes fars farTotal ≡ 0 → (ds : List Call)
+    → HomeStateWithin homes fars farTotal ds
+
+-- beside a refused opening stands a state that every call refuses with 3
+unfoldable pub HomeZeroRefused : Type 0
+HomeZeroRefused = (d : Call) → call homeChecker homeZeroState d ≡ record { answer = Refused 3 0; state = homeZeroState }

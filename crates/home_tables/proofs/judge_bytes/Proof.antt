@@ -1,0 +1,45 @@
+-- `home_tables::judge_bytes` meets its contract. Assumes nothing.
+use mathlib.Core.Path.{_∙_, sym}
+use borrow.Author.Needs.{needs}
+use Rattle.tables.proofs.Finding.{found-read, found-unread}
+use Rattle.home_tables.specs.Judging.{homeJudgeAt}
+use Rattle.home_tables.proofs.judge_bytes.Statement.{statement}
+use Rattle.home_tables.proofs.judge_bytes.Tie as tie
+
+read-requires : tie.Need-read-requires
+read-requires c κs = search needs
+
+enum-known-r : tie.Need-enum-known-r
+enum-known-r c = search needs
+
+enum-told : tie.Need-enum-told
+enum-told c = search needs
+
+refused-requires : tie.Need-refused-requires
+refused-requires c κs = search needs
+
+returns : tie.Need-returns
+returns c =
+    let c9 = c .before .before .before .before .before .before .before .before .before in
+    let a = c9 .args in
+    found-unread (homeJudgeAt (a .homes) (a .fars) (a .pool) (a .count) (a .balances .now) (a .numbers .now)) (a .bytes .now) _
+    (sym (c .before .before .before .read .ensures) ∙ c .before .enum-told .given .1) (c .refused .ensures)
+
+judge-requires : tie.Need-judge-requires
+judge-requires c κs =
+    let p = c .before .before .before .before .before .before .before .before .before .pre in
+    (p .0, p .1, p .2, p .3, p .4)
+
+returns-2 : tie.Need-returns-2
+returns-2 c =
+    let c4 = c .before .before .before .before in
+    let c10 = c4 .before .before .before .before .before .before in
+    let a = c10 .args in
+    found-read (homeJudgeAt (a .homes) (a .fars) (a .pool) (a .count) (a .balances .now) (a .numbers .now)) (a .bytes .now)
+    (c .before .before .r .given .0 .0) (c .judge .result)
+    (sym (c4 .read .ensures) ∙ c .before .before .r .given .1) (c .judge .ensures)
+
+pub judge-bytes-spec : {M : Type 1} → statement M
+judge-bytes-spec =
+    tie.close
+    (tie.spec read-requires enum-known-r enum-told refused-requires returns judge-requires returns-2)

@@ -1,0 +1,84 @@
+-- Laws of numbers that are apart, one more at a time. Assumes nothing.
+use Prim.Native.Nat.{_%_, _+_, _-_, _<_, _≤_, suc, zero, ℕ}
+use mathlib.Core.Bool.{Bool, _||_, false, true}
+use mathlib.Core.List.{List}
+use mathlib.Core.Logic.{⊎-elim}
+use mathlib.Core.Path.{_∙_, _≡_, ap, refl, sym}
+use native.Mathlib.Nat.{eq-or-lt-of-le}
+use native.Mathlib.Omega.{arith}
+use lib.ListN.{getD}
+use borrow.Author.Tests.{eq-eqb, eqb-true}
+use Rattle.number_index.specs.Index.{Indexed, chainCount, valueFrom}
+use Rattle.rules.proofs.Lists.{never-both-tests}
+use Rattle.tables.proofs.Places.{any-some, apart-all, apart-not}
+use Rattle.tables.specs.Columns.{usedAt}
+use Rattle.tables.specs.Places.{anyAt, apartAt}
+
+-- no two of the first n values are the same
+abbrev pub Apart : (ℕ → ℕ) → ℕ → Type 0
+Apart f n = (j k : ℕ) → j < k → k < n → f j ≡ f k → ⊥
+
+-- a test that holds at one of the places has a place where it holds
+pub any-found : {C : Type 0} (p : ℕ → Bool) (i n : ℕ)
+    → anyAt p i n ≡ true
+    → ((j : ℕ) → i ≤ j → j < i + n → p j ≡ true → C)
+    → C
+unfolding anyAt
+any-found p i zero h k = absurd (never-both-tests (sym h))
+any-found {C} p i (suc n) h k =
+    by (p i) (anyAt p (suc i) n) refl h (λ g. any-found p (suc i) n g (λ j a b. k j (omega arith) (omega arith)))
+  where
+    by : (t s : Bool) → p i ≡ t → (t || s) ≡ true → (s ≡ true → C) → C
+    by true s q g r = k i (omega arith) (omega arith) q
+    by false s q g r = r g
+
+-- one that holds at none does not hold at any of them
+pub any-not : (p : ℕ → Bool) (i n j : ℕ) → anyAt p i n ≡ false → i ≤ j → j < i + n → p j ≡ true → ⊥
+any-not p i n j h a b e = never-both-tests (sym (any-some p i n j a b e) ∙ h)
+
+-- one value more
+pub apart-more : (f : ℕ → ℕ) (i : ℕ) → Apart f i → ((j : ℕ) → j < i → f i ≡ f j → ⊥) → Apart f (i + 1)
+apart-more f i h none j k p q e =
+    ⊎-elim
+    (λ (r : k ≡ i). none j (rw r at p) (ap f (sym r) ∙ sym e))
+    (λ r. h j k p r e)
+    (eq-or-lt-of-le (let z : k ≤ i = omega arith in z))
+
+-- all of them
+pub apart-every : (f : ℕ → ℕ) (n : ℕ) → Apart f n → apartAt f 0 n ≡ true
+apart-every f n h = apart-all f 0 n (λ j k x y w e. h j k y (omega arith) e)
+
+module _ (numbers : List ℕ) (from i : ℕ) where
+  -- the number at place i
+  abbrev x : ℕ
+  x = valueFrom numbers from i
+
+  -- it is one of those before
+  pub used-twice : (n : ℕ) → i < n → anyAt (usedAt x numbers) from i ≡ true → apartAt (valueFrom numbers from) 0 n ≡ false
+  used-twice n b h = any-found (usedAt x numbers) from i h at
+    where
+      at : (j : ℕ) → from ≤ j → j < from + i → usedAt x numbers j ≡ true → apartAt (valueFrom numbers from) 0 n ≡ false
+      at j p q e =
+          let z : from + (j - from) ≡ j = omega arith in
+          let s : getD numbers j 0 ≡ x = sym (eqb-true x (getD numbers j 0) e) in
+          let t : valueFrom numbers from (j - from) ≡ x = rw z s in
+          apart-not (valueFrom numbers from) 0 n (j - from) i (omega arith) (omega arith) (omega arith) t
+
+  -- it is none of those before
+  pub used-not : anyAt (usedAt x numbers) from i ≡ false → (j : ℕ) → j < i → x ≡ valueFrom numbers from j → ⊥
+  used-not h j p e =
+      any-not (usedAt x numbers) from i (from + j) h (omega arith) (omega arith) (eq-eqb x (getD numbers (from + j) 0) e)
+
+  -- nor where its chain is empty
+  pub used-no-chain : (heads nexts : List ℕ) (base h : ℕ)
+      → Indexed numbers heads nexts base from i
+      → h ≡ x % chainCount
+      → getD heads (base + h) 0 ≡ 0
+      → (j : ℕ)
+      → j < i
+      → x ≡ valueFrom numbers from j
+      → ⊥
+  used-no-chain heads nexts base h c q z j p e =
+      let r : valueFrom numbers from j % chainCount ≡ h = ap (λ (y : ℕ). y % chainCount) (sym e) ∙ sym q in
+      let u : j + 1 ≤ valueFrom heads base h = rw r at (c .head-low j p) in
+      omega (arith, u, z)

@@ -1,0 +1,3 @@
+-- An index of numbers. Assumes nothing.
+
+pub mod Index

@@ -1,0 +1,14 @@
+-- `table_checks::limit_of` meets its contract. Assumes nothing.
+use borrow.Author.Tests.{eq-eqb, ne-eqb}
+use Rattle.table_checks.proofs.Checks.{chosen, not-chosen}
+use Rattle.table_checks.proofs.limit_of.Statement.{statement}
+use Rattle.table_checks.proofs.limit_of.Tie as tie
+
+returns : tie.Need-returns
+returns c = chosen _ _ _ (eq-eqb _ _ (c .if1 .taken))
+
+returns-2 : tie.Need-returns-2
+returns-2 c = not-chosen _ _ _ (ne-eqb _ _ (c .if1 .left))
+
+pub limit-of-spec : {M : Type 1} → statement M
+limit-of-spec = tie.close (tie.spec returns returns-2)
