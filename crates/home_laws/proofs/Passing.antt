@@ -29,7 +29,8 @@ use Rattle.rules.specs.Lists.{total}
 use Rattle.rules.specs.Rules.{LedgerState, held, moved}
 use Rattle.table_laws.proofs.Held.{Changes, Part, Within, formed-held, part-moved, rows-held, zeros-kept}
 use Rattle.tables.proofs.Places.{all-each}
-use Rattle.tables.specs.Columns.{formedRows, givenBy, movedAt, takenBy, withRow, zerosAt}
+use Rattle.tables.specs.Columns.{formedRows, movedAt, withRow, zerosAt}
+use Rattle.entries.specs.Entries.{givenBy, takenBy}
 use Rattle.wire.proofs.Lists.{every-both, every-first, every-none}
 
 -- what accepted tables have

@@ -11,9 +11,9 @@ use Rattle.home_tables.specs.Tables.{homeBounds}
 use Rattle.ledgers.specs.Limits.{accountLimit, capacity, maxAmount}
 use Rattle.rules.specs.PairValidator.{supplyAllowed}
 use Rattle.table_laws.proofs.Openings.{count-facts, facts-count}
-use Rattle.table_checks.proofs.Sums.{wide-passes}
-use Rattle.table_checks.specs.Sums.{wide}
-use Rattle.table_checks.specs.declared.Wide.{Wide}
+use Rattle.exact_sums.proofs.Sums.{wide-passes}
+use Rattle.exact_sums.specs.Sums.{wide}
+use Rattle.exact_sums.specs.declared.Wide.{Wide}
 use Rattle.wire.proofs.Lists.{every-both, every-first, every-none}
 
 -- ## The facts of the bounds

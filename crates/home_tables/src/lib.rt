@@ -12,26 +12,26 @@ ghost use Rattle.rules.specs.HomeValidator.{isFar, poolRefusal};
 ghost use Rattle.number_index.specs.Index.{chainCount, Indexed};
 ghost use Rattle.records.specs.Records.{reading};
 ghost use Rattle.answers.specs.Answers.{refuse};
-ghost use Rattle.tables.specs.Entries.{judgedAs, Found};
+ghost use Rattle.entries.specs.Entries.{judgedAs, Found};
 ghost use Rattle.tables.specs.Places.{sumAt};
 use answers::first_refusal;
 use answers::refusal_if;
+use entries::Judgement;
+use entries::is_count_allowed;
+use entries::is_receiving;
+use entries::refused;
+use exact_sums::Wide;
+use exact_sums::add_balances;
 use ledgers::Ledger;
 use number_index::CHAINS;
 use number_index::index_all;
 use number_index::is_used;
 use records::Reading;
 use records::Record;
-use table_checks::Wide;
-use table_checks::add_balances;
 use table_checks::rows_allowed;
 use table_checks::zeros;
-use tables::Judgement;
 use tables::first_refusals;
 use tables::funds_refusal;
-use tables::is_count_allowed;
-use tables::is_receiving;
-use tables::refused;
 
 // ## Judging a record
 
@@ -178,7 +178,8 @@ pub fn is_accepted<'a>(
         × (length (now amounts) ≡ capacity) × (length (now verdicts) ≡ capacity) × (length (now heads) ≡ chainCount)
         × (length (now nexts) ≡ capacity) × Indexed (now numbers) (now heads) (now nexts) 0 0 0 ⌝ }
     ensures accepts { λ b. ⌜ b ≡ acceptsHomeAt supply pool homes fars count (now (balances .entry)) (now (kinds .entry))
-        (now (ledgers .entry)) (now (senders .entry)) (now (receivers .entry)) (now (numbers .entry)) (now (amounts .entry)) (now (verdicts .entry)) ⌝ }
+        (now (ledgers .entry)) (now (senders .entry)) (now (receivers .entry)) (now (numbers .entry))
+        (now (amounts .entry)) (now (verdicts .entry)) ⌝ }
     ensures index { λ b. ⌜ (b ≡ true → Indexed (now (numbers .entry)) (now (heads .exit)) (now (nexts .exit)) 0 0 count) ⌝ }
 {
     if !is_bounded(homes, fars, count, supply) {

@@ -30,10 +30,11 @@ use Rattle.rules.specs.Calls.{call, callList, one}
 use Rattle.rules.specs.HomeValidator.{homeJudge}
 use Rattle.rules.specs.Lists.{lowered, raised}
 use Rattle.table_laws.proofs.Held.{given-most, stored-fits, taken-given}
-use Rattle.tables.specs.Columns.{takenBy, withRow}
-use Rattle.tables.specs.Entries.{Found, entryOf, judgedAs}
-use Rattle.tables.specs.declared.Entry.{Entry}
-use Rattle.tables.specs.declared.Judgement.{Judgement}
+use Rattle.entries.specs.Entries.{takenBy}
+use Rattle.tables.specs.Columns.{withRow}
+use Rattle.entries.specs.Entries.{Found, entryOf, judgedAs}
+use Rattle.entries.specs.declared.Entry.{Entry}
+use Rattle.entries.specs.declared.Judgement.{Judgement}
 
 -- the state with a record stored, as the program stores it
 abbrev pub homeStored : HomeValidator → Record → Entry → HomeValidator

@@ -11,6 +11,11 @@ ghost use Rattle.rules.specs.Calls.{call, one, list};
 ghost use Rattle.rules.specs.HomeValidator.{homeOpeningRefusal};
 ghost use Rattle.rules.specs.Lists.{total};
 use answers::Answer;
+use entries::copy_numbers;
+use entries::entry_of;
+use entries::is_count_allowed;
+use exact_sums::Wide;
+use exact_sums::add_balances;
 use home_tables::is_accepted;
 use home_tables::judge_bytes;
 use home_tables::judge_call;
@@ -18,11 +23,6 @@ use inputs::part_end;
 use ledgers::Ledger;
 use number_index::CHAINS;
 use number_index::add;
-use table_checks::Wide;
-use table_checks::add_balances;
-use tables::copy_numbers;
-use tables::entry_of;
-use tables::is_count_allowed;
 
 // The state. A held record is one entry of each column. Entries at or beyond the count are not looked at, and only a passed record
 // writes there.

@@ -10,7 +10,7 @@ use Rattle.ledgers.specs.Ledgers.{counterpart, ledgerByte}
 use Rattle.ledgers.specs.Limits.{accountLimit, capacity}
 use Rattle.ledgers.specs.declared.Ledger.{Ledger}
 use Rattle.ledgers.specs.declared.Ledger.the-variants.{Far, Home}
-use Rattle.pair_tables.specs.Judging.{acceptsAt, addsUpAt, matchedAt, paddedAt, rowsAt}
+use Rattle.pair_checks.specs.Accepting.{acceptsAt, addsUpAt, matchedAt, paddedAt, rowsAt}
 use Rattle.pair_tables.specs.Tables.{PairTables, Sized, accepts, accountsAt, balancesOf, countAt, formedOn, heldOf, inBounds}
 use Rattle.pair_tables.specs.Tables.{ledgerIn, pairViewOf, zeroBeyond}
 use Rattle.rules.proofs.Clashes.{distinct-unshared, unshared-distinct}
@@ -23,7 +23,8 @@ use Rattle.rules.specs.Rules.{LedgerState, accountsOf, inFlight}
 use Rattle.table_laws.proofs.Allowed.{RowsAllowed, allowed-rows, balances-sum, rows-allowed, rows-apart, rows-backed, rows-received}
 use Rattle.table_laws.proofs.Allowed.{rows-sent}
 use Rattle.number_index.specs.Index.{backedAt, valueFrom}
-use Rattle.table_checks.specs.Checks.{allowedAt, flowAt}
+use Rattle.table_checks.specs.Checks.{allowedAt}
+use Rattle.exact_sums.specs.Sums.{flowAt}
 use Rattle.table_laws.proofs.Rows.{length-rows}
 use Rattle.tables.specs.Columns.{zerosAt}
 use Rattle.tables.specs.Places.{allAt, apartAt, sumAt}

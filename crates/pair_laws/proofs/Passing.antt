@@ -18,7 +18,7 @@ use Rattle.ledgers.specs.declared.Kind.the-variants.{Local, Receiving, Sending}
 use Rattle.ledgers.specs.declared.Ledger.{Ledger}
 use Rattle.ledgers.specs.declared.Ledger.the-variants.{Far, Home}
 use Rattle.pair_laws.proofs.Accept.{length-balances, length-held}
-use Rattle.pair_tables.proofs.Bounds.{Bounds, bounds-facts, facts-bounds}
+use Rattle.pair_checks.proofs.Bounds.{Bounds, bounds-facts, facts-bounds}
 use Rattle.pair_laws.proofs.Judging.{state-in}
 use Rattle.pair_tables.proofs.Judging.{within-both}
 use Rattle.pair_tables.specs.Tables.{PairTables, Sized, accepts, accountsAt, balancesOf, countAt, formedOn, heldOf, ledgerIn}
@@ -35,7 +35,8 @@ use Rattle.rules.specs.Rules.{after, afterBytes, held, judge, moved}
 use Rattle.table_laws.proofs.Held.{Changes, Part, Within, formed-held, formed-kept, ledger-other, ledger-two, part-kept, part-moved}
 use Rattle.table_laws.proofs.Held.{rows-held, rows-kept, zeros-kept}
 use Rattle.tables.proofs.Places.{all-each}
-use Rattle.tables.specs.Columns.{movedAt, takenBy, withRow, zerosAt}
+use Rattle.tables.specs.Columns.{movedAt, withRow, zerosAt}
+use Rattle.entries.specs.Entries.{takenBy}
 use Rattle.wire.proofs.Lists.{every-both, every-first, every-none}
 
 -- what accepted tables have

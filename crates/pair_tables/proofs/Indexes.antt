@@ -88,7 +88,8 @@ indexes-added counts numbers zero x {heads} {nexts} h k m n o i =
           (index-set numbers heads nexts 0 0 (getD counts 0 0) x (i .home) (omega (arith, i .heads-are)) (omega (arith, i .nexts-are))
           (omega (arith, m)));
       far = rw other
-          (index-kept numbers (set numbers (0 + getD counts 0 0) x) {base = 0} {from = 0} (getD counts 0 0 + 1) chainCount capacity (getD counts 1 0) (i .far)
+          (index-kept numbers (set numbers (0 + getD counts 0 0) x) {base = 0} {from = 0} (getD counts 0 0 + 1) chainCount capacity
+          (getD counts 1 0) (i .far)
           (kept-set heads (0 + x % chainCount) (getD counts 0 0 + 1) (omega arith) (omega (arith, low)))
           (kept-set nexts (0 + getD counts 0 0) (getD heads (0 + x % chainCount) 0) (omega arith) (omega arith))
           (inr (omega arith)) (inr (omega (arith, n)))
@@ -102,7 +103,8 @@ indexes-added counts numbers (suc zero) x {heads} {nexts} h k m n o i =
       heads-are = length-set heads _ _ ∙ i .heads-are;
       nexts-are = length-set nexts _ _ ∙ i .nexts-are;
       home = rw other
-          (index-kept numbers (set numbers (capacity + getD counts 1 0) x) {base = chainCount} {from = capacity} (getD counts 1 0 + 1) 0 0 (getD counts 0 0) (i .home)
+          (index-kept numbers (set numbers (capacity + getD counts 1 0) x) {base = chainCount} {from = capacity} (getD counts 1 0 +
+          1) 0 0 (getD counts 0 0) (i .home)
           (kept-set heads (chainCount + x % chainCount) (getD counts 1 0 + 1) (omega arith) (omega (arith, low)))
           (kept-set nexts (capacity + getD counts 1 0) (getD heads (chainCount + x % chainCount) 0) (omega arith) (omega arith))
           (inl (omega arith)) (inl (omega (arith, o)))

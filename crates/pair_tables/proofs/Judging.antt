@@ -44,7 +44,8 @@ within-both (suc zero) n m h k = omega arith
 within-both (suc (suc l)) n m h k = absurd (omega arith)
 
 -- the refusals in order, from the indices of the ledgers
-pub judge-by : (accounts counts balances kinds senders receivers numbers amounts : List ℕ) (r : Record) (l o s v last full later : ℕ) (u : Bool)
+pub judge-by : (accounts counts balances kinds senders receivers numbers amounts : List ℕ) (r : Record) (l o s v last full later :
+    ℕ) (u : Bool)
     (n : ℕ)
     → l ≡ ledgerByte (ledgerOf (r .kind)) → o ≡ ledgerByte (counterpart (ledgerOf (r .kind)))
     → s ≡ ledgerByte (senderLedger (r .kind)) → v ≡ ledgerByte (receiverLedger (r .kind))

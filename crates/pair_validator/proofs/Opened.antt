@@ -22,9 +22,9 @@ use Rattle.rules.specs.PairValidator.{countAllowed, pairAccepts, pairOpened, pa
 use Rattle.rules.specs.Rules.{inFlight}
 use Rattle.table_laws.proofs.Allowed.{balances-sum}
 use Rattle.table_laws.proofs.Openings.{count-facts, fewer-zeros, low-is-wide, padded-length, zero-after}
-use Rattle.table_checks.proofs.Sums.{added-value}
-use Rattle.table_checks.specs.Sums.{Added}
-use Rattle.table_checks.specs.declared.Wide.{Wide}
+use Rattle.exact_sums.proofs.Sums.{added-value}
+use Rattle.exact_sums.specs.Sums.{Added}
+use Rattle.exact_sums.specs.declared.Wide.{Wide}
 use Rattle.tables.proofs.Places.{all-of}
 use Rattle.tables.specs.Columns.{formedRows, padded, rows, zeroColumns, zerosAt}
 use Rattle.tables.specs.Places.{allAt, listAt, sumAt}

@@ -16,7 +16,8 @@ use Rattle.pair_laws.proofs.Accept.{accepts-is}
 use Rattle.pair_tables.proofs.Indexes.{indexes-added}
 use Rattle.pair_laws.proofs.Judging.{judge-is, judgeTables}
 use Rattle.pair_laws.proofs.Passing.{Passes, Sound, accounts-fit, balance-fits, counts-fit, next-of, passes-of, sound-of}
-use Rattle.pair_tables.specs.Judging.{Fits, Indexes, acceptsAt}
+use Rattle.pair_tables.specs.Judging.{Fits, Indexes}
+use Rattle.pair_checks.specs.Accepting.{acceptsAt}
 use Rattle.pair_tables.specs.Tables.{PairTables, Sized, accepts, withRecord}
 use Rattle.pair_validator.specs.State.{pairChecker, stateWith, tablesOf, viewOfState}
 use Rattle.pair_validator.specs.declared.PairValidator.{PairValidator}
@@ -29,10 +30,11 @@ use Rattle.rules.specs.Calls.{callList}
 use Rattle.rules.specs.Lists.{lowered, raised}
 use Rattle.rules.specs.PairValidator.{pairJudge}
 use Rattle.table_laws.proofs.Held.{given-most, stored-fits, taken-given}
-use Rattle.tables.specs.Columns.{takenBy, withRow}
-use Rattle.tables.specs.Entries.{Found, entryOf, judgedAs}
-use Rattle.tables.specs.declared.Entry.{Entry}
-use Rattle.tables.specs.declared.Judgement.{Judgement}
+use Rattle.entries.specs.Entries.{takenBy}
+use Rattle.tables.specs.Columns.{withRow}
+use Rattle.entries.specs.Entries.{Found, entryOf, judgedAs}
+use Rattle.entries.specs.declared.Entry.{Entry}
+use Rattle.entries.specs.declared.Judgement.{Judgement}
 
 -- the state with a record stored, as the program stores it
 abbrev pub storedState : PairValidator → Record → ℕ → Entry → PairValidator

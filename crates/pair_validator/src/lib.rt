@@ -1,6 +1,7 @@
 // The pair validator (document 01: pair book), which sees the records of both ledgers in one order: its state, and the calls that
-// makers use. A call takes the state by value and hands it back beside the answer, and copies it once to have it for a refusal;
-// beside that the columns are lent and stored to in place. No call asks anything of the state or of the bytes that it is given.
+// makers use. A call takes the state by value and hands it back beside the answer; a list copies it once to have it for a
+// refusal, and beside that the columns are lent and stored to in place. No call asks anything of the state or of the bytes that
+// it is given.
 ghost use mathlib.Core.Path.{_≡_};
 ghost use Prim.Native.Nat.{ℕ, _+_};
 ghost use Rattle.answers.specs.Answers.{answer, unlessRefused};
@@ -10,21 +11,21 @@ ghost use Rattle.rules.specs.Calls.{call, one, list};
 ghost use Rattle.rules.specs.Lists.{total};
 ghost use Rattle.rules.specs.PairValidator.{pairOpeningRefusal};
 use answers::Answer;
+use entries::copy_numbers;
+use entries::entry_of;
+use entries::is_count_allowed;
+use exact_sums::Wide;
+use exact_sums::add_balances;
 use inputs::part_end;
 use ledgers::Ledger;
 use number_index::CHAINS;
 use number_index::add;
+use pair_checks::is_accepted;
+use pair_checks::judge_call;
 use pair_tables::HEADS;
 use pair_tables::PLACES;
 use pair_tables::index;
-use pair_tables::is_accepted;
 use pair_tables::judge_bytes;
-use pair_tables::judge_call;
-use table_checks::Wide;
-use table_checks::add_balances;
-use tables::copy_numbers;
-use tables::entry_of;
-use tables::is_count_allowed;
 
 // The accounts of both ledgers.
 pub const ACCOUNTS: usize = 2 * Ledger::ACCOUNTS;
@@ -200,7 +201,8 @@ impl PairValidator {
         }
     }
 
-    // A call with a list of records: 3, then of each record 21 to 41. A refusal has its record's index, and hands back the state as it came.
+    // A call with a list of records: 3, then of each record 21 to 41. A refusal has its record's index, and hands back the state as
+    // it came.
     pub fn check_list(mut self, bytes: &[u8]) -> PairOutcome
         ensures answers { λ r. ⌜ r .answer ≡ call pairChecker self (list (now (bytes .entry))) .answer ⌝ }
         ensures hands_back { λ r. ⌜ r .state ≡ call pairChecker self (list (now (bytes .entry))) .state ⌝ }

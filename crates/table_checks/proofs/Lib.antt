@@ -1,5 +1,3 @@
 -- Laws of what is asked of a table of held records. Assumes nothing.
 
-pub mod Checks
 pub mod Columns
-pub mod Sums

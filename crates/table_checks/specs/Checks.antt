@@ -44,7 +44,3 @@ amountAllowedAt amounts i = ltb 0 (getD amounts i 0) && leb (getD amounts i 0) m
 -- the account at place i is one of the other ledger's where the kind there is `crosses`, and else one of its own ledger's
 abbrev pub accountAllowedAt : ℕ → ℕ → ℕ → List ℕ → List ℕ → ℕ → Bool
 accountAllowedAt crosses own other kinds accounts i = ltb (getD accounts i 0) (cond (eqb (getD kinds i 0) crosses) other own)
-
--- the amount at place i where its kind is a given byte
-abbrev pub flowAt : ℕ → List ℕ → List ℕ → ℕ → ℕ
-flowAt kind kinds amounts i = cond (eqb (getD kinds i 0) kind) (getD amounts i 0) 0

@@ -1,4 +1,3 @@
 -- What is asked of a table of held records. Assumes nothing.
 
 pub mod Checks
-pub mod Sums

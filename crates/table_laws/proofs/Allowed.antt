@@ -19,7 +19,8 @@ use Rattle.rules.specs.Lists.{all, any, sum, total}
 use Rattle.rules.specs.PairValidator.{heldAllowed, matched, sameLedger, standsUnder, unshared}
 use Rattle.rules.specs.Rules.{clashes, isReceiving, isSending}
 use Rattle.number_index.specs.Index.{backedAt, valueFrom}
-use Rattle.table_checks.specs.Checks.{allowedAt, flowAt, rowAllowed}
+use Rattle.table_checks.specs.Checks.{allowedAt, rowAllowed}
+use Rattle.exact_sums.specs.Sums.{flowAt}
 use Rattle.tables.proofs.Places.{all-each, all-ext, all-list, all-of, apart-from, sum-ext, sum-list}
 use Rattle.table_laws.proofs.Rows.{clash-rows, ledger-kind, match-rows, receiving-byte, sending-byte}
 use Rattle.tables.specs.Columns.{Columns, formedRow, formedRows, row, rows}

@@ -20,7 +20,8 @@ use Rattle.records.specs.declared.Record.{Record}
 use Rattle.rules.specs.Lists.{lowered, raised}
 use Rattle.rules.specs.Rules.{moved}
 use Rattle.tables.proofs.Places.{all-each, all-ext, all-of, list-ext, list-snoc}
-use Rattle.tables.specs.Columns.{Columns, balanceAt, formedRow, formedRows, givenBy, movedAt, placed, row, rows, takenBy, withRow}
+use Rattle.tables.specs.Columns.{Columns, balanceAt, formedRow, formedRows, movedAt, placed, row, rows, withRow}
+use Rattle.entries.specs.Entries.{givenBy, takenBy}
 use Rattle.tables.specs.Columns.{zerosAt}
 use Rattle.tables.specs.Places.{listAt}
 use Rattle.wire.proofs.Lists.{every-both, every-none}

@@ -12,8 +12,8 @@ use Rattle.rules.specs.Lists.{total}
 use Rattle.rules.specs.PairValidator.{countAllowed, openingRefusal, supplyAllowed}
 use Rattle.table_laws.proofs.Allowed.{balances-sum}
 use Rattle.number_index.proofs.Index.{zero-at}
-use Rattle.table_checks.specs.Sums.{wide}
-use Rattle.table_checks.specs.declared.Wide.{Wide}
+use Rattle.exact_sums.specs.Sums.{wide}
+use Rattle.exact_sums.specs.declared.Wide.{Wide}
 use Rattle.tables.specs.Columns.{padded}
 use Rattle.tables.specs.Places.{sumAt}
 use Rattle.wire.proofs.Lists.{every-both, every-first, every-none, every-not}

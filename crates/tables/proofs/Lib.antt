@@ -1,3 +1,2 @@
 -- Laws of tables of held records. Assumes nothing.
 pub mod Places
-pub mod Finding

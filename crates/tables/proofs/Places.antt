@@ -1,7 +1,7 @@
 -- Laws of lists, tests and sums over places: what a loop at place i before an end cites, and how they meet the rules' lists.
 -- Assumes nothing.
 use Prim.Native.Nat.{_+_, _-_, _<_, _≤_, suc, zero, ℕ}
-use mathlib.Core.Bool.{Bool, _&&_, _||_, false, not, or-assoc, or-false, true}
+use mathlib.Core.Bool.{Bool, _&&_, _||_, cond, false, not, or-assoc, or-false, true}
 use mathlib.Core.List.{List, [], _++_, _∷_}
 use mathlib.Core.Logic.{⊎-elim}
 use mathlib.Core.Path.{_∙_, _≡_, ap, refl, sym}
@@ -259,3 +259,13 @@ any-missed p i j h e = any-next p i j h ∙ ap (λ (t : Bool). anyAt p i (j - i)
 pub any-zero : (p : ℕ → Bool) (i : ℕ) → anyAt p i (i - i) ≡ false
 unfolding anyAt
 any-zero p i = let z : i - i ≡ 0 = omega arith in rw z
+
+-- ## Choices
+
+-- the first of two numbers, where the test holds
+pub chosen : (t : Bool) (x y : ℕ) → t ≡ true → x ≡ cond t x y
+chosen t x y h = rw h
+
+-- the second, where it does not
+pub not-chosen : (t : Bool) (x y : ℕ) → t ≡ false → y ≡ cond t x y
+not-chosen t x y h = rw h

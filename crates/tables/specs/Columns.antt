@@ -8,8 +8,6 @@ use lib.ListN.{getD, length, replicate, set}
 use Rattle.answers.specs.Answers.{refuse}
 use Rattle.ledgers.specs.Ledgers.{kindAt, kindByte, ledgerAt, ledgerByte, ledgerOf}
 use Rattle.ledgers.specs.Limits.{accountLimit}
-use Rattle.ledgers.specs.declared.Kind.{Kind}
-use Rattle.ledgers.specs.declared.Kind.the-variants.{Local, Receiving, Sending}
 use Rattle.records.specs.declared.Record.{Record}
 use Rattle.rules.specs.Rules.{moved}
 use Rattle.tables.specs.Places.{allAt, anyAt, listAt}
@@ -96,18 +94,6 @@ placed from r =
 -- the balances once a record has passed on the ledger whose accounts stand from a place on
 unfoldable pub movedAt : List ℕ → ℕ → Record → List ℕ
 movedAt balances from r = moved balances (placed from r) (r .kind)
-
--- what a record of a kind takes from its sender's balance
-abbrev pub takenBy : Kind → ℕ → ℕ
-takenBy (Local l) amount = amount
-takenBy (Sending l) amount = amount
-takenBy (Receiving l) amount = 0
-
--- what it gives to its receiver's
-abbrev pub givenBy : Kind → ℕ → ℕ
-givenBy (Local l) amount = amount
-givenBy (Sending l) amount = 0
-givenBy (Receiving l) amount = amount
 
 -- ## Judging a record, for inner functions only: proved to be what the rules say (proofs/Judged.antt)
 

@@ -2,4 +2,3 @@
 
 pub mod Places
 pub mod Columns
-pub mod Entries

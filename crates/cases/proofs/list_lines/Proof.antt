@@ -74,7 +74,9 @@ part-check-record-start c = search needs
 
 part-check-record-end : tie.Need-part-check-record-end
 part-check-record-end c =
-    c .before .before .before .before .before .before .before .before .before .before .before .before .before .before .before .before .if1 .left
+    let c16 = c .before .before .before .before .before .before .before .before .before .before .before .before .before .before
+    .before .before in
+    c16 .if1 .left
 
 check-record-requires : tie.Need-check-record-requires
 check-record-requires c κs = search needs

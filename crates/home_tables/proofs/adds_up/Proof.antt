@@ -2,7 +2,7 @@
 use mathlib.Core.Path.{sym}
 use borrow.Author.Needs.{needs}
 use Rattle.home_tables.proofs.Bounds.{high-passes, low-compares}
-use Rattle.table_checks.proofs.Sums.{added-after, added-value}
+use Rattle.exact_sums.proofs.Sums.{added-after, added-value}
 use Rattle.home_tables.proofs.adds_up.Statement.{statement}
 use Rattle.home_tables.proofs.adds_up.Tie as tie
 

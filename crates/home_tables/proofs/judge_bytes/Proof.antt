@@ -1,7 +1,7 @@
 -- `home_tables::judge_bytes` meets its contract. Assumes nothing.
 use mathlib.Core.Path.{_∙_, sym}
 use borrow.Author.Needs.{needs}
-use Rattle.tables.proofs.Finding.{found-read, found-unread}
+use Rattle.entries.proofs.Finding.{found-read, found-unread}
 use Rattle.home_tables.specs.Judging.{homeJudgeAt}
 use Rattle.home_tables.proofs.judge_bytes.Statement.{statement}
 use Rattle.home_tables.proofs.judge_bytes.Tie as tie

@@ -5,7 +5,7 @@ use native.Mathlib.Omega.{arith}
 use borrow.Author.Needs.{needs}
 use borrow.Author.Tests.{not-false, not-true}
 use Rattle.home_tables.proofs.Bounds.{accepts-bounds}
-use Rattle.tables.proofs.Finding.{found-accepted, found-unaccepted}
+use Rattle.entries.proofs.Finding.{found-accepted, found-unaccepted}
 use Rattle.home_tables.proofs.Judging.{index-empty}
 use Rattle.home_tables.proofs.judge_call.Statement.{statement}
 use Rattle.home_tables.proofs.judge_call.Tie as tie

@@ -10,7 +10,7 @@ use Rattle.ledgers.specs.Limits.{maxAmount}
 use Rattle.rules.specs.Lists.{total}
 use Rattle.rules.specs.PairValidator.{countAllowed}
 use Rattle.table_laws.proofs.Openings.{count-facts, far-refused, home-refused, low-is-wide, none-refused, supply-refused, total-sum}
-use Rattle.table_checks.proofs.Sums.{added-after, added-value, wide-fits, wide-passes}
+use Rattle.exact_sums.proofs.Sums.{added-after, added-value, wide-fits, wide-passes}
 use Rattle.home_validator.proofs.judge_opening.Statement.{statement}
 use Rattle.home_validator.proofs.judge_opening.Tie as tie
 

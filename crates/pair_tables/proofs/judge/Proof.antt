@@ -28,7 +28,9 @@ index-requires-2 c κs = search needs
 
 last-refusal-requires : tie.Need-last-refusal-requires
 last-refusal-requires c κs =
-    (c .before .before .before .before .before .before .before .before .before .before .before .before .before .before .before .pre .0, c .before .before .before .before .before .before .before .before .before .before .before .before .before .before .before .pre .1, c .before .before .before .index .ensures .1, c .index2 .ensures .1)
+    let c15 = c .before .before .before .before .before .before .before .before .before .before .before .before .before .before
+    .before in
+    (c15 .pre .0, c15 .pre .1, c .before .before .before .index .ensures .1, c .index2 .ensures .1)
 
 mul-refusal-if : tie.Need-mul-refusal-if
 mul-refusal-if c = search needs
@@ -62,7 +64,9 @@ mul-open-receivers c = search needs
 
 shared-slice-read-open-receivers : tie.Need-shared-slice-read-open-receivers
 shared-slice-read-open-receivers c =
-    rw (c .before .before .before .before .before .before .before .before .before .before .before .before .before .before .before .before .before .before .before .before .before .before .before .before .pre .0 .accounts-are) (c .before .index4 .ensures .1)
+    let c24 = c .before .before .before .before .before .before .before .before .before .before .before .before .before .before
+    .before .before .before .before .before .before .before .before .before .before in
+    rw (c24 .pre .0 .accounts-are) (c .before .index4 .ensures .1)
 
 mul-is-used : tie.Need-mul-is-used
 mul-is-used c = search needs
@@ -75,15 +79,19 @@ mul-is-used-3 c = search needs
 
 shared-slice-read-is-used : tie.Need-shared-slice-read-is-used
 shared-slice-read-is-used c =
-    rw (c .before .before .before .before .before .before .before .before .before .before .before .before .before .before .before .before .before .before .before .before .before .before .before .before .before .pre .0 .counts-are) (c .before .before .before .before .before .before .before .before .before .before .before .before .before .index .ensures .1)
+    let c13 = c .before .before .before .before .before .before .before .before .before .before .before .before .before in
+    let c25 = c13 .before .before .before .before .before .before .before .before .before .before .before .before in
+    rw (c25 .pre .0 .counts-are) (c13 .index .ensures .1)
 
 is-used-requires : tie.Need-is-used-requires
 is-used-requires c κs =
-    let a = c .before .before .before .before .before .before .before .before .before .before .before .before .before .before .before .before .before .before .before .before .before .before .before .before .before .args in
-    let f = c .before .before .before .before .before .before .before .before .before .before .before .before .before .before .before .before .before .before .before .before .before .before .before .before .before .pre .0 in
-    let i = c .before .before .before .before .before .before .before .before .before .before .before .before .before .before .before .before .before .before .before .before .before .before .before .before .before .pre .1 in
-    let l = c .before .before .before .before .before .before .before .before .before .before .before .before .before .index .result in
-    let h = c .before .before .before .before .before .before .before .before .before .before .before .before .before .index .ensures .1 in
+    let c13 = c .before .before .before .before .before .before .before .before .before .before .before .before .before in
+    let c25 = c13 .before .before .before .before .before .before .before .before .before .before .before .before in
+    let a = c25 .args in
+    let f = c25 .pre .0 in
+    let i = c25 .pre .1 in
+    let l = c13 .index .result in
+    let h = c13 .index .ensures .1 in
     let w = within-both l (getD (a .counts .now) l 0) capacity h (f .counts-fit l h) in (
       rw (f .numbers-are) w,
       rw (i .heads-are) (within-both l chainCount chainCount h (omega arith)),
@@ -99,15 +107,27 @@ first-refusals-requires c κs = search needs
 
 returns : tie.Need-returns
 returns c =
-    let a = c .before .before .before .before .before .before .before .before .before .before .before .before .before .before .before .before .before .before .before .before .before .before .before .before .before .before .before .before .args in
+    let c5 = c .before .before .before .before .before in
+    let c6 = c5 .before in
+    let c8 = c6 .before .before in
+    let c9 = c8 .before in
+    let c10 = c9 .before in
+    let c12 = c10 .before .before in
+    let c13 = c12 .before in
+    let c14 = c13 .before in
+    let c15 = c14 .before in
+    let c16 = c15 .before in
+    let c17 = c16 .before in
+    let c28 = c17 .before .before .before .before .before .before .before .before .before .before .before in
+    let a = c28 .args in
     judge-by (a .accounts .now) (a .counts .now) (a .balances .now) (a .kinds .now) (a .senders .now) (a .receivers .now)
     (a .numbers .now) (a .amounts .now) (a .r) _ _ _ _ _ _ _ _ _
-    (c .before .before .before .before .before .before .before .before .before .before .before .before .before .before .before .before .index .ensures .0 ∙ ap ledgerByte (c .before .before .before .before .before .before .before .before .before .before .before .before .before .before .before .before .before .ledger .ensures))
-    (c .before .before .before .before .before .before .before .before .before .before .before .before .before .index2 .ensures .0 ∙ ap ledgerByte (c .before .before .before .before .before .before .before .before .before .before .before .before .before .before .counterpart .ensures ∙ ap counterpart (c .before .before .before .before .before .before .before .before .before .before .before .before .before .before .before .ledger2 .ensures)))
-    (c .before .before .before .before .before .before .before .before .index3 .ensures .0 ∙ ap ledgerByte (c .before .before .before .before .before .before .before .before .before .sender-ledger .ensures))
-    (c .before .before .before .before .before .index4 .ensures .0 ∙ ap ledgerByte (c .before .before .before .before .before .before .receiver-ledger .ensures))
-    (c .before .before .before .before .before .before .before .before .before .before .before .before .last-refusal .ensures)
-    (c .before .before .before .before .before .before .before .before .before .before .refusal-if .ensures)
+    (c16 .index .ensures .0 ∙ ap ledgerByte (c17 .ledger .ensures))
+    (c13 .index2 .ensures .0 ∙ ap ledgerByte (c14 .counterpart .ensures ∙ ap counterpart (c15 .ledger2 .ensures)))
+    (c8 .index3 .ensures .0 ∙ ap ledgerByte (c9 .sender-ledger .ensures))
+    (c5 .index4 .ensures .0 ∙ ap ledgerByte (c6 .receiver-ledger .ensures))
+    (c12 .last-refusal .ensures)
+    (c10 .refusal-if .ensures)
     (c .before .first-refusal .ensures)
     (c .before .before .is-used .ensures)
     (c .first-refusals .ensures)

@@ -1,7 +1,7 @@
 -- `pair_tables::judge_bytes` meets its contract. Assumes nothing.
 use mathlib.Core.Path.{_∙_, sym}
 use borrow.Author.Needs.{needs}
-use Rattle.tables.proofs.Finding.{found-read, found-unread}
+use Rattle.entries.proofs.Finding.{found-read, found-unread}
 use Rattle.pair_tables.proofs.judge_bytes.Statement.{statement}
 use Rattle.pair_tables.proofs.judge_bytes.Tie as tie
 

@@ -51,11 +51,14 @@ refusal-if-requires c κs = search needs
 returns : tie.Need-returns
 unfolding matchAt
 returns c =
-    let a = c .before .before .before .before .before .before .before .before .before .before .before .before .before .before .before .args in
+    let c4 = c .before .before .before .before in
+    let c15 = c4 .before .before .before .before .before .before .before .before .before .before .before in
+    let a = c15 .args in
     c .refusal-if .ensures
     ∙ ap (λ (t : Bool). refuse (not t) 31 0) (c .before .is-sent .ensures)
     ∙ last-matched (a .accounts .now) (a .counts .now) (a .balances .now) (a .kinds .now) (a .senders .now) (a .receivers .now)
-    (a .numbers .now) (a .amounts .now) (a .r) (a .l) (a .o) (a .r .kind) (sym (c .before .before .before .before .is-receiving .ensures) ∙ c .before .before .before .if1 .taken)
+    (a .numbers .now) (a .amounts .now) (a .r) (a .l) (a .o) (a .r .kind) (sym (c4 .is-receiving .ensures) ∙ c .before .before
+    .before .if1 .taken)
 
 mul-funds-refusal : tie.Need-mul-funds-refusal
 mul-funds-refusal c = search needs
@@ -68,17 +71,20 @@ shared-slice-read-funds-refusal c = search needs
 
 funds-refusal-requires : tie.Need-funds-refusal-requires
 funds-refusal-requires c κs =
-    let a = c .before .before .before .before .before .before .before .before .before .before .before .before .before .args in
-    let f = c .before .before .before .before .before .before .before .before .before .before .before .before .before .pre .0 in
+    let c13 = c .before .before .before .before .before .before .before .before .before .before .before .before .before in
+    let a = c13 .args in
+    let f = c13 .pre .0 in
     rw (f .balances-are)
-    (within-both (a .l) (getD (a .accounts .now) (a .l) 0) accountLimit (c .before .before .before .before .before .before .before .before .before .before .before .before .before .pre .2) (f .accounts-fit (a .l) (c .before .before .before .before .before .before .before .before .before .before .before .before .before .pre .2)))
+    (within-both (a .l) (getD (a .accounts .now) (a .l) 0) accountLimit (c13 .pre .2) (f .accounts-fit (a .l) (c13 .pre .2)))
 
 returns-2 : tie.Need-returns-2
 returns-2 c =
-    let a = c .before .before .before .before .before .before .before .before .before .before .before .before .before .before .args in
+    let c14 = c .before .before .before .before .before .before .before .before .before .before .before .before .before .before in
+    let a = c14 .args in
     c .funds-refusal .ensures
     ∙ last-paid (a .accounts .now) (a .counts .now) (a .balances .now) (a .kinds .now) (a .senders .now) (a .receivers .now)
-    (a .numbers .now) (a .amounts .now) (a .r) (a .l) (a .o) (a .r .kind) (sym (c .before .before .before .is-receiving .ensures) ∙ c .before .before .if1 .left)
+    (a .numbers .now) (a .amounts .now) (a .r) (a .l) (a .o) (a .r .kind) (sym (c .before .before .before .is-receiving .ensures) ∙
+    c .before .before .if1 .left)
 
 pub last-refusal-spec : {M : Type 1} → statement M
 last-refusal-spec =

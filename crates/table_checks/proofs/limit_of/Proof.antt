@@ -1,6 +1,6 @@
 -- `table_checks::limit_of` meets its contract. Assumes nothing.
 use borrow.Author.Tests.{eq-eqb, ne-eqb}
-use Rattle.table_checks.proofs.Checks.{chosen, not-chosen}
+use Rattle.tables.proofs.Places.{chosen, not-chosen}
 use Rattle.table_checks.proofs.limit_of.Statement.{statement}
 use Rattle.table_checks.proofs.limit_of.Tie as tie
 

@@ -17,7 +17,7 @@ use Rattle.home_validator.specs.State.{homeChecker, homeTablesOf}
 use Rattle.home_validator.specs.declared.HomeValidator.{HomeValidator}
 use Rattle.inputs.proofs.Parts.{Shorter, call-unaccepted, parts, parts-less, parts-start, turn-end}
 use Rattle.rules.specs.Calls.{Result, call, callList, list}
-use Rattle.tables.specs.Entries.{Found}
+use Rattle.entries.specs.Entries.{Found}
 use Rattle.home_validator.proofs.HomeValidator.check_list.Statement.{statement}
 use Rattle.home_validator.proofs.HomeValidator.check_list.Tie as tie
 

@@ -10,7 +10,7 @@ use Rattle.home_validator.proofs.HomeStepping.{home-writes-of, judgeHom
 use Rattle.home_validator.specs.State.{homeTablesOf}
 use Rattle.home_validator.specs.declared.HomeValidator.{HomeValidator}
 use Rattle.rules.specs.Calls.{Result}
-use Rattle.tables.specs.Entries.{Found}
+use Rattle.entries.specs.Entries.{Found}
 use Rattle.home_validator.proofs.HomeValidator.check_record.Statement.{statement}
 use Rattle.home_validator.proofs.HomeValidator.check_record.Tie as tie
 

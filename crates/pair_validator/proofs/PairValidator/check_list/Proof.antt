@@ -56,7 +56,9 @@ is-accepted-requires c κs = (
 )
 
 -- the lengths of the state's arrays
-sized-at : (c : tie.After-is-accepted Inv-loop μ-loop) → Sized (tablesOf (c .before .before .before .before .before .before .before .before .before .before .before .before .before .before .before .before .before .before .before .before .before .before .before .before .before .args .t1))
+sized-at : (c : tie.After-is-accepted Inv-loop μ-loop) → Sized (tablesOf (c .before .before .before .before .before .before .before
+    .before .before .before .before .before .before .before .before .before .before .before .before .before .before .before .before
+    .before .before .args .t1))
 sized-at c =
     record {
       accounts-are = search needs;
@@ -73,30 +75,38 @@ sized-at c =
 
 returns : tie.Need-returns Inv-loop μ-loop
 returns c =
-    let s = c .before .before .before .before .before .before .before .before .before .before .before .before .before .before .before .before .before .before .before .before .before .before .before .before .before .before .before .before .args .t1 in
+    let c28 = c .before .before .before .before .before .before .before .before .before .before .before .before .before .before
+    .before .before .before .before .before .before .before .before .before .before .before .before .before .before in
+    let s = c28 .args .t1 in
     let z = sized-at (c .before .before .before) in
-    let u = call-unaccepted pairChecker s (list (c .before .before .before .before .before .before .before .before .before .before .before .before .before .before .before .before .before .before .before .before .before .before .before .before .before .before .before .before .args .bytes .now))
+    let u = call-unaccepted pairChecker s (list (c28 .args .bytes .now))
     (sym (accepts-is (tablesOf s) z) ∙ sym (c .before .before .before .is-accepted .ensures .0) ∙ not-true _ (c .if1 .taken)) in
     (ap (λ (x : Result PairValidator). x .answer) (sym u), ap (λ (x : Result PairValidator). x .state) (sym u))
 
 loop-holds : tie.Need-loop-holds Inv-loop μ-loop
 loop-holds c =
-    let s = c .before .before .before .before .before .before .before .before .before .before .before .before .before .before .before .before .before .before .before .before .before .before .before .before .before .before .before .before .args .t1 in
+    let c28 = c .before .before .before .before .before .before .before .before .before .before .before .before .before .before
+    .before .before .before .before .before .before .before .before .before .before .before .before .before .before in
+    let s = c28 .args .t1 in
     let z = sized-at (c .before .before .before) in
     let t = not-false _ (c .if1 .left) in
-    let a : accepts (tablesOf s) ≡ true = sym (accepts-is (tablesOf s) z) ∙ sym (c .before .before .before .is-accepted .ensures .0) ∙ t in (
+    let a : accepts (tablesOf s) ≡ true = sym (accepts-is (tablesOf s) z) ∙ sym (c .before .before .before .is-accepted .ensures
+    .0) ∙ t in (
       omega arith,
       omega arith,
       sound-of (tablesOf s) z a,
       c .before .before .before .is-accepted .ensures .1 t,
-      parts-start pairChecker s (c .before .before .before .before .before .before .before .before .before .before .before .before .before .before .before .before .before .before .before .before .before .before .before .before .before .before .before .before .args .bytes .now) a,
+      parts-start pairChecker s (c28 .args .bytes .now) a,
     )
 
 part-end-requires : tie.Need-part-end-requires Inv-loop μ-loop
 part-end-requires c κs = search needs
 
 -- the record ends within the bytes
-shorter-at : (c : tie.After-part-end Inv-loop μ-loop) → Shorter (c .before .before .loop .at) (length (c .before .before .before .before .before .before .before .before .before .before .before .before .before .before .before .before .before .before .before .before .before .before .before .before .before .before .before .before .before .before .before .args .bytes .now)) (c .part-end .result)
+shorter-at : (c : tie.After-part-end Inv-loop μ-loop) → Shorter (c .before .before .loop .at) (length (c .before .before .before
+    .before .before .before .before .before .before .before .before .before .before .before .before .before .before .before .before
+    .before .before .before .before .before .before .before .before .before .before .before .before .args .bytes .now)) (c
+    .part-end .result)
 shorter-at c = rw (c .part-end .ensures) (parts-less _ _ (c .before .loop-test .taken))
 
 slice-aggregate-judge-bytes : tie.Need-slice-aggregate-judge-bytes Inv-loop μ-loop
@@ -107,34 +117,61 @@ slice-aggregate-judge-bytes-2 c = search needs
 
 sub-judge-bytes : tie.Need-sub-judge-bytes Inv-loop μ-loop
 sub-judge-bytes c =
-    omega (arith, shorter-at (c .before .before .before .before .before .before .before .before .before .before .before .before .before .before .before .before .before .before .before) .starts)
+    let c19 = c .before .before .before .before .before .before .before .before .before .before .before .before .before .before
+    .before .before .before .before .before in
+    omega (arith, shorter-at (c19) .starts)
 
 part-judge-bytes-start : tie.Need-part-judge-bytes-start Inv-loop μ-loop
 part-judge-bytes-start c =
-    omega (arith, shorter-at (c .before .before .before .before .before .before .before .before .before .before .before .before .before .before .before .before .before .before .before) .starts)
+    let c19 = c .before .before .before .before .before .before .before .before .before .before .before .before .before .before
+    .before .before .before .before .before in
+    omega (arith, shorter-at (c19) .starts)
 
 part-judge-bytes-end : tie.Need-part-judge-bytes-end Inv-loop μ-loop
 part-judge-bytes-end c =
-    shorter-at (c .before .before .before .before .before .before .before .before .before .before .before .before .before .before .before .before .before .before .before) .ends
+    let c19 = c .before .before .before .before .before .before .before .before .before .before .before .before .before .before
+    .before .before .before .before .before in
+    shorter-at (c19) .ends
 
 judge-bytes-requires : tie.Need-judge-bytes-requires Inv-loop μ-loop
 judge-bytes-requires c κs =
-    (fits-of _ (c .before .before .before .before .before .before .before .before .before .before .before .before .before .before .before .before .before .before .before .before .before .before .loop .inv .2), c .before .before .before .before .before .before .before .before .before .before .before .before .before .before .before .before .before .before .before .before .before .before .loop .inv .3)
+    let c22 = c .before .before .before .before .before .before .before .before .before .before .before .before .before .before
+    .before .before .before .before .before .before .before .before in
+    (fits-of _ (c22 .loop .inv .2), c22 .loop .inv .3)
 
 returns-2 : tie.Need-returns-2 Inv-loop μ-loop
 returns-2 c =
-    let s = c .before .before .before .before .before .before .before .before .before .before .before .before .before .before .before .before .before .before .before .before .before .before .before .before .before .loop .self in
-    let u = c .before .before .before .before .before .before .before .before .before .before .before .before .before .before .before .before .before .before .before .before .before .before .before .before .before .loop .inv .4 ∙ turn-stops (c .before .before .before .before .before .before .before .before .before .before .before .before .before .before .before .before .before .before .before .before .before .before .before .before .before .before .before .before .before .before .before .before .before .before .before .before .before .before .before .before .before .before .before .before .before .before .before .before .before .before .before .before .before .before .args .t1) s (c .before .before .before .before .before .before .before .before .before .before .before .before .before .before .before .before .before .before .before .before .before .before .before .before .before .loop .inv .2) (c .before .before .before .before .before .before .before .before .before .before .before .before .before .before .before .before .before .before .before .before .before .before .before .before .before .loop .i) (c .before .before .before .before .before .before .before .before .before .before .before .before .before .before .before .before .before .before .before .before .before .before .before .before .before .loop .at) (c .before .before .before .before .before .before .before .before .before .before .before .before .before .before .before .before .before .before .before .before .before .before .before .before .before .before .before .before .before .before .before .before .before .before .before .before .before .before .before .before .before .before .before .before .before .before .before .before .before .before .before .before .before .before .args .bytes .now) (c .before .before .before .before .before .before .before .before .before .before .before .before .before .before .before .before .before .before .before .before .before .before .before .part-end .result)
-    (c .before .before .before .before .before .before .before .before .before .before .before .before .before .before .before .before .before .before .before .before .before .before .before .part-end .ensures) (c .before .before .before .before .before .before .before .before .before .before .before .before .before .before .before .before .before .before .before .before .before .before .before .before .loop-test .taken) _ (c .before .before .judge-bytes .ensures .refusal-is) (c .if2 .taken) in
+    let c23 = c .before .before .before .before .before .before .before .before .before .before .before .before .before .before
+    .before .before .before .before .before .before .before .before .before in
+    let c24 = c23 .before in
+    let c25 = c24 .before in
+    let c54 = c25 .before .before .before .before .before .before .before .before .before .before .before .before .before .before
+    .before .before .before .before .before .before .before .before .before .before .before .before .before .before .before in
+    let s = c25 .loop .self in
+    let u = c25 .loop .inv .4 ∙ turn-stops (c54 .args .t1) s (c25 .loop .inv .2) (c25 .loop .i) (c25 .loop .at) (c54 .args .bytes
+    .now) (c23 .part-end .result)
+    (c23 .part-end .ensures) (c24 .loop-test .taken) _ (c .before .before .judge-bytes .ensures .refusal-is) (c .if2 .taken) in
     (ap (λ (x : Result PairValidator). x .answer) (sym u), ap (λ (x : Result PairValidator). x .state) (sym u))
 
 -- the record passes
 judged-at : (c : tie.Else2 Inv-loop μ-loop)
-    → Judged (c .before .before .before .before .before .before .before .before .before .before .before .before .before .before .before .before .before .before .before .before .before .before .before .before .before .loop .self) (take (c .before .before .before .before .before .before .before .before .before .before .before .before .before .before .before .before .before .before .before .before .before .before .before .part-end .result - c .before .before .before .before .before .before .before .before .before .before .before .before .before .before .before .before .before .before .before .before .before .before .before .before .before .loop .at) (drop (c .before .before .before .before .before .before .before .before .before .before .before .before .before .before .before .before .before .before .before .before .before .before .before .before .before .loop .at) (c .before .before .before .before .before .before .before .before .before .before .before .before .before .before .before .before .before .before .before .before .before .before .before .before .before .before .before .before .before .before .before .before .before .before .before .before .before .before .before .before .before .before .before .before .before .before .before .before .before .before .before .before .before .before .args .bytes .now))) (c .before .before .judge-bytes .result .read)
+    → Judged (c .before .before .before .before .before .before .before .before .before .before .before .before .before .before
+    .before .before .before .before .before .before .before .before .before .before .before .loop .self) (take (c .before .before
+    .before .before .before .before .before .before .before .before .before .before .before .before .before .before .before .before
+    .before .before .before .before .before .part-end .result - c .before .before .before .before .before .before .before .before
+    .before .before .before .before .before .before .before .before .before .before .before .before .before .before .before .before
+    .before .loop .at) (drop (c .before .before .before .before .before .before .before .before .before .before .before .before
+    .before .before .before .before .before .before .before .before .before .before .before .before .before .loop .at) (c .before
+    .before .before .before .before .before .before .before .before .before .before .before .before .before .before .before .before
+    .before .before .before .before .before .before .before .before .before .before .before .before .before .before .before .before
+    .before .before .before .before .before .before .before .before .before .before .before .before .before .before .before .before
+    .before .before .before .before .before .args .bytes .now))) (c .before .before .judge-bytes .result .read)
 judged-at c =
+    let c25 = c .before .before .before .before .before .before .before .before .before .before .before .before .before .before
+    .before .before .before .before .before .before .before .before .before .before .before in
     let f = c .before .before .judge-bytes .ensures in
     let h = sym (f .refusal-is) ∙ c .if2 .left in
-    judged-of (c .before .before .before .before .before .before .before .before .before .before .before .before .before .before .before .before .before .before .before .before .before .before .before .before .before .loop .self) (c .before .before .before .before .before .before .before .before .before .before .before .before .before .before .before .before .before .before .before .before .before .before .before .before .before .loop .inv .2) _ _ _ f h h
+    judged-of (c25 .loop .self) (c25 .loop .inv .2) _ _ _ f h h
 
 ledger-requires : tie.Need-ledger-requires Inv-loop μ-loop
 ledger-requires c κs = search needs
@@ -149,9 +186,13 @@ entry-of-requires : tie.Need-entry-of-requires Inv-loop μ-loop
 entry-of-requires c κs = search needs
 
 -- what the stores need
-writes-at : (c : tie.After-entry-of Inv-loop μ-loop) → Writes (c .before .before .before .before .before .before .before .before .before .before .before .before .before .before .before .before .before .before .before .before .before .before .before .before .before .before .before .before .before .loop .self) (c .before .index .result) (c .entry-of .result)
+writes-at : (c : tie.After-entry-of Inv-loop μ-loop) → Writes (c .before .before .before .before .before .before .before .before
+    .before .before .before .before .before .before .before .before .before .before .before .before .before .before .before .before
+    .before .before .before .before .before .loop .self) (c .before .index .result) (c .entry-of .result)
 writes-at c =
-    writes-of _ _ _ (judged-at (c .before .before .before .before)) _ _ (c .before .index .ensures .0 ∙ ap ledgerByte (c .before .before .ledger .ensures)) (c .entry-of .ensures)
+    let c4 = c .before .before .before .before in
+    writes-of _ _ _ (judged-at (c4)) _ _ (c .before .index .ensures .0 ∙ ap ledgerByte (c .before .before .ledger .ensures)) (c
+    .entry-of .ensures)
 
 mul-paying : tie.Need-mul-paying Inv-loop μ-loop
 mul-paying c = omega (arith, writes-at (c) .from-fits)
@@ -239,11 +280,17 @@ element-write-self-10 c = writes-at (c .before .before .before .before .before) 
 
 slice-aggregate-add : tie.Need-slice-aggregate-add Inv-loop μ-loop
 slice-aggregate-add c =
-    sym (c .before .before .before .before .before .before .before .before .before .before .before .before .before .before .before .before .before .before .before .before .before .before .before .before .before .before .before .before .before .before .before .before .before .before .before .loop .inv .3 .heads-are)
+    let c35 = c .before .before .before .before .before .before .before .before .before .before .before .before .before .before
+    .before .before .before .before .before .before .before .before .before .before .before .before .before .before .before .before
+    .before .before .before .before .before in
+    sym (c35 .loop .inv .3 .heads-are)
 
 slice-aggregate-add-2 : tie.Need-slice-aggregate-add-2 Inv-loop μ-loop
 slice-aggregate-add-2 c =
-    sym (c .before .before .before .before .before .before .before .before .before .before .before .before .before .before .before .before .before .before .before .before .before .before .before .before .before .before .before .before .before .before .before .before .before .before .before .before .loop .inv .3 .nexts-are)
+    let c36 = c .before .before .before .before .before .before .before .before .before .before .before .before .before .before
+    .before .before .before .before .before .before .before .before .before .before .before .before .before .before .before .before
+    .before .before .before .before .before .before in
+    sym (c36 .loop .inv .3 .nexts-are)
 
 mul-add : tie.Need-mul-add Inv-loop μ-loop
 mul-add c = search needs
@@ -253,40 +300,71 @@ mul-add-2 c = search needs
 
 add-requires : tie.Need-add-requires Inv-loop μ-loop
 add-requires c κs =
-    let w = writes-at (c .before .before .before .before .before .before .before) in
-    let i = c .before .before .before .before .before .before .before .before .before .before .before .before .before .before .before .before .before .before .before .before .before .before .before .before .before .before .before .before .before .before .before .before .before .before .before .before .loop .inv .3 in
-    (rw (i .heads-are) (within-both _ chainCount chainCount (w .ledger) (omega arith)), rw (i .nexts-are) (w .place-fits), w .count-fits)
+    let c7 = c .before .before .before .before .before .before .before in
+    let c36 = c7 .before .before .before .before .before .before .before .before .before .before .before .before .before .before
+    .before .before .before .before .before .before .before .before .before .before .before .before .before .before .before in
+    let w = writes-at (c7) in
+    let i = c36 .loop .inv .3 in (
+      rw (i .heads-are) (within-both _ chainCount chainCount (w .ledger) (omega arith)),
+      rw (i .nexts-are) (w .place-fits),
+      w
+          .count-fits,
+    )
 
 add-i : tie.Need-add-i Inv-loop μ-loop
 add-i c =
-    omega (arith, c .before .before .before .before .before .before .before .before .before .before .before .before .before .before .before .before .before .before .before .before .before .before .before .before .before .before .before .before .before .before .before .before .before .before .before .before .before .before .before .loop .inv .1, c .before .before .before .before .before .before .before .before .before .before .before .before .before .before .before .before .before .before .before .before .before .before .before .before .before .before .before .before .before .before .before .before .before .before .before .before .before .before .before .loop .inv .0, c .before .before .before .before .before .before .before .before .before .before .before .before .before .before .before .before .before .before .before .before .before .before .before .before .before .before .before .before .before .before .before .before .before .before .before .before .before .before .before .before .before .before .before .before .before .before .before .before .before .before .before .before .before .before .before .before .before .before .before .before .before .before .before .before .before .before .before .before .good)
+    let c39 = c .before .before .before .before .before .before .before .before .before .before .before .before .before .before
+    .before .before .before .before .before .before .before .before .before .before .before .before .before .before .before .before
+    .before .before .before .before .before .before .before .before .before in
+    let c68 = c39 .before .before .before .before .before .before .before .before .before .before .before .before .before .before
+    .before .before .before .before .before .before .before .before .before .before .before .before .before .before .before in
+    omega (arith, c39 .loop .inv .1, c39 .loop .inv .0, c68 .good)
 
 loop-less : tie.Need-loop-less Inv-loop μ-loop
 loop-less c =
-    omega (arith, shorter-at (c .before .before .before .before .before .before .before .before .before .before .before .before .before .before .before .before .before .before .before .before .before .before .before .before .before .before .before .before .before .before .before .before .before .before .before .before .before) .starts, shorter-at (c .before .before .before .before .before .before .before .before .before .before .before .before .before .before .before .before .before .before .before .before .before .before .before .before .before .before .before .before .before .before .before .before .before .before .before .before .before) .ends)
+    let c37 = c .before .before .before .before .before .before .before .before .before .before .before .before .before .before
+    .before .before .before .before .before .before .before .before .before .before .before .before .before .before .before .before
+    .before .before .before .before .before .before .before in
+    omega (arith, shorter-at (c37) .starts, shorter-at (c37) .ends)
 
 loop-again : tie.Need-loop-again Inv-loop μ-loop
 loop-again c =
-    let s = c .before .before .before .before .before .before .before .before .before .before .before .before .before .before .before .before .before .before .before .before .before .before .before .before .before .before .before .before .before .before .before .before .before .before .before .before .before .before .before .loop .self in
-    let w = shorter-at (c .before .before .before .before .before .before .before .before .before .before .before .before .before .before .before .before .before .before .before .before .before .before .before .before .before .before .before .before .before .before .before .before .before .before .before .before .before) in
-    let j = judged-at (c .before .before .before .before .before .before .before .before .before .before .before .before .before .before) in
-    let v = writes-at (c .before .before .before .before .before .before .before .before .before .before) in
-    let z = c .before .before .before .before .before .before .before .before .before .before .before .before .before .before .before .before .before .before .before .before .before .before .before .before .before .before .before .before .before .before .before .before .before .before .before .before .before .before .before .loop .inv .2 in
-    let l = c .before .before .before .before .before .before .before .before .before .before .before .index .ensures .0 ∙ ap ledgerByte (c .before .before .before .before .before .before .before .before .before .before .before .before .ledger .ensures) in (
+    let c10 = c .before .before .before .before .before .before .before .before .before .before in
+    let c11 = c10 .before in
+    let c12 = c11 .before in
+    let c14 = c12 .before .before in
+    let c37 = c14 .before .before .before .before .before .before .before .before .before .before .before .before .before .before
+    .before .before .before .before .before .before .before .before .before in
+    let c38 = c37 .before in
+    let c39 = c38 .before in
+    let c68 = c39 .before .before .before .before .before .before .before .before .before .before .before .before .before .before
+    .before .before .before .before .before .before .before .before .before .before .before .before .before .before .before in
+    let s = c39 .loop .self in
+    let w = shorter-at (c37) in
+    let j = judged-at (c14) in
+    let v = writes-at (c10) in
+    let z = c39 .loop .inv .2 in
+    let l = c11 .index .ensures .0 ∙ ap ledgerByte (c12 .ledger .ensures) in (
       w .ends,
-      omega (arith, w .starts, c .before .before .before .before .before .before .before .before .before .before .before .before .before .before .before .before .before .before .before .before .before .before .before .before .before .before .before .before .before .before .before .before .before .before .before .before .before .before .before .loop .inv .1),
-      stored-sound s _ _ j _ _ l (c .before .before .before .before .before .before .before .before .before .before .entry-of .ensures),
+      omega (arith, w .starts, c39 .loop .inv .1),
+      stored-sound s _ _ j _ _ l (c10 .entry-of .ensures),
       rw (c .before .before .add .ensures .0, c .before .before .add .ensures .1)
-          (stored-indexes s _ _ (v .ledger) (z .sized .counts-are) (z .sized .numbers-are) (v .count-fits) (z .bounds .home-room) (c .before .before .before .before .before .before .before .before .before .before .before .before .before .before .before .before .before .before .before .before .before .before .before .before .before .before .before .before .before .before .before .before .before .before .before .before .before .before .before .loop .inv .3)),
-      c .before .before .before .before .before .before .before .before .before .before .before .before .before .before .before .before .before .before .before .before .before .before .before .before .before .before .before .before .before .before .before .before .before .before .before .before .before .before .before .loop .inv .4
-          ∙ turn-stored (c .before .before .before .before .before .before .before .before .before .before .before .before .before .before .before .before .before .before .before .before .before .before .before .before .before .before .before .before .before .before .before .before .before .before .before .before .before .before .before .before .before .before .before .before .before .before .before .before .before .before .before .before .before .before .before .before .before .before .before .before .before .before .before .before .before .before .before .before .args .t1) s z (c .before .before .before .before .before .before .before .before .before .before .before .before .before .before .before .before .before .before .before .before .before .before .before .before .before .before .before .before .before .before .before .before .before .before .before .before .before .before .before .loop .i) (c .before .before .before .before .before .before .before .before .before .before .before .before .before .before .before .before .before .before .before .before .before .before .before .before .before .before .before .before .before .before .before .before .before .before .before .before .before .before .before .loop .at) (c .before .before .before .before .before .before .before .before .before .before .before .before .before .before .before .before .before .before .before .before .before .before .before .before .before .before .before .before .before .before .before .before .before .before .before .before .before .before .before .before .before .before .before .before .before .before .before .before .before .before .before .before .before .before .before .before .before .before .before .before .before .before .before .before .before .before .before .before .args .bytes .now) (c .before .before .before .before .before .before .before .before .before .before .before .before .before .before .before .before .before .before .before .before .before .before .before .before .before .before .before .before .before .before .before .before .before .before .before .before .before .part-end .result) (c .before .before .before .before .before .before .before .before .before .before .before .before .before .before .before .before .before .before .before .before .before .before .before .before .before .before .before .before .before .before .before .before .before .before .before .before .before .part-end .ensures) (c .before .before .before .before .before .before .before .before .before .before .before .before .before .before .before .before .before .before .before .before .before .before .before .before .before .before .before .before .before .before .before .before .before .before .before .before .before .before .loop-test .taken)
-          _ j _ _ l (c .before .before .before .before .before .before .before .before .before .before .entry-of .ensures),
+          (stored-indexes s _ _ (v .ledger) (z .sized .counts-are) (z .sized .numbers-are) (v .count-fits) (z .bounds .home-room)
+          (c39 .loop .inv .3)),
+      c39 .loop .inv .4
+          ∙ turn-stored (c68 .args .t1) s z (c39 .loop .i) (c39 .loop .at) (c68 .args .bytes .now) (c37 .part-end .result) (c37
+          .part-end .ensures) (c38 .loop-test .taken)
+          _ j _ _ l (c10 .entry-of .ensures),
     )
 
 returns-3 : tie.Need-returns-3 Inv-loop μ-loop
 returns-3 c =
+    let c30 = c .before .before .before .before .before .before .before .before .before .before .before .before .before .before
+    .before .before .before .before .before .before .before .before .before .before .before .before .before .before .before .before
+    in
     let e = c .before .loop .inv .4
-    ∙ turn-end pairChecker (c .before .before .before .before .before .before .before .before .before .before .before .before .before .before .before .before .before .before .before .before .before .before .before .before .before .before .before .before .before .before .args .t1) (c .before .loop .self) (c .before .loop .i) (c .before .loop .at) (c .before .before .before .before .before .before .before .before .before .before .before .before .before .before .before .before .before .before .before .before .before .before .before .before .before .before .before .before .before .before .args .bytes .now) (c .loop-test .left) in
+    ∙ turn-end pairChecker (c30 .args .t1) (c .before .loop .self) (c .before .loop .i) (c .before .loop .at) (c30 .args .bytes
+    .now) (c .loop-test .left) in
     (ap (λ (x : Result PairValidator). x .answer) (sym e), ap (λ (x : Result PairValidator). x .state) (sym e))
 
 pub check-list-spec : {M : Type 1} → statement M

@@ -16,7 +16,8 @@ judge-call-requires : tie.Need-judge-call-requires
 judge-call-requires c κs = search needs
 
 -- the lengths of the state's arrays
-sized-at : (c : tie.After-judge-call) → Sized (tablesOf (c .before .before .before .before .before .before .before .before .before .before .before .before .before .before .before .before .before .before .before .before .before .before .before .args .t1))
+sized-at : (c : tie.After-judge-call) → Sized (tablesOf (c .before .before .before .before .before .before .before .before .before
+    .before .before .before .before .before .before .before .before .before .before .before .before .before .before .args .t1))
 sized-at c =
     record {
       accounts-are = search needs;
@@ -33,17 +34,25 @@ sized-at c =
 
 returns : tie.Need-returns
 returns c =
-    let s = c .before .before .before .before .before .before .before .before .before .before .before .before .before .before .before .before .before .before .before .before .before .before .before .before .before .args .t1 in
-    let b = c .before .before .before .before .before .before .before .before .before .before .before .before .before .before .before .before .before .before .before .before .before .before .before .before .before .args .bytes .now in
+    let c25 = c .before .before .before .before .before .before .before .before .before .before .before .before .before .before
+    .before .before .before .before .before .before .before .before .before .before .before in
+    let s = c25 .args .t1 in
+    let b = c25 .args .bytes .now in
     let e = sym (call-judged s (sized-at (c .before .before)) b) ∙ sym (c .before .before .judge-call .ensures .refusal-is) in
     let u = one-refused pairChecker s b _ e (c .if1 .taken) in
     (ap (λ (x : Result PairValidator). x .answer) (sym u), ap (λ (x : Result PairValidator). x .state) (sym u))
 
 -- the record passes
-judged-at : (c : tie.Else1) → Judged (c .before .before .before .before .before .before .before .before .before .before .before .before .before .before .before .before .before .before .before .before .before .before .before .before .before .args .t1) (c .before .before .before .before .before .before .before .before .before .before .before .before .before .before .before .before .before .before .before .before .before .before .before .before .before .args .bytes .now) (c .before .before .judge-call .result .read)
+judged-at : (c : tie.Else1) → Judged (c .before .before .before .before .before .before .before .before .before .before .before
+    .before .before .before .before .before .before .before .before .before .before .before .before .before .before .args .t1) (c
+    .before .before .before .before .before .before .before .before .before .before .before .before .before .before .before .before
+    .before .before .before .before .before .before .before .before .before .args .bytes .now) (c .before .before .judge-call
+    .result .read)
 judged-at c =
-    let s = c .before .before .before .before .before .before .before .before .before .before .before .before .before .before .before .before .before .before .before .before .before .before .before .before .before .args .t1 in
-    let b = c .before .before .before .before .before .before .before .before .before .before .before .before .before .before .before .before .before .before .before .before .before .before .before .before .before .args .bytes .now in
+    let c25 = c .before .before .before .before .before .before .before .before .before .before .before .before .before .before
+    .before .before .before .before .before .before .before .before .before .before .before in
+    let s = c25 .args .t1 in
+    let b = c25 .args .bytes .now in
     let f = c .before .before .judge-call .ensures in
     let h = sym (f .refusal-is) ∙ c .if1 .left in
     let a = call-accepted s (sized-at (c .before .before)) b h in
@@ -62,9 +71,13 @@ entry-of-requires : tie.Need-entry-of-requires
 entry-of-requires c κs = search needs
 
 -- what the stores need
-writes-at : (c : tie.After-entry-of) → Writes (c .before .before .before .before .before .before .before .before .before .before .before .before .before .before .before .before .before .before .before .before .before .before .before .before .before .before .before .before .before .args .t1) (c .before .index .result) (c .entry-of .result)
+writes-at : (c : tie.After-entry-of) → Writes (c .before .before .before .before .before .before .before .before .before .before
+    .before .before .before .before .before .before .before .before .before .before .before .before .before .before .before .before
+    .before .before .before .args .t1) (c .before .index .result) (c .entry-of .result)
 writes-at c =
-    writes-of _ _ _ (judged-at (c .before .before .before .before)) _ _ (c .before .index .ensures .0 ∙ ap ledgerByte (c .before .before .ledger .ensures)) (c .entry-of .ensures)
+    let c4 = c .before .before .before .before in
+    writes-of _ _ _ (judged-at (c4)) _ _ (c .before .index .ensures .0 ∙ ap ledgerByte (c .before .before .ledger .ensures)) (c
+    .entry-of .ensures)
 
 mul-paying : tie.Need-mul-paying
 mul-paying c = omega (arith, writes-at (c) .from-fits)
@@ -152,12 +165,19 @@ element-write-self-10 c = writes-at (c .before .before .before .before .before) 
 
 returns-2 : tie.Need-returns-2
 returns-2 c =
-    let s = c .before .before .before .before .before .before .before .before .before .before .before .before .before .before .before .before .before .before .before .before .before .before .before .before .before .before .before .before .before .before .before .before .before .before .args .t1 in
-    let b = c .before .before .before .before .before .before .before .before .before .before .before .before .before .before .before .before .before .before .before .before .before .before .before .before .before .before .before .before .before .before .before .before .before .before .args .bytes .now in
-    let e = sym (call-judged s (sized-at (c .before .before .before .before .before .before .before .before .before .before .before)) b) ∙ sym (c .before .before .before .before .before .before .before .before .before .before .before .judge-call .ensures .refusal-is) ∙ c .before .before .before .before .before .before .before .before .before .if1 .left in
-    let l = c .before .before .before .before .before .before .index .ensures .0 ∙ ap ledgerByte (c .before .before .before .before .before .before .before .ledger .ensures) in
+    let c5 = c .before .before .before .before .before in
+    let c6 = c5 .before in
+    let c7 = c6 .before in
+    let c9 = c7 .before .before in
+    let c11 = c9 .before .before in
+    let c34 = c11 .before .before .before .before .before .before .before .before .before .before .before .before .before .before
+    .before .before .before .before .before .before .before .before .before in
+    let s = c34 .args .t1 in
+    let b = c34 .args .bytes .now in
+    let e = sym (call-judged s (sized-at (c11)) b) ∙ sym (c11 .judge-call .ensures .refusal-is) ∙ c9 .if1 .left in
+    let l = c6 .index .ensures .0 ∙ ap ledgerByte (c7 .ledger .ensures) in
     let u = one-passed pairChecker s b e in
-    let v = stored-after s b _ (judged-at (c .before .before .before .before .before .before .before .before .before)) _ _ l (c .before .before .before .before .before .entry-of .ensures) in
+    let v = stored-after s b _ (judged-at (c9)) _ _ l (c5 .entry-of .ensures) in
     (ap (λ (x : Result PairValidator). x .answer) (sym u), sym (ap (λ (x : Result PairValidator). x .state) u ∙ v))
 
 pub check-record-spec : {M : Type 1} → statement M

@@ -36,7 +36,10 @@ is-accepted-requires c κs = (
 
 -- the state that is asked for its figures
 abbrev stateAt : tie.After-is-accepted → PairValidator
-stateAt c = c .before .before .before .before .before .before .before .before .before .before .before .before .before .before .before .before .before .before .before .before .before .before .before .before .args .t1
+stateAt c =
+    let c24 = c .before .before .before .before .before .before .before .before .before .before .before .before .before .before
+    .before .before .before .before .before .before .before .before .before .before in
+    c24 .args .t1
 
 -- its columns are as long as both ledgers need
 sized-at : (c : tie.After-is-accepted) → Sized (tablesOf (stateAt c))
@@ -63,7 +66,8 @@ returns c = rw (accepts-at (c .before .before .before) ∙ not-true _ (c .if1 .t
 
 -- an accepted state
 sound-at : (c : tie.Else1) → Sound (tablesOf (stateAt (c .before .before .before)))
-sound-at c = sound-of (tablesOf (stateAt (c .before .before .before))) (sized-at (c .before .before .before)) (accepts-at (c .before .before .before) ∙ not-false _ (c .if1 .left))
+sound-at c = sound-of (tablesOf (stateAt (c .before .before .before))) (sized-at (c .before .before .before)) (accepts-at (c
+    .before .before .before) ∙ not-false _ (c .if1 .left))
 
 element-copy-out-homes : tie.Need-element-copy-out-homes
 element-copy-out-homes c = search needs
@@ -88,13 +92,22 @@ sub-t48 c =
 
 sub-t49 : tie.Need-sub-t49
 sub-t49 c =
-    let s = sound-at (c .before .before .before .before .before .before .before .before .before .before .before .before) in
-    omega (arith, home-total _ s (c .before .before .before .before .before .before .add-balances .ensures), far-total _ s (c .before .before .add-balances2 .ensures), supply-shared _ s)
+    let c6 = c .before .before .before .before .before .before in
+    let c12 = c6 .before .before .before .before .before .before in
+    let s = sound-at (c12) in
+    omega (
+      arith,
+      home-total _ s (c6 .add-balances .ensures),
+      far-total _ s (c .before .before .add-balances2 .ensures),
+      supply-shared _ s,
+    )
 
 returns-2 : tie.Need-returns-2
 returns-2 c =
-    let s = sound-at (c .before .before .before .before .before .before .before .before .before .before .before .before) in
-    figures-passed _ s _ _ (home-total _ s (c .before .before .before .before .before .before .add-balances .ensures)) (far-total _ s (c .before .before .add-balances2 .ensures))
+    let c6 = c .before .before .before .before .before .before in
+    let c12 = c6 .before .before .before .before .before .before in
+    let s = sound-at (c12) in
+    figures-passed _ s _ _ (home-total _ s (c6 .add-balances .ensures)) (far-total _ s (c .before .before .add-balances2 .ensures))
 
 pub figures-spec : {M : Type 1} → statement M
 figures-spec =

@@ -1,0 +1,2 @@
+-- Laws of what judging finds. Assumes nothing.
+pub mod Finding

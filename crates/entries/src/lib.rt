@@ -1,0 +1,126 @@
+// What judging a record finds and what a passed one writes, and small functions on accounts and balances.
+ghost use Prim.Native.Nat.{_+_, _^_, _≤_};
+ghost use mathlib.Core.Path.{_≡_};
+ghost use mathlib.Core.List.{_++_};
+ghost use lib.ListN.{length, take, drop};
+ghost use Rattle.entries.specs.Entries.{entryOf, givenBy, noRecord, takenBy};
+ghost use Rattle.rules.specs.PairValidator.{countAllowed};
+ghost use Rattle.rules.specs.Rules.{isReceiving};
+use ledgers::Kind;
+use ledgers::Ledger;
+use records::Record;
+
+// An account's number as an index.
+pub fn as_index(x: u16) -> usize
+    ensures { λ r. ⌜ r ≡ x ⌝ }
+{
+    x as usize
+}
+
+// Whether a record comes from the other ledger.
+pub fn is_receiving(k: Kind) -> bool
+    ensures { λ b. ⌜ b ≡ isReceiving k ⌝ }
+{
+    match k {
+        Kind::Local(_) => false,
+        Kind::Sending(_) => false,
+        Kind::Receiving(_) => true,
+    }
+}
+
+// What a record of a kind takes from its sender's balance.
+pub fn taken_by(k: Kind, amount: u64) -> u64
+    ensures { λ r. ⌜ r ≡ takenBy k amount ⌝ }
+{
+    match k {
+        Kind::Local(_) => amount, // from its sender
+        Kind::Sending(_) => amount,
+        Kind::Receiving(_) => 0,
+    }
+}
+
+// What it gives to its receiver's.
+pub fn given_by(k: Kind, amount: u64) -> u64
+    ensures { λ r. ⌜ r ≡ givenBy k amount ⌝ }
+{
+    match k {
+        Kind::Local(_) => amount, // to its receiver
+        Kind::Sending(_) => 0,
+        Kind::Receiving(_) => amount,
+    }
+}
+
+// What was found of the bytes of a record: the refusal, or 0 and the record.
+pub struct Judgement {
+    pub refusal: u32,
+    pub read: Record,
+}
+
+// A refusal of bytes, whose record is not looked at.
+pub fn refused(refusal: u32) -> Judgement
+    ensures { λ j. ⌜ j ≡ noRecord refusal ⌝ }
+{
+    Judgement {
+        refusal,
+        read: Record {
+            kind: Kind::Local(Ledger::Home),
+            sender: 0,
+            receiver: 0,
+            number: 0,
+            amount: 0,
+            verified: false,
+        },
+    }
+}
+
+// What a passed record writes: its bytes for kind and ledger, the places of its accounts, and what it takes and gives there.
+pub struct Entry {
+    pub kind: u8,
+    pub ledger: u8,
+    pub from: usize,
+    pub to: usize,
+    pub taken: u64,
+    pub given: u64,
+}
+
+// What it writes on the ledger whose accounts stand from a place on.
+pub fn entry_of(r: Record, base: usize) -> Entry
+    requires { ⌜ base ≤ 2 ^ 32 ⌝ }
+    ensures { λ e. ⌜ e ≡ entryOf r base ⌝ }
+{
+    let kind = r.kind;
+    Entry {
+        kind: kind.byte(),
+        ledger: kind.ledger().byte(),
+        from: base + as_index(r.sender),
+        to: base + as_index(r.receiver),
+        taken: taken_by(kind, r.amount),
+        given: given_by(kind, r.amount),
+    }
+}
+
+// ## Openings
+
+// Whether a ledger may have n accounts.
+pub fn is_count_allowed(n: usize) -> bool
+    ensures { λ b. ⌜ b ≡ countAllowed n ⌝ }
+{
+    if n == 0 {
+        return false;
+    }
+    n <= Ledger::ACCOUNTS
+}
+
+// The numbers copied to a place of a longer list.
+pub fn copy_numbers(xs: &[u64], at: usize, out: &mut [u64])
+    requires { ⌜ at + length (now xs) ≤ length (now out) ⌝ }
+    ensures { λ _. ⌜ now (out .exit) ≡ take at (now (out .entry)) ++ (now (xs .entry)
+        ++ drop (at + length (now (xs .entry))) (now (out .entry))) ⌝ }
+{
+    let n = xs.len();
+    let mut i = 0;
+    while i < n {
+        out[at + i] = xs[i];
+        i += 1;
+    }
+}

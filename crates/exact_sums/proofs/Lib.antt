@@ -1,0 +1,2 @@
+-- Laws of exact sums. Assumes nothing.
+pub mod Sums

@@ -1,0 +1,32 @@
+-- `table_checks::Wide::add_half` meets its contract. Assumes nothing.
+use native.Mathlib.Omega.{arith}
+use borrow.Author.Needs.{needs}
+use Rattle.exact_sums.proofs.Sums.{wide-carry, wide-low}
+use Rattle.wire.specs.BigEndian.{value}
+use Rattle.exact_sums.proofs.Wide.add_half.Statement.{statement}
+use Rattle.exact_sums.proofs.Wide.add_half.Tie as tie
+
+add-sum : tie.Need-add-sum
+add-sum c = search needs
+
+add-t5 : tie.Need-add-t5
+add-t5 c = search needs
+
+sub-t6 : tie.Need-sub-t6
+sub-t6 c = search needs
+
+sub-t7 : tie.Need-sub-t7
+sub-t7 c = search needs
+
+returns : tie.Need-returns
+returns c =
+    let a = c .before .before .before .args in
+    record { value = wide-carry (a .self .high) (a .self .low) (a .x) (search needs); low-fits = omega arith; high-most = omega arith }
+
+returns-2 : tie.Need-returns-2
+returns-2 c =
+    let a = c .before .before .args in
+    record { value = wide-low (a .self .high) (a .self .low) (a .x); low-fits = omega arith; high-most = omega arith }
+
+pub add-half-spec : {M : Type 1} → statement M
+add-half-spec = tie.close (tie.spec add-sum add-t5 sub-t6 sub-t7 returns returns-2)

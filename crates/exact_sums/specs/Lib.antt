@@ -1,0 +1,3 @@
+-- Exact sums. Assumes nothing.
+
+pub mod Sums

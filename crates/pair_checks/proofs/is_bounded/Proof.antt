@@ -1,0 +1,55 @@
+-- `pair_tables::is_bounded` meets its contract. Assumes nothing.
+use mathlib.Core.Path.{_∙_, sym}
+use borrow.Author.Needs.{needs}
+use borrow.Author.Tests.{le-leb, lt-leb, not-false, not-true}
+use Rattle.pair_tables.specs.Tables.{inBounds}
+use Rattle.rules.specs.PairValidator.{supplyAllowed}
+use Rattle.wire.proofs.Lists.{every-not, every-one, every-skip}
+use Rattle.pair_checks.proofs.is_bounded.Statement.{statement}
+use Rattle.pair_checks.proofs.is_bounded.Tie as tie
+
+is-count-allowed-requires : tie.Need-is-count-allowed-requires
+is-count-allowed-requires c κs = search needs
+
+returns : tie.Need-returns
+unfolding inBounds
+returns c = sym (every-not 0 _ (sym (c .before .is-count-allowed .ensures) ∙ not-true _ (c .if1 .taken)))
+
+is-count-allowed-requires-2 : tie.Need-is-count-allowed-requires-2
+is-count-allowed-requires-2 c κs = search needs
+
+returns-2 : tie.Need-returns-2
+unfolding inBounds
+returns-2 c = sym (every-not 1 _ (sym (c .before .is-count-allowed2 .ensures) ∙ not-true _ (c .if2 .taken)))
+
+returns-3 : tie.Need-returns-3
+unfolding inBounds
+returns-3 c = sym (every-not 2 _ (lt-leb _ _ (c .if3 .taken)))
+
+returns-4 : tie.Need-returns-4
+unfolding inBounds
+returns-4 c = sym (every-not 3 _ (lt-leb _ _ (c .if4 .taken)))
+
+returns-5 : tie.Need-returns-5
+unfolding inBounds supplyAllowed
+returns-5 c =
+    let c2 = c .before .before in
+    let c4 = c2 .before .before in
+    sym
+    (every-skip _ _ (sym (c4 .before .is-count-allowed .ensures) ∙ not-false _ (c4 .if1 .left))
+    ∙ every-skip _ _ (sym (c2 .before .is-count-allowed2 .ensures) ∙ not-false _ (c2 .if2 .left))
+    ∙ every-skip _ _ (le-leb _ _ (c .before .if3 .left))
+    ∙ every-skip _ _ (le-leb _ _ (c .if4 .left))
+    ∙ every-one _)
+
+pub is-bounded-spec : {M : Type 1} → statement M
+is-bounded-spec =
+    tie.close
+    (tie.spec
+    is-count-allowed-requires
+    returns
+    is-count-allowed-requires-2
+    returns-2
+    returns-3
+    returns-4
+    returns-5)
