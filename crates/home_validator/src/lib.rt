@@ -2,20 +2,15 @@
 // and what home has sent: its state, and the calls that makers use. A call takes the state by value and hands it back beside the
 // answer; a list copies it once to have it for a refusal, and beside that the columns are lent and stored to in place. No call asks
 // anything of the state or of the bytes that it is given.
-ghost use Prim.Native.Nat.{ℕ, _+_};
 ghost use mathlib.Core.Path.{_≡_};
 ghost use Rattle.answers.specs.Answers.{answer, unlessRefused};
 ghost use Rattle.home_tables.specs.Tables.{acceptsHome};
 ghost use Rattle.home_validator.specs.State.{homeTablesOf, homeChecker, homeOpenedState, homeZeroState, homeFiguresOf};
 ghost use Rattle.rules.specs.Calls.{call, one, list};
 ghost use Rattle.rules.specs.HomeValidator.{homeOpeningRefusal};
-ghost use Rattle.rules.specs.Lists.{total};
 use answers::Answer;
 use entries::copy_numbers;
 use entries::entry_of;
-use entries::is_count_allowed;
-use exact_sums::Wide;
-use exact_sums::add_balances;
 use home_tables::is_accepted;
 use home_tables::judge_bytes;
 use home_tables::judge_call;
@@ -23,6 +18,7 @@ use inputs::part_end;
 use ledgers::Ledger;
 use number_index::CHAINS;
 use number_index::add;
+use openings::home_opening;
 
 // The state. A held record is one entry of each column. Entries at or beyond the count are not looked at, and only a passed record
 // writes there.
@@ -61,42 +57,6 @@ pub struct HomeFigures {
     pub pool: u64,
 }
 
-// The refusal of an opening, or 0 and the supply.
-pub struct Opening {
-    pub refusal: u32,
-    pub supply: u64,
-}
-
-fn judge_opening(balances: &[u64], fars: usize, far_total: u64) -> Opening
-    ensures refuses { λ o. ⌜ o .refusal ≡ homeOpeningRefusal (now (balances .entry)) fars «far_total» ⌝ }
-    ensures supplies { λ o. ⌜ (o .refusal ≡ 0 → o .supply ≡ total (now (balances .entry)) + «far_total») ⌝ }
-{
-    if !is_count_allowed(balances.len()) {
-        return Opening {
-            refusal: 1,
-            supply: 0,
-        };
-    }
-    if !is_count_allowed(fars) {
-        return Opening {
-            refusal: 1,
-            supply: 0,
-        };
-    }
-    let zero = Wide { high: 0, low: 0 };
-    let supply = add_balances(balances, 0, balances.len(), zero).add(far_total);
-    if supply.high != 0 {
-        return Opening {
-            refusal: 2,
-            supply: 0,
-        };
-    }
-    Opening {
-        refusal: 0,
-        supply: supply.low,
-    }
-}
-
 impl HomeValidator {
     // An opening with the home balances, the number of far accounts and the far total: 1, 2. Beside a refusal stands the all-zero
     // state, which every call refuses.
@@ -120,7 +80,7 @@ impl HomeValidator {
             ledgers: [0; Ledger::CAPACITY],
             verdicts: [0; Ledger::CAPACITY],
         };
-        let opening = judge_opening(balances, fars, far_total);
+        let opening = home_opening(balances, fars, far_total);
         if opening.refusal != 0 {
             return HomeOutcome {
                 answer: Answer::Refused {

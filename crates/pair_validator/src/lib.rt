@@ -3,23 +3,21 @@
 // refusal, and beside that the columns are lent and stored to in place. No call asks anything of the state or of the bytes that
 // it is given.
 ghost use mathlib.Core.Path.{_≡_};
-ghost use Prim.Native.Nat.{ℕ, _+_};
 ghost use Rattle.answers.specs.Answers.{answer, unlessRefused};
 ghost use Rattle.pair_tables.specs.Tables.{accepts};
 ghost use Rattle.pair_validator.specs.State.{tablesOf, pairChecker, openedState, zeroState, figuresOf};
 ghost use Rattle.rules.specs.Calls.{call, one, list};
-ghost use Rattle.rules.specs.Lists.{total};
 ghost use Rattle.rules.specs.PairValidator.{pairOpeningRefusal};
 use answers::Answer;
 use entries::copy_numbers;
 use entries::entry_of;
-use entries::is_count_allowed;
 use exact_sums::Wide;
 use exact_sums::add_balances;
 use inputs::part_end;
 use ledgers::Ledger;
 use number_index::CHAINS;
 use number_index::add;
+use openings::pair_opening;
 use pair_checks::is_accepted;
 use pair_checks::judge_call;
 use pair_tables::HEADS;
@@ -63,47 +61,6 @@ pub struct PairFigures {
     pub flight: u64,
 }
 
-// The refusal of an opening, or 0 and the supply.
-pub struct Opening {
-    pub refusal: u32,
-    pub supply: u64,
-}
-
-fn judge_opening<'a>(homes: &'a [u64], fars: &'a [u64]) -> Opening
-    ensures refuses { λ o. ⌜ o .refusal ≡ pairOpeningRefusal (now (homes .entry)) (now (fars .entry)) ⌝ }
-    ensures supplies { λ o. ⌜ (o .refusal ≡ 0 → o .supply ≡ total (now (homes .entry)) + total (now (fars .entry))) ⌝ }
-{
-    if !is_count_allowed(homes.len()) {
-        return Opening {
-            refusal: 1,
-            supply: 0,
-        };
-    }
-    if !is_count_allowed(fars.len()) {
-        return Opening {
-            refusal: 1,
-            supply: 0,
-        };
-    }
-    let zero = Wide { high: 0, low: 0 };
-    let supply = add_balances(
-        fars,
-        0,
-        fars.len(),
-        add_balances(homes, 0, homes.len(), zero),
-    );
-    if supply.high != 0 {
-        return Opening {
-            refusal: 2,
-            supply: 0,
-        };
-    }
-    Opening {
-        refusal: 0,
-        supply: supply.low,
-    }
-}
-
 impl PairValidator {
     // An opening with the balances of each ledger: 1, 2. Beside a refusal stands the all-zero state, which every call refuses.
     pub fn open<'a>(homes: &'a [u64], fars: &'a [u64]) -> PairOutcome
@@ -124,7 +81,7 @@ impl PairValidator {
             ledgers: [0; PLACES],
             verdicts: [0; PLACES],
         };
-        let opening = judge_opening(homes, fars);
+        let opening = pair_opening(homes, fars);
         if opening.refusal != 0 {
             return PairOutcome {
                 answer: Answer::Refused {

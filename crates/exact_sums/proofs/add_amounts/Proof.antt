@@ -5,7 +5,8 @@ use native.Mathlib.Omega.{arith}
 use lib.Dec.{eqb}
 use lib.ListN.{getD}
 use borrow.Author.Needs.{needs}
-use Rattle.exact_sums.proofs.Sums.{Halves, all-places, counted-most, half-fits, half-low, halves-added, halves-fit, halves-more, halves-none}
+use Rattle.exact_sums.proofs.Sums.{Halves, all-places, counted-most, half-fits}
+use Rattle.exact_sums.proofs.Sums.{half-low, halves-added, halves-fit, halves-more, halves-none}
 use Rattle.exact_sums.specs.Sums.{flowAt}
 use Rattle.tables.proofs.Places.{sum-more, sum-none}
 use Rattle.tables.specs.Places.{sumAt}

@@ -14,33 +14,33 @@ use Rattle.rules.specs.HomeValidator.{homeOpeningRefusal}
 use Rattle.home_validator.proofs.HomeValidator.open.Statement.{statement}
 use Rattle.home_validator.proofs.HomeValidator.open.Tie as tie
 
-judge-opening-requires : tie.Need-judge-opening-requires
-judge-opening-requires c κs = search needs
+home-opening-requires : tie.Need-home-opening-requires
+home-opening-requires c κs = search needs
 
 -- home's balances
-abbrev homesAt : tie.After-judge-opening → List ℕ
+abbrev homesAt : tie.After-home-opening → List ℕ
 homesAt c = c .before .before .args .balances .now
 
 -- the number of far accounts
-abbrev farsAt : tie.After-judge-opening → ℕ
+abbrev farsAt : tie.After-home-opening → ℕ
 farsAt c = c .before .before .args .fars
 
 -- the far total
-abbrev farTotalAt : tie.After-judge-opening → ℕ
+abbrev farTotalAt : tie.After-home-opening → ℕ
 farTotalAt c = c .before .before .args .far-total
 
 returns : tie.Need-returns
 unfolding homeZeroTables
 returns c =
     let c2 = c .before .before in
-    let e = c2 .judge-opening .ensures .0 in
+    let e = c2 .home-opening .ensures .0 in
     let n : homeOpeningRefusal (homesAt c2) (farsAt c2) (farTotalAt c2) ≡ 0 → ⊥ = λ z. c .if1 .taken (e ∙ z) in
     (ap (λ (m : ℕ). Refused m 0) e ∙ answer-refused _ 0 n, instead-refused _ _ _ n)
 
 -- the opening is accepted
 none-at : (c : tie.Else1)
     → homeOpeningRefusal (homesAt (c .before .before)) (farsAt (c .before .before)) (farTotalAt (c .before .before)) ≡ 0
-none-at c = sym (c .before .before .judge-opening .ensures .0) ∙ c .if1 .left
+none-at c = sym (c .before .before .home-opening .ensures .0) ∙ c .if1 .left
 
 -- so the number of home accounts is within the limit
 fit-at : (c : tie.Else1) → length (homesAt (c .before .before)) ≤ accountLimit
@@ -57,14 +57,14 @@ returns-2 c =
     let c3 = c .before .before .before in
     let c5 = c3 .before .before in
     let b = c .before .copy-numbers .ensures ∙ copied-homes (homesAt c5) in
-    let s = c5 .judge-opening .ensures .1 (c3 .if1 .left) in
+    let s = c5 .home-opening .ensures .1 (c3 .if1 .left) in
     rw (none-at c3) (refl, home-opened-state (homesAt c5) (farsAt c5) (farTotalAt c5) _ _ s b)
 
 pub open-spec : {M : Type 1} → statement M
 open-spec =
     tie.close
     (tie.spec
-    judge-opening-requires
+    home-opening-requires
     returns
     slice-aggregate-copy-numbers
     copy-numbers-requires

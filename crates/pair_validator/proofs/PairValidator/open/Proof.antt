@@ -14,28 +14,28 @@ use Rattle.rules.specs.PairValidator.{pairOpeningRefusal}
 use Rattle.pair_validator.proofs.PairValidator.open.Statement.{statement}
 use Rattle.pair_validator.proofs.PairValidator.open.Tie as tie
 
-judge-opening-requires : tie.Need-judge-opening-requires
-judge-opening-requires c κs = search needs
+pair-opening-requires : tie.Need-pair-opening-requires
+pair-opening-requires c κs = search needs
 
 -- home's balances
-abbrev homesAt : tie.After-judge-opening → List ℕ
+abbrev homesAt : tie.After-pair-opening → List ℕ
 homesAt c = c .before .before .before .args .homes .now
 
 -- far's
-abbrev farsAt : tie.After-judge-opening → List ℕ
+abbrev farsAt : tie.After-pair-opening → List ℕ
 farsAt c = c .before .before .before .args .fars .now
 
 returns : tie.Need-returns
 unfolding zeroTables
 returns c =
     let c2 = c .before .before in
-    let e = c2 .judge-opening .ensures .0 in
+    let e = c2 .pair-opening .ensures .0 in
     let n : pairOpeningRefusal (homesAt c2) (farsAt c2) ≡ 0 → ⊥ = λ z. c .if1 .taken (e ∙ z) in
     (ap (λ (m : ℕ). Refused m 0) e ∙ answer-refused _ 0 n, instead-refused _ _ _ n)
 
 -- the opening is accepted
 none-at : (c : tie.Else1) → pairOpeningRefusal (homesAt (c .before .before)) (farsAt (c .before .before)) ≡ 0
-none-at c = sym (c .before .before .judge-opening .ensures .0) ∙ c .if1 .left
+none-at c = sym (c .before .before .pair-opening .ensures .0) ∙ c .if1 .left
 
 -- so both numbers of accounts are within the limit
 counts-at : (c : tie.Else1) → (length (homesAt (c .before .before)) ≤ accountLimit) × (length (farsAt (c .before .before)) ≤ accountLimit)
@@ -71,14 +71,14 @@ returns-2 c =
     let b =
     c .before .copy-numbers2 .ensures
     ∙ copied-both (homesAt c8) (farsAt c8) (k .0) (k .1) _ (c4 .copy-numbers .ensures) in
-    let s = c8 .judge-opening .ensures .1 (c6 .if1 .left) in
+    let s = c8 .pair-opening .ensures .1 (c6 .if1 .left) in
     rw (none-at c6) (refl, opened-state (homesAt c8) (farsAt c8) _ _ s b)
 
 pub open-spec : {M : Type 1} → statement M
 open-spec =
     tie.close
     (tie.spec
-    judge-opening-requires
+    pair-opening-requires
     returns
     slice-aggregate-copy-numbers
     copy-numbers-requires

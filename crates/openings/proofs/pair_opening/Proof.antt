@@ -1,4 +1,4 @@
--- `pair_validator::judge_opening` meets its contract. Assumes nothing.
+-- `openings::pair_opening` meets its contract. Assumes nothing.
 use Prim.Native.Nat.{_+_, _<_, _≤_}
 use mathlib.Core.Bool.{true}
 use mathlib.Core.Path.{_∙_, _≡_, sym}
@@ -11,8 +11,8 @@ use Rattle.rules.specs.Lists.{total}
 use Rattle.rules.specs.PairValidator.{countAllowed}
 use Rattle.table_laws.proofs.Openings.{count-facts, far-refused, home-refused, low-is-wide, none-refused, supply-refused, total-sum}
 use Rattle.exact_sums.proofs.Sums.{added-after, added-value, wide-fits, wide-passes}
-use Rattle.pair_validator.proofs.judge_opening.Statement.{statement}
-use Rattle.pair_validator.proofs.judge_opening.Tie as tie
+use Rattle.openings.proofs.pair_opening.Statement.{statement}
+use Rattle.openings.proofs.pair_opening.Tie as tie
 
 is-count-allowed-requires : tie.Need-is-count-allowed-requires
 is-count-allowed-requires c κs = search needs
@@ -75,8 +75,8 @@ returns-4 c =
       λ z. omega (arith, e, low-is-wide (w .result) m, x, y),
     )
 
-pub judge-opening-spec : {M : Type 1} → statement M
-judge-opening-spec =
+pub pair-opening-spec : {M : Type 1} → statement M
+pair-opening-spec =
     tie.close
     (tie.spec
     is-count-allowed-requires
