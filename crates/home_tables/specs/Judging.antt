@@ -1,5 +1,5 @@
 -- What the functions on the lent columns of the home ledger answer, place by place: for inner functions only. It is proved to be
--- what the rules say (proofs/Judging.antt, Accept.antt), and no published contract cites it. Assumes nothing.
+-- what the rules say (crates/home_laws, Judging and Accept), and no published contract cites it. Assumes nothing.
 use Prim.Native.Nat.{_+_, _-_, ℕ}
 use mathlib.Core.Bool.{Bool}
 use mathlib.Core.List.{List, [], _∷_}

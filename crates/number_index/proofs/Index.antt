@@ -68,10 +68,6 @@ index-set numbers heads nexts base from n x c a b d =
 
 -- ## Beside what is written
 
--- nothing is changed
-pub kept-same : (a b : ℕ) (xs : List ℕ) → Kept a b xs xs
-kept-same a b xs = record { long = refl; before = λ k p. refl; after = λ k p. refl }
-
 -- one place is written
 pub kept-set : {a b : ℕ} (xs : List ℕ) (k v : ℕ) → a ≤ k → k < b → Kept a b xs (set xs k v)
 kept-set xs k v p q =
@@ -88,15 +84,6 @@ kept-twice f g =
       long = g .long ∙ f .long;
       before = λ k p. g .before k p ∙ f .before k p;
       after = λ k p. g .after k p ∙ f .after k p;
-    }
-
--- a wider part
-pub kept-wider : {a b a' b' : ℕ} {xs ys : List ℕ} → Kept a b xs ys → a' ≤ a → b ≤ b' → Kept a' b' xs ys
-kept-wider f p q =
-    record {
-      long = f .long;
-      before = λ k r. f .before k (omega arith);
-      after = λ k r. f .after k (omega arith);
     }
 
 -- the values of another part

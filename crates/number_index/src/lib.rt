@@ -17,7 +17,7 @@ use tables::used;
 // The number of chains.
 pub const CHAINS: usize = 2048;
 // The steps down a chain after which the places are scanned instead.
-pub const STEPS: usize = 8;
+const STEPS: usize = 8;
 
 fn low_bits(x: u64) -> usize
     ensures { λ r. ⌜ r ≡ x % chainCount ⌝ }

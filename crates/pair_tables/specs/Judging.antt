@@ -1,5 +1,5 @@
 -- What the functions on the lent columns of both ledgers answer, place by place: for inner functions only. It is proved to be what
--- the rules say (proofs/Judging.antt, Accept.antt), and no published contract cites it. Assumes nothing.
+-- the rules say (crates/pair_laws, Judging), and no published contract cites it. Assumes nothing.
 use Prim.Native.Nat.{_*_, _<_, _≤_, ℕ}
 use mathlib.Core.List.{List}
 use mathlib.Core.Path.{_≡_}

@@ -1,7 +1,7 @@
 -- A call with a list, one record after the other: what a loop over the list's bytes cites. Assumes nothing.
 use Prim.Native.Nat.{ℕ, zero, suc, _≤_, _<_, _+_}
 use mathlib.Core.Path.{_≡_, refl, ap, _∙_, sym}
-use mathlib.Core.Bool.{true, false}
+use mathlib.Core.Bool.{true}
 use mathlib.Core.List.{List, [], _∷_, _++_, append-nil}
 use native.Mathlib.Omega.{arith}
 use lib.ListN.{length, take, drop, length-drop}
@@ -62,11 +62,6 @@ module _ {S : Type 0} (c : Checker S) (s : S) (b : List ℕ) where
   pub list-accepted : c .accepts s ≡ true → call c s (list b) ≡ callList c s 0 s (recordsIn b)
   unfolding call
   list-accepted a = rw a
-
-  -- a list in a state that is not accepted
-  pub list-unaccepted : c .accepts s ≡ false → call c s (list b) ≡ record { answer = Refused 3 0; state = s }
-  unfolding call
-  list-unaccepted a = rw a
 
 -- an empty list passes in an accepted state and changes nothing
 pub list-empty : {S : Type 0} (c : Checker S) (s : S) → c .accepts s ≡ true → call c s (list []) ≡ record { answer = Passed; state = s }

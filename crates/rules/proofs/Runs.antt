@@ -228,8 +228,3 @@ module _ {S : Type 0} (c : Checker S) (s : S) (b : List ℕ) where
       → call c s (one b) ≡ record { answer = Refused (suc n) 0; state = s }
   unfolding call callOne
   one-refused n a j = rw (a, j)
-
-  -- a state that is not accepted
-  pub one-unaccepted : c .accepts s ≡ false → call c s (one b) ≡ record { answer = Refused 3 0; state = s }
-  unfolding call
-  one-unaccepted a = rw a

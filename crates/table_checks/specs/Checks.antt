@@ -1,5 +1,5 @@
 -- What the functions that judge a table answer, place by place: for inner functions only. It is proved to be what the rules say
--- (proofs/Allowed.antt), and no published contract cites it. Assumes nothing.
+-- (crates/table_laws, Allowed), and no published contract cites it. Assumes nothing.
 use Prim.Native.Nat.{ℕ}
 use mathlib.Core.Bool.{Bool, cond, _&&_}
 use mathlib.Core.List.{List, [], _∷_}

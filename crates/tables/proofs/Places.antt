@@ -57,17 +57,6 @@ module _ (p : ℕ → Bool) (i end : ℕ) where
   unfolding allAt
   all-end h = let z : end - i ≡ 0 = omega arith in rw z
 
-module _ (f : ℕ → ℕ) (i end : ℕ) where
-  -- one place of a sum
-  pub sum-on : i < end → sumAt f i (end - i) ≡ f i + sumAt f (i + 1) (end - (i + 1))
-  unfolding sumAt
-  sum-on h = rw (left i end h, add-one)
-
-  -- no place is left
-  pub sum-end : end ≤ i → sumAt f i (end - i) ≡ 0
-  unfolding sumAt
-  sum-end h = let z : end - i ≡ 0 = omega arith in rw z
-
 -- ## Every place, or none
 
 -- a test that holds nowhere

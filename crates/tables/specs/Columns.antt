@@ -95,7 +95,7 @@ placed from r =
 unfoldable pub movedAt : List ℕ → ℕ → Record → List ℕ
 movedAt balances from r = moved balances (placed from r) (r .kind)
 
--- ## Judging a record, for inner functions only: proved to be what the rules say (proofs/Judged.antt)
+-- ## Judging a record, for inner functions only: proved to be what the rules say (crates/table_laws, Judged)
 
 -- place i has a number
 abbrev pub usedAt : ℕ → List ℕ → ℕ → Bool
