@@ -205,7 +205,7 @@ module _ (s : HomeValidator) (z : HomeSized (homeTablesOf s)) (b : List ℕ) whe
 -- ## One turn of a call with a list
 
 module _ (start s : HomeValidator) (z : HomeSound (homeTablesOf s)) (i at : ℕ) (b : List ℕ) (end : ℕ)
-    (e : end ≡ partEnd at (length b)) (left : at < length b) (j : Judgement)
+    (e : end ≡ partEnd 32 at (length b)) (left : at < length b) (j : Judgement)
     (f : Found (take (end - at) (drop at b)) (judgeHomeBytes (homeTablesOf s) (take (end - at) (drop at b))) j) where
   -- a record that is refused
   pub home-turn-refused : (j .refusal ≡ 0 → ⊥)

@@ -19,6 +19,7 @@ use ledgers::Ledger;
 use number_index::CHAINS;
 use number_index::add;
 use openings::home_opening;
+use records::Record;
 
 // The state. A held record is one entry of each column. Entries at or beyond the count are not looked at, and only a passed record
 // writes there.
@@ -194,7 +195,7 @@ impl HomeValidator {
         let mut at = 0;
         let mut i: u64 = 0;
         while at < bytes.len() {
-            let end = part_end(at, bytes.len());
+            let end = part_end(Record::SIZE, at, bytes.len());
             let judged = judge_bytes(
                 self.homes,
                 self.fars,

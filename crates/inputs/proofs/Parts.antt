@@ -1,7 +1,7 @@
 -- The records of a call's bytes: what a call with one record, and a loop over those of a list, cite. Assumes nothing.
 use Prim.Native.Nat.{_+_, _-_, _<_, _≤_, suc, zero, ℕ}
 use mathlib.Core.Bool.{Bool, cond, false, not, true}
-use mathlib.Core.List.{List, _∷_}
+use mathlib.Core.List.{List, [], _∷_}
 use mathlib.Core.Path.{_∙_, _≡_, ap, refl, sym}
 use native.Mathlib.Numerals.{add-one}
 use native.Mathlib.Omega.{arith}
@@ -12,8 +12,9 @@ use borrow.Author.Tests.{leb-false, leb-true, le-leb}
 use Rattle.answers.specs.Answers.{answer, refuse, unlessRefused}
 use Rattle.answers.specs.declared.Answer.the-variants.{Passed, Refused}
 use Rattle.inputs.specs.Inputs.{partEnd}
-use Rattle.rules.proofs.ListCalls.{list-end, list-passed, list-refused, records-cons, records-none}
+use Rattle.rules.proofs.ListCalls.{cut-first, list-end, list-passed, list-refused}
 use Rattle.rules.specs.Calls.{Call, Checker, Result, call, callList, callOne, list, one, recordsIn}
+use Rattle.rules.specs.Lists.{cut}
 
 -- ## A call with one record
 
@@ -50,6 +51,62 @@ pub one-accepted : (t : Bool) (n : ℕ) → refuse (not t) 3 n ≡ 0 → (t ≡ 
 one-accepted true n q = (refl, q)
 one-accepted false n q = absurd (omega (arith, q))
 
+-- ## Parts of bytes
+
+-- the parts of a size that are left from byte `at` on
+abbrev pub partsFrom : ℕ → ℕ → List ℕ → List (List ℕ)
+partsFrom size at b = cut (length (drop at b)) size (drop at b)
+
+-- none is left after the bytes
+pub parts-none : (size at : ℕ) (b : List ℕ) → length b ≤ at → partsFrom size at b ≡ []
+unfolding cut
+parts-none size at b h = rw (drop-of-length-le b {i = at} h)
+
+-- a part that is left
+pub parts-next : (n at : ℕ) (b : List ℕ) → at < length b
+    → partsFrom (suc n) at b
+    ≡ take (partEnd (suc n) at (length b) - at) (drop at b) ∷ partsFrom (suc n) (partEnd (suc n) at (length b)) b
+parts-next n at b h =
+    cut-first n (drop at b) (omega (arith, length-drop at b)) ∙ go (leb (length b - at) (suc n)) refl
+  where
+    -- a short rest, or a whole part
+    go : (t : Bool) → leb (length b - at) (suc n) ≡ t
+        → take (suc n) (drop at b) ∷ partsFrom (suc n) (suc n) (drop at b)
+        ≡ take (partEnd (suc n) at (length b) - at) (drop at b) ∷ partsFrom (suc n) (partEnd (suc n) at (length b)) b
+    go true q =
+        let z = length-drop at b in
+        let p = leb-true (length b - at) (suc n) q in
+        rw (
+          q,
+          take-all (suc n) (drop at b) (omega (arith, z)),
+          take-all (length b - at) (drop at b) (omega (arith, z)),
+          drop-drop (suc n) at b,
+          drop-of-length-le b {i = at + suc n} (omega arith),
+          drop-of-length-le b {i = length b} (omega arith),
+        )
+    go false q =
+        let y : at + suc n - at ≡ suc n = omega arith in
+        rw (q, y, drop-drop (suc n) at b)
+
+-- a part that ends within the bytes and has one at least
+pub record Shorter (at n end : ℕ) : Type 0 where
+  pub starts : at < end
+  pub ends : end ≤ n
+
+-- a part that is left is one
+pub parts-less : (size at n : ℕ) → 0 < size → at < n → Shorter at n (partEnd size at n)
+parts-less size at n z h = go (leb (n - at) size) refl
+  where
+    go : (t : Bool) → leb (n - at) size ≡ t → Shorter at n (partEnd size at n)
+    go true q = rw q (record { starts = h; ends = omega arith })
+    go false q =
+        let p = leb-false (n - at) size q in
+        rw q (record { starts = omega arith; ends = omega arith })
+
+-- a short rest ends with the bytes
+pub rest-end : (size at n : ℕ) → n - at ≤ size → n ≡ partEnd size at n
+rest-end size at n h = rw (le-leb (n - at) size h)
+
 -- ## The records of a list
 
 -- the records that are left from byte `at` on
@@ -62,62 +119,19 @@ pub parts-start : {S : Type 0} (c : Checker S) (s : S) (b : List ℕ) → c .acc
 unfolding call
 parts-start c s b a = rw a
 
--- a record that is left
-parts-next : (at : ℕ) (b : List ℕ) → at < length b
-    → parts at b ≡ take (partEnd at (length b) - at) (drop at b) ∷ parts (partEnd at (length b)) b
-parts-next at b h =
-    records-cons (drop at b) (omega (arith, length-drop at b)) ∙ go (leb (length b - at) 32) refl
-  where
-    -- a short rest, or 32 bytes
-    go : (t : Bool) → leb (length b - at) 32 ≡ t
-        → take 32 (drop at b) ∷ recordsIn (drop 32 (drop at b))
-        ≡ take (partEnd at (length b) - at) (drop at b) ∷ recordsIn (drop (partEnd at (length b)) b)
-    go true q =
-        let z = length-drop at b in
-        let p = leb-true (length b - at) 32 q in
-        rw (
-          q,
-          take-all 32 (drop at b) (omega (arith, z)),
-          take-all (length b - at) (drop at b) (omega (arith, z)),
-          drop-drop 32 at b,
-          drop-of-length-le b {i = at + 32} (omega arith),
-          drop-of-length-le b {i = length b} (omega arith),
-        )
-    go false q =
-        let y : at + 32 - at ≡ 32 = omega arith in
-        rw (q, y, drop-drop 32 at b)
-
--- a record that ends within the bytes and has one at least
-pub record Shorter (at n end : ℕ) : Type 0 where
-  pub starts : at < end
-  pub ends : end ≤ n
-
--- a record that is left is one
-pub parts-less : (at n : ℕ) → at < n → Shorter at n (partEnd at n)
-parts-less at n h = go (leb (n - at) 32) refl
-  where
-    go : (t : Bool) → leb (n - at) 32 ≡ t → Shorter at n (partEnd at n)
-    go true q = rw q (record { starts = h; ends = omega arith })
-    go false q =
-        let p = leb-false (n - at) 32 q in
-        rw q (record { starts = omega arith; ends = omega arith })
-
--- a short rest ends with the bytes
-pub rest-end : (at n : ℕ) → n - at ≤ 32 → n ≡ partEnd at n
-rest-end at n h = rw (le-leb (n - at) 32 h)
-
 -- ## One turn of a loop over the records
 
 module _ {S : Type 0} (c : Checker S) (start s : S) (i at : ℕ) (b : List ℕ) where
   -- the end of the records
   pub turn-end : length b ≤ at → callList c start i s (parts at b) ≡ record { answer = Passed; state = s }
-  turn-end h =
-      ap (callList c start i s) (ap recordsIn (drop-of-length-le b {i = at} h) ∙ records-none) ∙ list-end c start i s
+  unfolding recordsIn
+  turn-end h = ap (callList c start i s) (parts-none 32 at b h) ∙ list-end c start i s
 
-  module _ (end : ℕ) (e : end ≡ partEnd at (length b)) (h : at < length b) where
+  module _ (end : ℕ) (e : end ≡ partEnd 32 at (length b)) (h : at < length b) where
     -- the record and those after it
     turn : parts at b ≡ take (end - at) (drop at b) ∷ parts end b
-    turn = rw e (parts-next at b h)
+    unfolding recordsIn
+    turn = rw e (parts-next 31 at b h)
 
     -- a record that is refused
     pub turn-refused : (n : ℕ) → c .judge s (take (end - at) (drop at b)) ≡ n → (n ≡ 0 → ⊥)

@@ -1,16 +1,15 @@
-// Where the records of a list stand in its bytes.
-ghost use Prim.Native.Nat.{_≤_};
+// Where the parts of bytes stand, as the records of a list and the blocks of a journal.
+ghost use Prim.Native.Nat.{_≤_, _<_};
 ghost use mathlib.Core.Path.{_≡_};
 ghost use Rattle.inputs.specs.Inputs.{partEnd};
-use records::Record;
 
-// Where the record at byte `at` of n ends: a short rest is the last record.
-pub fn part_end(at: usize, n: usize) -> usize
+// Where the part of a size at byte `at` of n ends: a short rest is the last part.
+pub fn part_end(size: usize, at: usize, n: usize) -> usize
     requires { ⌜ at ≤ n ⌝ }
-    ensures { λ e. ⌜ e ≡ partEnd at n ⌝ }
+    ensures { λ e. ⌜ e ≡ partEnd size at n ⌝ }
 {
-    if n - at <= Record::SIZE {
+    if n - at <= size {
         return n;
     }
-    at + Record::SIZE
+    at + size
 }

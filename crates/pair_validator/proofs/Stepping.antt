@@ -109,7 +109,7 @@ abbrev pub bytesRefusal : PairValidator → List ℕ → ℕ
 bytesRefusal s b = judgedAs (judgeTables (tablesOf s)) (reading b)
 
 -- it is the rules'
-bytes-judged : (s : PairValidator) → Sound (tablesOf s) → (b : List ℕ) → bytesRefusal s b ≡ pairChecker .judge s b
+pub bytes-judged : (s : PairValidator) → Sound (tablesOf s) → (b : List ℕ) → bytesRefusal s b ≡ pairChecker .judge s b
 bytes-judged s z b = go (reading b)
   where
     go : (x : Reading) → judgedAs (judgeTables (tablesOf s)) x ≡ pairJudge capacity (viewOfState s .pair) x
@@ -152,7 +152,7 @@ judged-of s z b n j f h k =
 
 module _ (s : PairValidator) (b : List ℕ) (r : Record) (j : Judged s b r) where
   -- the rules pass it
-  judged-passes : pairJudge capacity (viewOfState s .pair) (Read r) ≡ 0
+  pub judged-passes : pairJudge capacity (viewOfState s .pair) (Read r) ≡ 0
   judged-passes =
       sym (judge-is (tablesOf s) (j .sound .sized) (accounts-fit (tablesOf s) (j .sound)) r) ∙ j .passes
 
@@ -174,7 +174,7 @@ module _ (s : PairValidator) (b : List ℕ) (r : Record) (j : Judged s b r) wher
 -- ## A turn over a list
 
 module _ (start s : PairValidator) (z : Sound (tablesOf s)) (i at : ℕ) (b : List ℕ) (end : ℕ)
-    (e : end ≡ partEnd at (length b)) (h : at < length b) where
+    (e : end ≡ partEnd 32 at (length b)) (h : at < length b) where
   -- the bytes of the record
   abbrev part : List ℕ
   part = take (end - at) (drop at b)

@@ -24,6 +24,7 @@ use pair_tables::HEADS;
 use pair_tables::PLACES;
 use pair_tables::index;
 use pair_tables::judge_bytes;
+use records::Record;
 
 // The accounts of both ledgers.
 pub const ACCOUNTS: usize = 2 * Ledger::ACCOUNTS;
@@ -193,7 +194,7 @@ impl PairValidator {
         let mut at = 0;
         let mut i: u64 = 0;
         while at < bytes.len() {
-            let end = part_end(at, bytes.len());
+            let end = part_end(Record::SIZE, at, bytes.len());
             let judged = judge_bytes(
                 &self.accounts,
                 &self.counts,

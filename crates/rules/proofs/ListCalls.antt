@@ -29,13 +29,14 @@ pub records-none : recordsIn [] ≡ []
 unfolding recordsIn cut
 records-none = refl
 
--- the first record is the first 32 bytes, or all where there are fewer
-pub records-cons : (b : List ℕ) → 0 < length b → recordsIn b ≡ take 32 b ∷ recordsIn (drop 32 b)
-unfolding recordsIn cut
-records-cons [] h = absurd (omega arith)
-records-cons (x ∷ b) h =
-    ap (λ (t : List (List ℕ)). take 32 (x ∷ b) ∷ t)
-    (cut-room (length b) (length (drop 31 b)) 31 (drop 31 b) (omega (arith, length-drop 31 b)) (omega arith))
+-- the first part is the first bytes, or all where there are fewer
+pub cut-first : (n : ℕ) (b : List ℕ) → 0 < length b
+    → cut (length b) (suc n) b ≡ take (suc n) b ∷ cut (length (drop (suc n) b)) (suc n) (drop (suc n) b)
+unfolding cut
+cut-first n [] h = absurd (omega arith)
+cut-first n (x ∷ b) h =
+    ap (λ (t : List (List ℕ)). take (suc n) (x ∷ b) ∷ t)
+    (cut-room (length b) (length (drop n b)) n (drop n b) (omega (arith, length-drop n b)) (omega arith))
 
 -- ## One record of the list
 

@@ -12,7 +12,7 @@ sub-if1 : tie.Need-sub-if1
 sub-if1 c = search needs
 
 returns : tie.Need-returns
-returns c = rest-end (c .before .args .at) (c .before .args .n) (c .if1 .taken)
+returns c = rest-end (c .before .args .size) (c .before .args .at) (c .before .args .n) (c .if1 .taken)
 
 add-result : tie.Need-add-result
 add-result c = search needs
@@ -20,7 +20,7 @@ add-result c = search needs
 returns-2 : tie.Need-returns-2
 returns-2 c =
     let a = c .before .args in
-    ap (λ (t : Bool). cond t (a .n) (a .at + 32)) (sym (lt-leb (a .n - a .at) 32 (c .if1 .left)))
+    ap (λ (t : Bool). cond t (a .n) (a .at + a .size)) (sym (lt-leb (a .n - a .at) (a .size) (c .if1 .left)))
 
 pub part-end-spec : {M : Type 1} → statement M
 part-end-spec = tie.close (tie.spec sub-if1 returns add-result returns-2)

@@ -106,8 +106,8 @@ part-end-requires c κs = search needs
 shorter-at : (c : tie.After-part-end Inv-loop μ-loop)
     → Shorter (c .before .before .loop .at) (length (bytesAt (c .before .before .before .before .before .before))) (c .part-end .result)
 shorter-at c =
-    rw (c .part-end .ensures) (parts-less (c .before .before .loop .at) (length (bytesAt (c .before .before .before .before .before
-    .before))) (c .before .loop-test .taken))
+    rw (c .part-end .ensures) (parts-less 32 (c .before .before .loop .at) (length (bytesAt (c .before .before .before .before .before
+    .before))) (omega arith) (c .before .loop-test .taken))
 
 slice-aggregate-judge-bytes : tie.Need-slice-aggregate-judge-bytes Inv-loop μ-loop
 slice-aggregate-judge-bytes c = search needs

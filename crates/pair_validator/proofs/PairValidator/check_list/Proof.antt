@@ -107,7 +107,7 @@ shorter-at : (c : tie.After-part-end Inv-loop μ-loop) → Shorter (c .before .b
     .before .before .before .before .before .before .before .before .before .before .before .before .before .before .before .before
     .before .before .before .before .before .before .before .before .before .before .before .before .args .bytes .now)) (c
     .part-end .result)
-shorter-at c = rw (c .part-end .ensures) (parts-less _ _ (c .before .loop-test .taken))
+shorter-at c = rw (c .part-end .ensures) (parts-less 32 _ _ (omega arith) (c .before .loop-test .taken))
 
 slice-aggregate-judge-bytes : tie.Need-slice-aggregate-judge-bytes Inv-loop μ-loop
 slice-aggregate-judge-bytes c = search needs

@@ -1,0 +1,3 @@
+-- Proofs of the program's functions. Assumes nothing.
+
+pub mod Started

@@ -1,0 +1,51 @@
+-- The columns after an accepted opening, and small laws of the program's loop. Assumes nothing.
+use Prim.Native.Nat.{_*_, _≤_, ℕ}
+use mathlib.Core.List.{List, [], _∷_, _++_}
+use mathlib.Core.Path.{_∙_, _≡_, ap, refl, subst, sym}
+use native.Mathlib.Omega.{arith}
+use lib.ListN.{length, length-take, replicate, take}
+use Rattle.block_format.specs.Blocks.{balancesOf}
+use Rattle.ledgers.specs.Limits.{capacity}
+use Rattle.number_index.specs.Index.{chainCount}
+use Rattle.opening_listing.specs.Opened.{OpenedIn}
+use Rattle.opening_listing.specs.declared.Start.{Start}
+use Rattle.pair_steps.specs.Steps.{Ready, figuresIn, lent}
+use Rattle.pair_tables.proofs.Indexes.{indexes-of-none}
+use Rattle.pair_tables.specs.Tables.{openedTables}
+use Rattle.pair_validator.proofs.Opened.{opened-accepts, opened-sized, opened-state, opened-view}
+use Rattle.pair_validator.specs.State.{openedState}
+use Rattle.pair_validator.specs.declared.PairValidator.{PairValidator}
+use Rattle.rules.specs.Lists.{sum, total}
+use Rattle.rules.specs.PairValidator.{PairView, pairOpened}
+use Rattle.rules.specs.Rules.{flight, inFlight, opened}
+
+-- the first bytes are no more than there are
+pub take-within : (n : ℕ) (xs : List ℕ) (m : ℕ) → length xs ≤ m → length (take n xs) ≤ m
+take-within n xs m h = omega (arith, length-take n xs)
+
+-- at an opening nothing is in flight
+none-in-flight : (homes fars : List ℕ) → inFlight (opened homes fars) ≡ 0
+unfolding inFlight flight sum
+none-in-flight homes fars = refl
+
+-- the columns of an accepted opening, with nothing held yet, are ready for the first record
+pub started : (home far : List ℕ) (start : Start) (figures accounts balances : List ℕ) → OpenedIn home far start figures accounts balances
+    → Ready
+    (lent (start .supply) accounts (replicate 2 0) balances (replicate (2 * capacity) 0) (replicate (2 * capacity) 0)
+    (replicate (2 * capacity) 0) (replicate (2 * capacity) 0) (replicate (2 * capacity) 0) (replicate (2 * capacity) 0)
+    (replicate (2 * capacity) 0))
+    figures (replicate (2 * chainCount) 0) (replicate (2 * capacity) 0)
+unfolding openedTables
+started home far start figures accounts balances o =
+    let e = opened-state (balancesOf home) (balancesOf far) balances (start .supply) (o .supply-is) (o .balances-are) in
+    let v = opened-view (balancesOf home) (balancesOf far) (o .unrefused) in
+    let f : figures ≡ figuresIn (pairOpened (balancesOf home) (balancesOf far)) =
+    o .figures-are ∙ ap (λ (n : ℕ). total (balancesOf home) ∷ total (balancesOf far) ∷ n ∷ []) (sym (none-in-flight _ _)) in
+    rw (o .accounts-are)
+    (subst (λ (s : PairValidator). Ready s figures (replicate (2 * chainCount) 0) (replicate (2 * capacity) 0)) (sym e)
+    (record {
+      sized = opened-sized (balancesOf home) (balancesOf far) (o .unrefused);
+      accepted = opened-accepts (balancesOf home) (balancesOf far) (o .unrefused);
+      indexes = indexes-of-none _;
+      figures-are = f ∙ ap figuresIn (sym v);
+    }))

@@ -1,0 +1,2 @@
+-- Laws of the table of hexadecimal digits. Assumes nothing.
+pub mod Digits

@@ -1,0 +1,3 @@
+-- Hexadecimal digits. Assumes nothing.
+
+pub mod Hex

@@ -1,0 +1,3 @@
+-- Laws of texts in a buffer and of the lines of a listing. Assumes nothing.
+pub mod Puts
+pub mod Decimals

@@ -1,0 +1,3 @@
+-- The lines of a listing. Assumes nothing.
+
+pub mod Lines

@@ -1,0 +1,69 @@
+-- The listing in the chunks in which the program reads a journal and writes its text: what the functions' contracts cite, and the
+-- claim that the chunks' texts are the listing. Assumes nothing.
+use Prim.Native.Nat.{ℕ, zero, suc, _*_}
+use mathlib.Core.Bool.{Bool, true, false, _&&_}
+use mathlib.Core.List.{List, [], _∷_, _++_}
+use mathlib.Core.Path.{_≡_}
+use lib.Dec.{eqb}
+use lib.ListN.{length, take, drop}
+use Rattle.block_format.specs.Blocks.{balancesOf, statedCount}
+use Rattle.lines.specs.Lines.{headerLine}
+use Rattle.listing.specs.Listing.{Standing, afterBlock, blocksIn, blocksText, figuresLine, listing, opened, openingText, whileGoing}
+use Rattle.pair_validator.specs.State.{openedState, pairChecker, viewOfState}
+use Rattle.pair_validator.specs.declared.PairValidator.{PairValidator}
+
+-- ## The program's state
+
+-- the figures of the program's state are those of the rules' state
+abbrev pub stateFigures : PairValidator → List ℕ
+stateFigures s = figuresLine (viewOfState s)
+
+-- where the listing stands after blocks, up to a bad one
+abbrev pub ifGoing : Bool → Standing PairValidator → Standing PairValidator → Standing PairValidator
+ifGoing true p later = later
+ifGoing false p later = p
+
+unfoldable pub afterBlocks : Standing PairValidator → List (List ℕ) → Standing PairValidator
+afterBlocks p [] = p
+afterBlocks p (b ∷ bs) = ifGoing (p .going) p (afterBlocks (afterBlock pairChecker p b) bs)
+
+-- ## Chunks
+
+-- the bytes of a chunk: 64 blocks
+abbrev pub chunkSize : ℕ
+chunkSize = 64 * 512
+
+-- the most chunks after blocks 0 and 1, of which the last has a block beyond the greatest number
+abbrev pub mostChunks : ℕ
+mostChunks = 1024
+
+-- the text of a chunk, and where the listing stands after it
+abbrev pub chunkText : Standing PairValidator → List ℕ → List ℕ
+chunkText p chunk = blocksText pairChecker stateFigures p (blocksIn chunk)
+
+abbrev pub afterChunk : Standing PairValidator → List ℕ → Standing PairValidator
+afterChunk p chunk = afterBlocks p (blocksIn chunk)
+
+-- the program's loop: at most n chunks of what is left, up to a bad block or to a chunk that is not full
+unfoldable pub chunksText : ℕ → Standing PairValidator → List ℕ → List ℕ
+chunksText zero p j = []
+chunksText (suc n) p j =
+    chunkText p (take chunkSize j)
+    ++ whileGoing
+    (eqb (length (take chunkSize j)) chunkSize && afterChunk p (take chunkSize j) .going)
+    (chunksText n (afterChunk p (take chunkSize j)) (drop chunkSize j))
+
+-- ## The claim
+
+-- where the program's listing stands after an accepted opening of blocks 0 and 1
+abbrev pub openedBy : List ℕ → List ℕ → Standing PairValidator
+openedBy home far = opened (openedState (balancesOf home) (balancesOf far)) (statedCount far)
+
+-- the listing of every journal is the header, the opening of its first 1,024 bytes, and the text of the program's chunks of the rest
+unfoldable pub ListedInChunks : Type 0
+ListedInChunks =
+    (j : List ℕ)
+    → listing j
+    ≡ headerLine
+    ++ openingText (take 512 j) (take 512 (drop 512 j))
+    (chunksText mostChunks (openedBy (take 512 j) (take 512 (drop 512 j))) (drop 1024 j))

@@ -1,0 +1,4 @@
+-- The listing of a journal. Assumes nothing.
+
+pub mod Listing
+pub mod Chunks

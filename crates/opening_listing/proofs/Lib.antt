@@ -1,0 +1,3 @@
+-- Laws of the first lines of a listing and of the columns after them. Assumes nothing.
+pub mod OpenColumns
+pub mod OpeningText

@@ -1,0 +1,179 @@
+-- The text of the opening of blocks 0 and 1, by their refusals, and what the reader hands out of them. Assumes nothing.
+use Prim.Native.Nat.{_+_, _<_, _≤_, suc, zero, ℕ}
+use mathlib.Core.Bool.{false, true}
+use mathlib.Core.List.{List, [], _++_, _∷_, append-nil}
+use mathlib.Core.Path.{_∙_, _≡_, ap, ap₂, refl, subst, sym}
+use native.Mathlib.Omega.{arith}
+use lib.ListN.{getD, length, length-append, replicate, take}
+use lib.Seq.{take-at}
+use borrow.Author.Tests.{lt-leb}
+use Rattle.answers.proofs.Answers.{tells}
+use Rattle.answers.specs.Answers.{Tells, answer, numberOf, orElse, unlessRefused}
+use Rattle.answers.specs.declared.Answer.the-variants.{Passed, Refused}
+use Rattle.block_format.proofs.Items.{length-balances}
+use Rattle.block_format.specs.Blocks.{balanceTable, balancesOf, statedCount}
+use Rattle.journal_reader.specs.Judged.{balancesRefusal, blockRefusal, openingOf}
+use Rattle.journal_reader.specs.declared.Balances.{Balances}
+use Rattle.ledgers.specs.Limits.{accountLimit}
+use Rattle.lines.proofs.Puts.{fault-short, header-short, open-short, put-put}
+use Rattle.lines.specs.Lines.{Put, faultLine, figuresText, headerLine, openLine}
+use Rattle.listing.specs.Listing.{openingText, unlessFault}
+use Rattle.opening_listing.specs.Opened.{OpenedIn}
+use Rattle.opening_listing.specs.declared.Start.{Start}
+use Rattle.rules.proofs.Lists.{never-both-tests}
+use Rattle.rules.specs.Lists.{sum, total}
+use Rattle.rules.specs.PairValidator.{pairOpeningRefusal}
+use Rattle.rules.specs.Rules.{flight, inFlight}
+use Rattle.tables.specs.Columns.{padded}
+
+-- ## The text by the refusals
+
+-- where there is a refusal its fault is all the text
+fault-only : (n block : ℕ) (text : List ℕ) → (n ≡ 0 → ⊥) → unlessFault n block text ≡ faultLine n block
+fault-only zero block text r = absurd (r refl)
+fault-only (suc n) block text r = refl
+
+module _ (home far : List ℕ) where
+  -- a fault of block 0
+  pub at-home : {n : ℕ} → n ≡ blockRefusal home 0 0 → (n ≡ 0 → ⊥) → (rest : List ℕ) → openingText home far rest ≡ faultLine n 0
+  unfolding openingText
+  at-home e r rest = rw (← e) (fault-only _ 0 _ r)
+
+  module _ (a : blockRefusal home 0 0 ≡ 0) where
+    -- a fault of block 1
+    pub at-far : {n : ℕ} → n ≡ blockRefusal far 1 (statedCount home) → (n ≡ 0 → ⊥) → (rest : List ℕ)
+        → openingText home far rest ≡ faultLine n 1
+    unfolding openingText
+    at-far e r rest = rw (a, ← e) (fault-only _ 1 _ r)
+
+    module _ (b : blockRefusal far 1 (statedCount home) ≡ 0) where
+      -- a refusal of the opening, told as a fault of block 1
+      pub at-pair : {n : ℕ} → n ≡ pairOpeningRefusal (balancesOf home) (balancesOf far) → (n ≡ 0 → ⊥) → (rest : List ℕ)
+          → openingText home far rest ≡ faultLine n 1
+      unfolding openingText
+      at-pair e r rest = rw (a, b, ← e) (fault-only _ 1 _ r)
+
+      -- an accepted opening: its line, and the rest
+      pub at-open : pairOpeningRefusal (balancesOf home) (balancesOf far) ≡ 0 → (rest : List ℕ)
+          → openingText home far rest ≡ openLine (figuresText (total (balancesOf home)) (total (balancesOf far)) 0) ++ rest
+      unfolding openingText inFlight flight sum
+      at-open z rest = rw (a, b, z)
+
+-- ## In the lent buffer
+
+-- what a listing leaves that stops at a fault
+pub fault-leaves : {P : Type 0} (home far : List ℕ) (start : Start) (n block : ℕ) {d e f : List ℕ} {o r : ℕ}
+    → ((rest : List ℕ) → openingText home far rest ≡ faultLine n block)
+    → Put d 0 headerLine e o
+    → Put e o (faultLine n block) f r
+    → start .end ≡ r
+    → start .going ≡ false
+    → Put d 0 (headerLine ++ openingText home far []) f (start .end)
+    × ((start .going ≡ true → P)
+    × ((start .going ≡ false → (rest : List ℕ) → openingText home far rest ≡ openingText home far [])
+    × (start .end ≤ 256)))
+fault-leaves home far start n block t p q z g = (
+  rw (t [], z) (put-put p q),
+  (
+    λ h. absurd (never-both-tests (sym h ∙ g)),
+    (
+      λ h rest. t rest ∙ sym (t []),
+      omega (arith, p .next, q .next, header-short, fault-short n block),
+    ),
+  ),
+)
+
+-- what a listing leaves whose opening is accepted
+pub open-leaves : (home far : List ℕ) (start : Start) {d e f figures accounts balances : List ℕ} {o : ℕ}
+    → blockRefusal home 0 0 ≡ 0
+    → blockRefusal far 1 (statedCount home) ≡ 0
+    → pairOpeningRefusal (balancesOf home) (balancesOf far) ≡ 0
+    → Put d 0 headerLine e o
+    → Put e o (openLine (figuresText (getD figures 0 0) (getD figures 1 0) 0)) f (start .end)
+    → start .supply ≡ total (balancesOf home) + total (balancesOf far)
+    → start .before ≡ statedCount far
+    → start .going ≡ true
+    → figures ≡ total (balancesOf home) ∷ total (balancesOf far) ∷ 0 ∷ []
+    → accounts ≡ length (balancesOf home) ∷ length (balancesOf far) ∷ []
+    → balances ≡ padded (balancesOf home) ++ padded (balancesOf far)
+    → Put d 0 (headerLine ++ openingText home far []) f (start .end)
+    × ((start .going ≡ true → OpenedIn home far start figures accounts balances)
+    × ((start .going ≡ false → (rest : List ℕ) → openingText home far rest ≡ openingText home far [])
+    × (start .end ≤ 256)))
+open-leaves home far start {d} {e} {f} {figures} a b z p q supply before g fs accounts balances =
+    let t = at-open home far a b z in
+    let s = t [] ∙ append-nil _ in
+    let m = ap (λ (l : List ℕ). openLine (figuresText (getD l 0 0) (getD l 1 0) 0)) fs ∙ sym s in (
+      subst (λ (l : List ℕ). Put d 0 (headerLine ++ l) f (start .end)) m (put-put p q),
+      (
+        λ h.
+            record {
+              continues = λ rest. t rest ∙ ap (λ (l : List ℕ). l ++ rest) (sym s);
+              unrefused = z;
+              supply-is = supply;
+              before-is = before;
+              figures-are = fs;
+              accounts-are = accounts;
+              balances-are = balances;
+            },
+        (
+          λ h. absurd (never-both-tests (sym g ∙ h)),
+          omega (arith, p .next, q .next, header-short, open-short (getD figures 0 0) (getD figures 1 0)),
+        ),
+      ),
+    )
+
+-- ## What the reader hands out
+
+-- a refusal where no later test refuses
+else-none : (n : ℕ) → orElse n 0 ≡ n
+else-none zero = refl
+else-none (suc n) = refl
+
+-- an answer that is a refusal has a number
+refused-some : (n p m q : ℕ) → answer n p ≡ Refused m q → n ≡ 0 → ⊥
+refused-some zero p m q e z = let y : _≡_ {A = ℕ} 0 1 = cc in omega arith
+refused-some (suc n) p m q e z = omega arith
+
+-- a block of opening balances that was passed, and what was handed out of it
+pub record Handed (b : List ℕ) (k before : ℕ) (r : Balances) : Type 0 where
+  pub none : blockRefusal b k before ≡ 0
+  pub count-is : r .count ≡ statedCount b
+  pub balances-are : take (r .count) (r .balances) ≡ balancesOf b
+  pub fits : r .count ≤ length (r .balances)
+
+module _ (b : List ℕ) (k before : ℕ) (low : k < 2) {r : Balances} (h : r ≡ openingOf b k before) where
+  -- the opening balances of block 0 or 1 are refused as the block is
+  kind-none : balancesRefusal b k before ≡ blockRefusal b k before
+  unfolding balancesRefusal
+  kind-none = rw (lt-leb 2 k low) (else-none (blockRefusal b k before))
+
+  -- the answer's number is the block's refusal
+  number-told : numberOf (r .answer) ≡ blockRefusal b k before
+  unfolding openingOf Tells
+  number-told = ap (λ (x : Balances). numberOf (x .answer)) h ∙ tells (balancesRefusal b k before) k .0 ∙ kind-none
+
+  -- where it is a refusal its number is the block's refusal, and there is one
+  pub refused : {m q n : ℕ} → r .answer ≡ Refused m q → n ≡ numberOf (r .answer) → (n ≡ blockRefusal b k before) × (n ≡ 0 → ⊥)
+  unfolding openingOf
+  refused {m} {q} e t =
+      let a = sym (ap (λ (x : Balances). x .answer) h) ∙ e in
+      let n = t ∙ number-told in
+      (n, λ z. refused-some (balancesRefusal b k before) k m q a (kind-none ∙ sym n ∙ z))
+
+  -- where it passed there is none, and the count and the balances were handed out
+  pub handed : r .answer ≡ Passed → Handed b k before r
+  unfolding openingOf
+  handed e =
+      let z : blockRefusal b k before ≡ 0 = sym number-told ∙ ap numberOf e in
+      let count : r .count ≡ statedCount b =
+      ap (λ (x : Balances). x .count) h ∙ ap (λ (n : ℕ). unlessRefused n (statedCount b) 0) (kind-none ∙ z) in
+      let table : r .balances ≡ balanceTable b =
+      ap (λ (x : Balances). x .balances) h
+      ∙ ap (λ (n : ℕ). unlessRefused n (balanceTable b) (replicate accountLimit 0)) (kind-none ∙ z) in
+      record {
+        none = z;
+        count-is = count;
+        balances-are = ap₂ take count table ∙ take-at (balancesOf b) _ (statedCount b) (length-balances (statedCount b) b);
+        fits = rw (count, table, length-append) (omega (arith, length-balances (statedCount b) b));
+      }

@@ -1,0 +1,3 @@
+-- The first lines of a listing. Assumes nothing.
+
+pub mod Opened

@@ -1,0 +1,4 @@
+-- Proofs of the step on lent columns. Assumes nothing.
+
+pub mod Figures
+pub mod Stepping

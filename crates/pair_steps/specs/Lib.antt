@@ -1,0 +1,3 @@
+-- The pair validator's step on lent columns. Assumes nothing.
+
+pub mod Steps
