@@ -2,11 +2,10 @@
 use Prim.Native.Nat.{_*_, _+_, _-_, _<_, _≤_, ℕ}
 use mathlib.Core.Bool.{Bool, false, true}
 use mathlib.Core.List.{List, [], _++_, _∷_, append-assoc, append-nil}
-use mathlib.Core.Path.{_∙_, _≡_, ap, refl, subst, sym}
+use mathlib.Core.Path.{_∙_, _≡_, ap, refl, sym}
 use native.Mathlib.Omega.{arith}
 use lib.Dec.{leb}
 use lib.ListN.{drop, length, take}
-use borrow.Author.Tests.{leb-false, leb-true}
 use Rattle.block_listing.specs.Runs.{Bounded, StandsAt, standing}
 use Rattle.block_listing.specs.declared.Run.{Run}
 use Rattle.inputs.proofs.Parts.{parts-next, parts-none, partsFrom}

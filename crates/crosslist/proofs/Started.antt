@@ -1,6 +1,6 @@
 -- The columns after an accepted opening, and small laws of the program's loop. Assumes nothing.
 use Prim.Native.Nat.{_*_, _≤_, ℕ}
-use mathlib.Core.List.{List, [], _∷_, _++_}
+use mathlib.Core.List.{List, [], _∷_}
 use mathlib.Core.Path.{_∙_, _≡_, ap, refl, subst, sym}
 use native.Mathlib.Omega.{arith}
 use lib.ListN.{length, length-take, replicate, take}
@@ -13,10 +13,9 @@ use Rattle.pair_steps.specs.Steps.{Ready, figuresIn, lent}
 use Rattle.pair_tables.proofs.Indexes.{indexes-of-none}
 use Rattle.pair_tables.specs.Tables.{openedTables}
 use Rattle.pair_validator.proofs.Opened.{opened-accepts, opened-sized, opened-state, opened-view}
-use Rattle.pair_validator.specs.State.{openedState}
 use Rattle.pair_validator.specs.declared.PairValidator.{PairValidator}
 use Rattle.rules.specs.Lists.{sum, total}
-use Rattle.rules.specs.PairValidator.{PairView, pairOpened}
+use Rattle.rules.specs.PairValidator.{pairOpened}
 use Rattle.rules.specs.Rules.{flight, inFlight, opened}
 
 -- the first bytes are no more than there are

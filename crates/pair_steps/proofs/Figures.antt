@@ -1,17 +1,16 @@
 -- The figures beside the state: what a passed record does to them. Assumes nothing.
 use Prim.Native.Nat.{_+_, _-_, _<_, _≤_, zero, suc, ℕ}
 use mathlib.Core.List.{List, [], _∷_}
-use mathlib.Core.Path.{_∙_, _≡_, refl, subst, sym}
+use mathlib.Core.Path.{_≡_, refl, sym}
 use native.Mathlib.Omega.{arith}
 use lib.ListN.{getD, length, set}
 use lib.Seq.{getD-set-other, getD-set-same}
 use Rattle.entries.specs.Entries.{givenBy, takenBy}
-use Rattle.ledgers.specs.Ledgers.{counterpart, ledgerByte, ledgerOf}
+use Rattle.ledgers.specs.Ledgers.{ledgerByte, ledgerOf}
 use Rattle.pair_steps.specs.Steps.{figuresIn}
 use Rattle.rules.proofs.Lists.{balance-total, length-lowered, total-lowered, total-raised}
 use Rattle.rules.proofs.Refusals.{Passable, judge-none}
 use Rattle.rules.specs.Lists.{lowered, total}
-use Rattle.rules.specs.PairValidator.{PairView}
 use Rattle.rules.specs.Rules.{Far, Home, Kind, Ledger, LedgerState, Local, PairState, Receiving, Record, Sending, after, inFlight, judge, moved}
 use Rattle.rules.specs.Rules.{stateOf}
 

@@ -5,20 +5,18 @@ use mathlib.Core.Path.{_∙_, _≡_, ap, refl, subst, sym}
 use native.Mathlib.Omega.{arith}
 use lib.ListN.{getD, length, set}
 use Rattle.answers.proofs.Answers.{or-else-zero}
-use Rattle.entries.specs.Entries.{Found, entryOf}
+use Rattle.entries.specs.Entries.{entryOf}
 use Rattle.entries.specs.declared.Entry.{Entry}
-use Rattle.entries.specs.declared.Judgement.{Judgement}
 use Rattle.ledgers.specs.Ledgers.{ledgerByte, ledgerOf}
 use Rattle.ledgers.specs.Limits.{accountLimit, capacity}
 use Rattle.number_index.specs.Index.{chainCount}
 use Rattle.pair_laws.proofs.Passing.{Sound, counts-fit, next-of, sound-accepts, sound-of}
 use Rattle.pair_steps.proofs.Figures.{FiguresMove, figures-move, movedFigures}
 use Rattle.pair_steps.specs.Steps.{Ready, figuresIn, lent}
-use Rattle.pair_tables.specs.Tables.{withRecord}
 use Rattle.pair_validator.proofs.Opened.{supply-shared}
-use Rattle.pair_validator.proofs.Stepping.{Judged, Writes, bytes-judged, bytesRefusal, judged-of, judged-passes, stored-after, stored-indexes}
+use Rattle.pair_validator.proofs.Stepping.{Judged, bytes-judged, bytesRefusal, judged-passes, stored-after, stored-indexes}
 use Rattle.pair_validator.proofs.Stepping.{stored-is, stored-sound, storedState, writes-of}
-use Rattle.pair_validator.specs.State.{pairChecker, stateWith, tablesOf, viewOfState}
+use Rattle.pair_validator.specs.State.{pairChecker, tablesOf, viewOfState}
 use Rattle.pair_validator.specs.declared.PairValidator.{PairValidator}
 use Rattle.records.specs.declared.Record.{Record}
 use Rattle.rules.specs.Calls.{callOne}

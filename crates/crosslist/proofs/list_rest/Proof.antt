@@ -21,179 +21,184 @@ abbrev μ-loop : tie.MeasureT-loop
 -- the state is ready
 ready-at : (c : tie.After-slice-known14 Inv-loop μ-loop) → Ready (lent (c .before .before .before .before .before .before .before .before .before .before .before .before .before .before .before .args .supply) (c .before .before .before .before .before .before .before .before .before .before .before .before .before .before .before .args .accounts .now) (c .before .before .before .before .before .before .before .before .before .before .before .before .before .before .before .args .counts .now) (c .before .before .before .before .before .before .before .before .before .before .before .before .before .before .before .args .balances .now) (c .before .before .before .before .before .before .before .before .before .before .before .before .before .before .before .args .numbers .now) (c .before .before .before .before .before .before .before .before .before .before .before .before .before .before .before .args .amounts .now) (c .before .before .before .before .before .before .before .before .before .before .before .before .before .before .before .args .senders .now) (c .before .before .before .before .before .before .before .before .before .before .before .before .before .before .before .args .receivers .now) (c .before .before .before .before .before .before .before .before .before .before .before .before .before .before .before .args .kinds .now) (c .before .before .before .before .before .before .before .before .before .before .before .before .before .before .before .args .ledgers .now) (c .before .before .before .before .before .before .before .before .before .before .before .before .before .before .before .args .verdicts .now)) (c .before .before .before .before .before .before .before .before .before .before .before .before .before .before .before .args .figures .now) (c .before .before .before .before .before .before .before .before .before .before .before .before .before .before .before .args .heads .now) (c .before .before .before .before .before .before .before .before .before .before .before .before .before .before .before .args .nexts .now)
 ready-at c =
-    c .before .before .before .before .before .before .before .before .before .before .before .before .before .before .before .pre .5
+    let c15 = c .before .before .before .before .before .before .before .before .before .before .before .before .before .before .before in
+    c15 .pre .5
 
--- src/main.rt:118:5
 loop-holds : tie.Need-loop-holds Inv-loop μ-loop
 loop-holds c =
-    (c .before .before .before .before .before .before .before .before .before .before .before .before .before .before .before .pre .0, c .before .before .before .before .before .before .before .before .before .before .before .before .before .before .before .pre .1, c .before .before .before .before .before .before .before .before .before .before .before .before .before .before .before .pre .2, c .before .before .before .before .before .before .before .before .before .before .before .before .before .before .before .pre .3, ready-at (c))
+    let c15 = c .before .before .before .before .before .before .before .before .before .before .before .before .before .before .before in
+    (c15 .pre .0, c15 .pre .1, c15 .pre .2, c15 .pre .3, ready-at (c))
 
--- src/main.rt:120:13
 same-length : tie.Need-same-length Inv-loop μ-loop
 same-length c =
-    c .before .before .before .loop .inv .2 ∙ sym (c .before .before .before .before .before .before .before .before .before .before .before .before .before .before .before .before .before .before .before .pre .2)
+    let c3 = c .before .before .before in
+    let c19 = c3 .before .before .before .before .before .before .before .before .before .before .before .before .before .before .before .before in
+    c3 .loop .inv .2 ∙ sym (c19 .pre .2)
 
--- src/main.rt:120:13
 same-length-2 : tie.Need-same-length-2 Inv-loop μ-loop
 same-length-2 c =
-    c .before .before .before .loop .inv .3 ∙ sym (c .before .before .before .before .before .before .before .before .before .before .before .before .before .before .before .before .before .before .before .pre .3)
+    let c3 = c .before .before .before in
+    let c19 = c3 .before .before .before .before .before .before .before .before .before .before .before .before .before .before .before .before in
+    c3 .loop .inv .3 ∙ sym (c19 .pre .3)
 
--- src/main.rt:120:13
 same-length-3 : tie.Need-same-length-3 Inv-loop μ-loop
 same-length-3 c =
-    three-figures _ (c .before .before .before .loop .inv .4) ∙ sym (three-figures _ (ready-at (c .before .before .before .before)))
+    let c3 = c .before .before .before in
+    let c4 = c3 .before in
+    three-figures _ (c3 .loop .inv .4) ∙ sym (three-figures _ (ready-at c4))
 
--- src/main.rt:120:13
 same-length-4 : tie.Need-same-length-4 Inv-loop μ-loop
 same-length-4 c =
-    c .before .before .before .loop .inv .4 .sized .counts-are ∙ sym (ready-at (c .before .before .before .before) .sized .counts-are)
+    let c3 = c .before .before .before in
+    let c4 = c3 .before in
+    c3 .loop .inv .4 .sized .counts-are ∙ sym (ready-at c4 .sized .counts-are)
 
--- src/main.rt:120:13
 same-length-5 : tie.Need-same-length-5 Inv-loop μ-loop
 same-length-5 c =
-    c .before .before .before .loop .inv .4 .sized .balances-are ∙ sym (ready-at (c .before .before .before .before) .sized .balances-are)
+    let c3 = c .before .before .before in
+    let c4 = c3 .before in
+    c3 .loop .inv .4 .sized .balances-are ∙ sym (ready-at c4 .sized .balances-are)
 
--- src/main.rt:120:13
 same-length-6 : tie.Need-same-length-6 Inv-loop μ-loop
 same-length-6 c =
-    c .before .before .before .loop .inv .4 .sized .numbers-are ∙ sym (ready-at (c .before .before .before .before) .sized .numbers-are)
+    let c3 = c .before .before .before in
+    let c4 = c3 .before in
+    c3 .loop .inv .4 .sized .numbers-are ∙ sym (ready-at c4 .sized .numbers-are)
 
--- src/main.rt:120:13
 same-length-7 : tie.Need-same-length-7 Inv-loop μ-loop
 same-length-7 c =
-    c .before .before .before .loop .inv .4 .sized .amounts-are ∙ sym (ready-at (c .before .before .before .before) .sized .amounts-are)
+    let c3 = c .before .before .before in
+    let c4 = c3 .before in
+    c3 .loop .inv .4 .sized .amounts-are ∙ sym (ready-at c4 .sized .amounts-are)
 
--- src/main.rt:120:13
 same-length-8 : tie.Need-same-length-8 Inv-loop μ-loop
 same-length-8 c =
-    c .before .before .before .loop .inv .4 .sized .senders-are ∙ sym (ready-at (c .before .before .before .before) .sized .senders-are)
+    let c3 = c .before .before .before in
+    let c4 = c3 .before in
+    c3 .loop .inv .4 .sized .senders-are ∙ sym (ready-at c4 .sized .senders-are)
 
--- src/main.rt:120:13
 same-length-9 : tie.Need-same-length-9 Inv-loop μ-loop
 same-length-9 c =
-    c .before .before .before .loop .inv .4 .sized .receivers-are ∙ sym (ready-at (c .before .before .before .before) .sized .receivers-are)
+    let c3 = c .before .before .before in
+    let c4 = c3 .before in
+    c3 .loop .inv .4 .sized .receivers-are ∙ sym (ready-at c4 .sized .receivers-are)
 
--- src/main.rt:120:13
 same-length-10 : tie.Need-same-length-10 Inv-loop μ-loop
 same-length-10 c =
-    c .before .before .before .loop .inv .4 .sized .kinds-are ∙ sym (ready-at (c .before .before .before .before) .sized .kinds-are)
+    let c3 = c .before .before .before in
+    let c4 = c3 .before in
+    c3 .loop .inv .4 .sized .kinds-are ∙ sym (ready-at c4 .sized .kinds-are)
 
--- src/main.rt:120:13
 same-length-11 : tie.Need-same-length-11 Inv-loop μ-loop
 same-length-11 c =
-    c .before .before .before .loop .inv .4 .sized .ledgers-are ∙ sym (ready-at (c .before .before .before .before) .sized .ledgers-are)
+    let c3 = c .before .before .before in
+    let c4 = c3 .before in
+    c3 .loop .inv .4 .sized .ledgers-are ∙ sym (ready-at c4 .sized .ledgers-are)
 
--- src/main.rt:120:13
 same-length-12 : tie.Need-same-length-12 Inv-loop μ-loop
 same-length-12 c =
-    c .before .before .before .loop .inv .4 .sized .verdicts-are ∙ sym (ready-at (c .before .before .before .before) .sized .verdicts-are)
+    let c3 = c .before .before .before in
+    let c4 = c3 .before in
+    c3 .loop .inv .4 .sized .verdicts-are ∙ sym (ready-at c4 .sized .verdicts-are)
 
--- src/main.rt:120:13
 same-length-13 : tie.Need-same-length-13 Inv-loop μ-loop
 same-length-13 c =
-    c .before .before .before .loop .inv .4 .indexes .heads-are ∙ sym (ready-at (c .before .before .before .before) .indexes .heads-are)
+    let c3 = c .before .before .before in
+    let c4 = c3 .before in
+    c3 .loop .inv .4 .indexes .heads-are ∙ sym (ready-at c4 .indexes .heads-are)
 
--- src/main.rt:120:13
 same-length-14 : tie.Need-same-length-14 Inv-loop μ-loop
 same-length-14 c =
-    c .before .before .before .loop .inv .4 .indexes .nexts-are ∙ sym (ready-at (c .before .before .before .before) .indexes .nexts-are)
+    let c3 = c .before .before .before in
+    let c4 = c3 .before in
+    c3 .loop .inv .4 .indexes .nexts-are ∙ sym (ready-at c4 .indexes .nexts-are)
 
--- src/main.rt:120:13
 returns : tie.Need-returns Inv-loop μ-loop
 returns c = search needs
 
--- src/main.rt:122:9
 turn-requires : tie.Need-turn-requires Inv-loop μ-loop
 turn-requires c κs =
-    (c .before .before .before .before .before .before .before .before .before .before .before .before .before .before .before .before .before .loop .inv .0, c .before .before .before .before .before .before .before .before .before .before .before .before .before .before .before .before .before .loop .inv .1, c .before .before .before .before .before .before .before .before .before .before .before .before .before .before .before .before .before .loop .inv .2, c .before .before .before .before .before .before .before .before .before .before .before .before .before .before .before .before .before .loop .inv .3, c .before .before .before .before .before .before .before .before .before .before .before .before .before .before .before .before .before .before .before .before .before .before .before .before .before .before .before .before .before .before .before .before .before .pre .4, c .before .before .before .before .before .before .before .before .before .before .before .before .before .before .before .before .before .loop .inv .4)
+    let c17 = c .before .before .before .before .before .before .before .before .before .before .before .before .before .before .before .before .before in
+    let c33 = c17 .before .before .before .before .before .before .before .before .before .before .before .before .before .before .before .before in
+    (c17 .loop .inv .0, c17 .loop .inv .1, c17 .loop .inv .2, c17 .loop .inv .3, c33 .pre .4, c17 .loop .inv .4)
 
--- src/main.rt:142:9
 sub-turns : tie.Need-sub-turns Inv-loop μ-loop
 sub-turns c =
-    omega (arith, c .before .before .before .before .before .before .before .before .before .before .before .before .before .before .before .before .before .before .before .before .before .before .before .before .before .before .before .before .before .before .before .before .before .before .before .before .before .before .before .before .before .before .before .before .before .loop-test .taken)
+    let c45 = c .before .before .before .before .before .before .before .before .before .before .before .before .before .before .before .before .before .before .before .before .before .before .before .before .before .before .before .before .before .before .before .before .before .before .before .before .before .before .before .before .before .before .before .before .before in
+    omega (arith, c45 .loop-test .taken)
 
--- src/main.rt:118:5
 loop-less : tie.Need-loop-less Inv-loop μ-loop
 loop-less c =
-    omega (arith, c .before .before .before .before .before .before .before .before .before .before .before .before .before .before .before .before .before .before .before .before .before .before .before .before .before .before .before .before .before .before .before .before .before .before .before .before .before .before .before .before .before .before .before .before .before .loop-test .taken)
+    let c45 = c .before .before .before .before .before .before .before .before .before .before .before .before .before .before .before .before .before .before .before .before .before .before .before .before .before .before .before .before .before .before .before .before .before .before .before .before .before .before .before .before .before .before .before .before .before in
+    omega (arith, c45 .loop-test .taken)
 
--- src/main.rt:118:5
 loop-again : tie.Need-loop-again Inv-loop μ-loop
 loop-again c =
-    let e = c .before .before .before .before .before .before .before .before .before .before .before .before .before .before .before .before .before .before .before .before .before .before .before .before .before .before .before .before .turn .ensures in
-    (e .0, e .1, c .before .before .before .before .before .before .before .before .before .before .before .before .before .before .before .before .before .before .before .before .before .before .before .before .before .before .before .input .given ∙ c .before .before .before .before .before .before .before .before .before .before .before .before .before .before .before .before .before .before .before .before .before .before .before .before .before .before .before .before .before .before .before .before .before .before .before .before .before .before .before .before .before .before .before .before .before .before .loop .inv .2, c .before .before .before .before .before .before .before .before .before .before .before .before .before .before .before .before .before .before .before .before .before .before .before .before .before .out .given ∙ c .before .before .before .before .before .before .before .before .before .before .before .before .before .before .before .before .before .before .before .before .before .before .before .before .before .before .before .before .before .before .before .before .before .before .before .before .before .before .before .before .before .before .before .before .before .before .loop .inv .3, e .2)
+    let c25 = c .before .before .before .before .before .before .before .before .before .before .before .before .before .before .before .before .before .before .before .before .before .before .before .before .before in
+    let c27 = c25 .before .before in
+    let c28 = c27 .before in
+    let c46 = c28 .before .before .before .before .before .before .before .before .before .before .before .before .before .before .before .before .before .before in
+    let e = c28 .turn .ensures in
+    (e .0, e .1, c27 .input .given ∙ c46 .loop .inv .2, c25 .out .given ∙ c46 .loop .inv .3, e .2)
 
--- src/main.rt:93:1
 same-length-15 : tie.Need-same-length-15 Inv-loop μ-loop
 same-length-15 c =
-    c .before .loop .inv .2 ∙ sym (c .before .before .before .before .before .before .before .before .before .before .before .before .before .before .before .before .before .pre .2)
+    let c17 = c .before .before .before .before .before .before .before .before .before .before .before .before .before .before .before .before .before in
+    c .before .loop .inv .2 ∙ sym (c17 .pre .2)
 
--- src/main.rt:93:1
 same-length-16 : tie.Need-same-length-16 Inv-loop μ-loop
 same-length-16 c =
-    c .before .loop .inv .3 ∙ sym (c .before .before .before .before .before .before .before .before .before .before .before .before .before .before .before .before .before .pre .3)
+    let c17 = c .before .before .before .before .before .before .before .before .before .before .before .before .before .before .before .before .before in
+    c .before .loop .inv .3 ∙ sym (c17 .pre .3)
 
--- src/main.rt:93:1
 same-length-17 : tie.Need-same-length-17 Inv-loop μ-loop
 same-length-17 c =
     three-figures _ (c .before .loop .inv .4) ∙ sym (three-figures _ (ready-at (c .before .before)))
 
--- src/main.rt:93:1
 same-length-18 : tie.Need-same-length-18 Inv-loop μ-loop
 same-length-18 c =
     c .before .loop .inv .4 .sized .counts-are ∙ sym (ready-at (c .before .before) .sized .counts-are)
 
--- src/main.rt:93:1
 same-length-19 : tie.Need-same-length-19 Inv-loop μ-loop
 same-length-19 c =
     c .before .loop .inv .4 .sized .balances-are ∙ sym (ready-at (c .before .before) .sized .balances-are)
 
--- src/main.rt:93:1
 same-length-20 : tie.Need-same-length-20 Inv-loop μ-loop
 same-length-20 c =
     c .before .loop .inv .4 .sized .numbers-are ∙ sym (ready-at (c .before .before) .sized .numbers-are)
 
--- src/main.rt:93:1
 same-length-21 : tie.Need-same-length-21 Inv-loop μ-loop
 same-length-21 c =
     c .before .loop .inv .4 .sized .amounts-are ∙ sym (ready-at (c .before .before) .sized .amounts-are)
 
--- src/main.rt:93:1
 same-length-22 : tie.Need-same-length-22 Inv-loop μ-loop
 same-length-22 c =
     c .before .loop .inv .4 .sized .senders-are ∙ sym (ready-at (c .before .before) .sized .senders-are)
 
--- src/main.rt:93:1
 same-length-23 : tie.Need-same-length-23 Inv-loop μ-loop
 same-length-23 c =
     c .before .loop .inv .4 .sized .receivers-are ∙ sym (ready-at (c .before .before) .sized .receivers-are)
 
--- src/main.rt:93:1
 same-length-24 : tie.Need-same-length-24 Inv-loop μ-loop
 same-length-24 c =
     c .before .loop .inv .4 .sized .kinds-are ∙ sym (ready-at (c .before .before) .sized .kinds-are)
 
--- src/main.rt:93:1
 same-length-25 : tie.Need-same-length-25 Inv-loop μ-loop
 same-length-25 c =
     c .before .loop .inv .4 .sized .ledgers-are ∙ sym (ready-at (c .before .before) .sized .ledgers-are)
 
--- src/main.rt:93:1
 same-length-26 : tie.Need-same-length-26 Inv-loop μ-loop
 same-length-26 c =
     c .before .loop .inv .4 .sized .verdicts-are ∙ sym (ready-at (c .before .before) .sized .verdicts-are)
 
--- src/main.rt:93:1
 same-length-27 : tie.Need-same-length-27 Inv-loop μ-loop
 same-length-27 c =
     c .before .loop .inv .4 .indexes .heads-are ∙ sym (ready-at (c .before .before) .indexes .heads-are)
 
--- src/main.rt:93:1
 same-length-28 : tie.Need-same-length-28 Inv-loop μ-loop
 same-length-28 c =
     c .before .loop .inv .4 .indexes .nexts-are ∙ sym (ready-at (c .before .before) .indexes .nexts-are)
 
--- src/main.rt:93:1
 returns-2 : tie.Need-returns-2 Inv-loop μ-loop
 returns-2 c = search needs
 

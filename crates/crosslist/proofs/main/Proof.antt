@@ -10,147 +10,116 @@ use Rattle.crosslist.proofs.Started.{started}
 use Rattle.crosslist.proofs.main.Statement.{statement}
 use Rattle.crosslist.proofs.main.Tie as tie
 
--- src/main.rt:147:17
 pairs-requires : tie.Need-pairs-requires
 pairs-requires c κs = search needs
 
--- src/main.rt:165:41
 slice-aggregate-read-full : tie.Need-slice-aggregate-read-full
 slice-aggregate-read-full c = search needs
 
--- src/main.rt:165:9
 read-full-requires : tie.Need-read-full-requires
 read-full-requires c κs = search needs
 
--- src/main.rt:166:41
 slice-aggregate-read-full-2 : tie.Need-slice-aggregate-read-full-2
 slice-aggregate-read-full-2 c = search needs
 
--- src/main.rt:166:9
 read-full-requires-2 : tie.Need-read-full-requires-2
 read-full-requires-2 c κs = search needs
 
--- src/main.rt:168:9
 array-share-prefix-home : tie.Need-array-share-prefix-home
 array-share-prefix-home c = search needs
 
--- src/main.rt:168:9
 slice-aggregate-list-opening : tie.Need-slice-aggregate-list-opening
 slice-aggregate-list-opening c = search needs
 
--- src/main.rt:169:9
 array-share-prefix-far : tie.Need-array-share-prefix-far
 array-share-prefix-far c = search needs
 
--- src/main.rt:169:9
 slice-aggregate-list-opening-2 : tie.Need-slice-aggregate-list-opening-2
 slice-aggregate-list-opening-2 c = search needs
 
--- src/main.rt:170:9
 slice-aggregate-list-opening-3 : tie.Need-slice-aggregate-list-opening-3
 slice-aggregate-list-opening-3 c = search needs
 
--- src/main.rt:171:9
 slice-aggregate-list-opening-4 : tie.Need-slice-aggregate-list-opening-4
 slice-aggregate-list-opening-4 c = search needs
 
--- src/main.rt:172:9
 slice-aggregate-list-opening-5 : tie.Need-slice-aggregate-list-opening-5
 slice-aggregate-list-opening-5 c = search needs
 
--- src/main.rt:173:9
 slice-aggregate-list-opening-6 : tie.Need-slice-aggregate-list-opening-6
 slice-aggregate-list-opening-6 c = search needs
 
--- src/main.rt:167:9
 list-opening-requires : tie.Need-list-opening-requires
 list-opening-requires c κs =
     (omega (arith, length-replicate {A = ℕ} (64 * (14 * 128)) 0), refl, refl, refl)
 
--- src/main.rt:176:34
 array-share-prefix-out : tie.Need-array-share-prefix-out
 array-share-prefix-out c = search needs
 
--- src/main.rt:176:34
 slice-aggregate-write-all : tie.Need-slice-aggregate-write-all
 slice-aggregate-write-all c =
-    sym (length-take-le _ _ (omega (arith, c .before .before .before .before .before .list-opening .ensures .1 .1 .1, c .before .before .before .before .before .list-opening .ensures .0 .size, length-replicate {A = ℕ} (64 * (14 * 128)) 0)))
+    let c5 = c .before .before .before .before .before in
+    sym (length-take-le _ _ (omega (arith, c5 .list-opening .ensures .1 .1 .1, c5 .list-opening .ensures .0 .size, length-replicate {A = ℕ} (64 * (14 * 128)) 0)))
 
--- src/main.rt:176:5
 write-all-requires : tie.Need-write-all-requires
 write-all-requires c κs = search needs
 
--- src/main.rt:178:9
 returns : tie.Need-returns
 returns c = search needs
 
--- src/main.rt:189:9
 slice-aggregate-list-rest : tie.Need-slice-aggregate-list-rest
 slice-aggregate-list-rest c = search needs
 
--- src/main.rt:191:9
 slice-aggregate-list-rest-2 : tie.Need-slice-aggregate-list-rest-2
 slice-aggregate-list-rest-2 c = search needs
 
--- src/main.rt:193:9
 slice-aggregate-list-rest-3 : tie.Need-slice-aggregate-list-rest-3
 slice-aggregate-list-rest-3 c = search needs
 
--- src/main.rt:194:9
 slice-aggregate-list-rest-4 : tie.Need-slice-aggregate-list-rest-4
 slice-aggregate-list-rest-4 c = search needs
 
--- src/main.rt:195:9
 slice-aggregate-list-rest-5 : tie.Need-slice-aggregate-list-rest-5
 slice-aggregate-list-rest-5 c = search needs
 
--- src/main.rt:196:9
 slice-aggregate-list-rest-6 : tie.Need-slice-aggregate-list-rest-6
 slice-aggregate-list-rest-6 c = search needs
 
--- src/main.rt:197:9
 slice-aggregate-list-rest-7 : tie.Need-slice-aggregate-list-rest-7
 slice-aggregate-list-rest-7 c = search needs
 
--- src/main.rt:198:9
 slice-aggregate-list-rest-8 : tie.Need-slice-aggregate-list-rest-8
 slice-aggregate-list-rest-8 c = search needs
 
--- src/main.rt:199:9
 slice-aggregate-list-rest-9 : tie.Need-slice-aggregate-list-rest-9
 slice-aggregate-list-rest-9 c = search needs
 
--- src/main.rt:200:9
 slice-aggregate-list-rest-10 : tie.Need-slice-aggregate-list-rest-10
 slice-aggregate-list-rest-10 c = search needs
 
--- src/main.rt:201:9
 slice-aggregate-list-rest-11 : tie.Need-slice-aggregate-list-rest-11
 slice-aggregate-list-rest-11 c = search needs
 
--- src/main.rt:202:9
 slice-aggregate-list-rest-12 : tie.Need-slice-aggregate-list-rest-12
 slice-aggregate-list-rest-12 c = search needs
 
--- src/main.rt:203:9
 slice-aggregate-list-rest-13 : tie.Need-slice-aggregate-list-rest-13
 slice-aggregate-list-rest-13 c = search needs
 
--- src/main.rt:204:9
 slice-aggregate-list-rest-14 : tie.Need-slice-aggregate-list-rest-14
 slice-aggregate-list-rest-14 c = search needs
 
--- src/main.rt:205:9
 slice-aggregate-list-rest-15 : tie.Need-slice-aggregate-list-rest-15
 slice-aggregate-list-rest-15 c = search needs
 
--- src/main.rt:187:5
 list-rest-requires : tie.Need-list-rest-requires
 list-rest-requires c κs =
-    let o = c .before .before .before .before .before .before .before .before .before .before .before .before .before .before .before .before .before .before .before .before .before .before .before .before .list-opening .ensures in
-    (record { records = omega arith; block-fits = omega arith; index-fits = omega arith }, refl, length-replicate {A = ℕ} (64 * 512) 0, o .0 .size ∙ length-replicate {A = ℕ} (64 * (14 * 128)) 0, c .before .before .before .before .before .before .before .before .before .before .before .before .before .before .before .before .before .before .before .before .before .before .before .before .before .before .before .before .before .before .before .before .before .before .before .before .before .pairs .ensures, started _ _ _ _ _ _ (o .1 .0 (not-false _ (c .before .before .before .before .before .before .before .before .before .before .before .before .before .before .before .before .if1 .left))))
+    let c16 = c .before .before .before .before .before .before .before .before .before .before .before .before .before .before .before .before in
+    let c24 = c16 .before .before .before .before .before .before .before .before in
+    let c37 = c24 .before .before .before .before .before .before .before .before .before .before .before .before .before in
+    let o = c24 .list-opening .ensures in
+    (record { records = omega arith; block-fits = omega arith; index-fits = omega arith }, refl, length-replicate {A = ℕ} (64 * 512) 0, o .0 .size ∙ length-replicate {A = ℕ} (64 * (14 * 128)) 0, c37 .pairs .ensures, started _ _ _ _ _ _ (o .1 .0 (not-false _ (c16 .if1 .left))))
 
--- src/main.rt:146:1
 returns-2 : tie.Need-returns-2
 returns-2 c = search needs
 

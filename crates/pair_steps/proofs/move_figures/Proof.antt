@@ -5,58 +5,47 @@ use Rattle.pair_steps.proofs.Figures.{moved-total, moved-totals}
 use Rattle.pair_steps.proofs.move_figures.Statement.{statement}
 use Rattle.pair_steps.proofs.move_figures.Tie as tie
 
--- src/lib.rt:42:16
 mul-held : tie.Need-mul-held
 mul-held c = search needs
 
--- src/lib.rt:42:16
 slice-read-held : tie.Need-slice-read-held
 slice-read-held c = search needs
 
--- src/lib.rt:43:18
 sub-figures : tie.Need-sub-figures
 sub-figures c = search needs
 
--- src/lib.rt:43:18
 add-figures : tie.Need-add-figures
 add-figures c =
     omega (arith, moved-total (c .before .args .figures .now) (c .before .args .l) (c .before .args .supply) (c .before .args .taken) (c .before .args .given) (c .before .pre .1) (c .before .pre .2) (c .before .pre .3), c .before .fits .supply)
 
--- src/lib.rt:43:5
 mul-figures : tie.Need-mul-figures
 mul-figures c = search needs
 
--- src/lib.rt:43:5
 slice-write-figures : tie.Need-slice-write-figures
 slice-write-figures c = search needs
 
--- src/lib.rt:44:16
 slice-read-home : tie.Need-slice-read-home
 slice-read-home c = search needs
 
--- src/lib.rt:45:15
 slice-read-far : tie.Need-slice-read-far
 slice-read-far c = search needs
 
--- src/lib.rt:46:18
 sub-figures-2 : tie.Need-sub-figures-2
 sub-figures-2 c =
-    omega (arith, moved-totals (c .before .before .before .args .figures .now) (c .before .before .before .args .l) (c .before .before .before .args .supply) (c .before .before .before .args .taken) (c .before .before .before .args .given) (c .before .before .before .pre .0) (c .before .before .before .pre .1) (c .before .before .before .pre .2) (c .before .before .before .pre .3))
+    let c3 = c .before .before .before in
+    omega (arith, moved-totals (c3 .args .figures .now) (c3 .args .l) (c3 .args .supply) (c3 .args .taken) (c3 .args .given) (c3 .pre .0) (c3 .pre .1) (c3 .pre .2) (c3 .pre .3))
 
--- src/lib.rt:46:18
 sub-figures-3 : tie.Need-sub-figures-3
 sub-figures-3 c =
-    omega (arith, moved-totals (c .before .before .before .args .figures .now) (c .before .before .before .args .l) (c .before .before .before .args .supply) (c .before .before .before .args .taken) (c .before .before .before .args .given) (c .before .before .before .pre .0) (c .before .before .before .pre .1) (c .before .before .before .pre .2) (c .before .before .before .pre .3))
+    let c3 = c .before .before .before in
+    omega (arith, moved-totals (c3 .args .figures .now) (c3 .args .l) (c3 .args .supply) (c3 .args .taken) (c3 .args .given) (c3 .pre .0) (c3 .pre .1) (c3 .pre .2) (c3 .pre .3))
 
--- src/lib.rt:46:5
 slice-write-figures-2 : tie.Need-slice-write-figures-2
 slice-write-figures-2 c = search needs
 
--- src/lib.rt:35:1
 same-length : tie.Need-same-length
 same-length c = search needs
 
--- src/lib.rt:35:1
 returns : tie.Need-returns
 returns c = search needs
 

@@ -1,0 +1,162 @@
+//! Paper 01, "The journal": judging a block (11 to 14), a record's place in it
+//! (4), handing back the record's part of the block, and writing a block (4).
+
+use crate::answer::{refusal, Answer};
+use crate::record::{u64_at, RECORD};
+use crate::rules::MAX_ACCOUNTS;
+use crate::sha256;
+
+/// Length of a block in bytes.
+pub const BLOCK: usize = 512;
+
+/// The number of the last block that a journal may have.
+pub const LAST_BLOCK: u64 = 65_535;
+
+/// The records of a full block.
+pub const FULL: usize = 14;
+
+/// Length of a stake in bytes.
+pub const STAKE: usize = 8;
+
+/// The kinds of blocks.
+pub const HOME_STAKES: u8 = 1;
+pub const FAR_STAKES: u8 = 2;
+pub const RECORDS: u8 = 3;
+
+/// Where the items begin, and where the check begins.
+pub const ITEMS: usize = 32;
+pub const CHECK: usize = 480;
+
+/// The kind that a block of this number has.
+pub fn kind_of(number: u64) -> u8 {
+    match number {
+        0 => HOME_STAKES,
+        1 => FAR_STAKES,
+        _ => RECORDS,
+    }
+}
+
+/// The length of an item and the most items in a block of this kind.
+fn layout(kind: u8) -> (usize, usize) {
+    match kind {
+        RECORDS => (RECORD, FULL),
+        _ => (STAKE, MAX_ACCOUNTS),
+    }
+}
+
+/// Judges the block of a number. `before` is the count of the block before,
+/// looked at from block 3 on.
+pub fn judge_block(block: &[u8], number: u64, before: u64) -> Answer {
+    Answer::at(block_refusal(block, number, before), number)
+}
+
+fn block_refusal(block: &[u8], number: u64, before: u64) -> Option<u8> {
+    if block.len() != BLOCK || number > LAST_BLOCK {
+        return Some(refusal::BLOCK_MISSING);
+    }
+    if sha256::digest(&block[..CHECK]) != block[CHECK..] {
+        return Some(refusal::CHECK);
+    }
+    if number_in(block) != number {
+        return Some(refusal::BLOCK_NUMBER);
+    }
+    if !form_right(block, number) || follows_short(number, before) {
+        return Some(refusal::BLOCK_FORM);
+    }
+    None
+}
+
+fn number_in(block: &[u8]) -> u64 {
+    u64::from(u32::from_be_bytes([block[0], block[1], block[2], block[3]]))
+}
+
+/// Kind, count and zero bytes.
+fn form_right(block: &[u8], number: u64) -> bool {
+    let kind = kind_of(number);
+    let (length, most) = layout(kind);
+    let count = usize::from(block[5]);
+    block[4] == kind
+        && (1..=most).contains(&count)
+        && all_zero(&block[6..ITEMS])
+        && all_zero(&block[ITEMS + count * length..CHECK])
+}
+
+/// From block 3 on, whether the block before has fewer than 14 records.
+fn follows_short(number: u64, before: u64) -> bool {
+    number >= 3 && before < FULL as u64
+}
+
+fn all_zero(bytes: &[u8]) -> bool {
+    bytes.iter().all(|&byte| byte == 0)
+}
+
+/// The count of a block that has been judged.
+pub fn count(block: &[u8]) -> usize {
+    usize::from(block[5])
+}
+
+/// The stakes of a stakes block that has been judged.
+pub fn stakes(block: &[u8]) -> Vec<u64> {
+    (0..count(block))
+        .map(|place| u64_at(block, ITEMS + place * STAKE))
+        .collect()
+}
+
+/// The records of a records block that has been judged.
+pub fn records(block: &[u8]) -> std::slice::ChunksExact<'_, u8> {
+    block[ITEMS..ITEMS + count(block) * RECORD].chunks_exact(RECORD)
+}
+
+/// Judges a block and a record's place in it.
+pub fn judge_place(block: &[u8], number: u64, before: u64, place: u64) -> Answer {
+    let block_answer = judge_block(block, number, before);
+    if !block_answer.passed() {
+        return block_answer;
+    }
+    let outside = kind_of(number) != RECORDS || place >= count(block) as u64;
+    Answer::at(outside.then_some(refusal::MAKER_BLOCK), number)
+}
+
+/// The record's part of the lent block; empty where `judge_place` refuses.
+pub fn part(block: &[u8], number: u64, before: u64, place: u64) -> &[u8] {
+    if !judge_place(block, number, before, place).passed() {
+        return &[];
+    }
+    let start = ITEMS + place as usize * RECORD;
+    &block[start..start + RECORD]
+}
+
+/// Writes a block. The items are stakes or records as bytes, copied unjudged;
+/// a refused write leaves the output as it came.
+pub fn write_block(number: u64, kind: u8, items: &[u8], output: &mut [u8]) -> Answer {
+    if write_refused(number, kind, items, output.len()) {
+        return Answer::Refused {
+            number: refusal::MAKER_BLOCK,
+            place: number,
+        };
+    }
+    let (length, _) = layout(kind);
+    output.fill(0);
+    output[..4].copy_from_slice(&(number as u32).to_be_bytes());
+    output[4] = kind;
+    output[5] = (items.len() / length) as u8;
+    output[ITEMS..ITEMS + items.len()].copy_from_slice(items);
+    seal(output);
+    Answer::Passed
+}
+
+fn write_refused(number: u64, kind: u8, items: &[u8], output_length: usize) -> bool {
+    let (length, most) = layout(kind);
+    output_length != BLOCK
+        || items.is_empty()
+        || !items.len().is_multiple_of(length)
+        || items.len() / length > most
+        || number > LAST_BLOCK
+        || kind != kind_of(number)
+}
+
+/// Writes the check of a block's first 480 bytes.
+pub fn seal(block: &mut [u8]) {
+    let check = sha256::digest(&block[..CHECK]);
+    block[CHECK..].copy_from_slice(&check);
+}

@@ -1,0 +1,17 @@
+//! A second validator for the crossing book: two linked ledgers, their pair
+//! book, the guard of the home ledger, the journal and its listing.
+//!
+//! The modules follow the parts of paper 01. `runner` is not part of the paper:
+//! it makes journals and holds another program's listings to the ones made here.
+
+pub mod answer;
+pub mod guard;
+pub mod journal;
+pub mod listing;
+pub mod pair;
+pub mod record;
+pub mod rules;
+pub mod runner;
+pub mod running;
+pub mod sha256;
+pub mod side;

@@ -1,0 +1,76 @@
+//! Paper 01, "Rules of the pair book" and "Rules of the guard": the order in
+//! which a record that has been read is judged: 22, 23, 24, then 25 or 31 or
+//! 32, then 41. Each checker says how it looks things up.
+
+use crate::answer::refusal;
+use crate::record::{Ledger, Record, MAX_AMOUNT};
+
+/// The most accounts of a ledger.
+pub const MAX_ACCOUNTS: usize = 56;
+
+/// The passed records that the program holds for each ledger.
+pub const CAPACITY: usize = 512;
+
+/// What the rules look up in a checker's state.
+pub trait Book {
+    /// The number of open accounts.
+    fn accounts(&self, ledger: Ledger) -> usize;
+
+    /// The balance of an open account.
+    fn balance(&self, ledger: Ledger, account: u16) -> u64;
+
+    /// Whether a record passed on this ledger had this number.
+    fn number_used(&self, ledger: Ledger, number: u64) -> bool;
+
+    /// The refusal of an arrival by what the other ledger has done.
+    fn arrival_refusal(&self, arrival: &Record) -> Option<u8>;
+
+    /// How many records have passed on this ledger.
+    fn passed_count(&self, ledger: Ledger) -> usize;
+}
+
+/// The refusal that is due to a record, if any.
+pub fn judge(book: &impl Book, record: &Record) -> Option<u8> {
+    let ledger = record.ledger();
+    if !accounts_open(record, |side| book.accounts(side)) {
+        return Some(refusal::ACCOUNT);
+    }
+    if !record.good {
+        return Some(refusal::VERDICT);
+    }
+    if book.number_used(ledger, record.number) {
+        return Some(refusal::NUMBER_USED);
+    }
+    if record.takes() {
+        if record.amount > book.balance(ledger, record.sender) {
+            return Some(refusal::BALANCE);
+        }
+    } else if let Some(number) = book.arrival_refusal(record) {
+        return Some(number);
+    }
+    if book.passed_count(ledger) >= CAPACITY {
+        return Some(refusal::TABLE_FULL);
+    }
+    None
+}
+
+/// Whether both accounts of a record are open.
+pub fn accounts_open(record: &Record, accounts: impl Fn(Ledger) -> usize) -> bool {
+    usize::from(record.sender) < accounts(record.sender_ledger())
+        && usize::from(record.receiver) < accounts(record.receiver_ledger())
+}
+
+/// Refusal 1: whether an account count is outside 1 to 56.
+pub fn account_count_wrong(count: usize) -> bool {
+    !(1..=MAX_ACCOUNTS).contains(&count)
+}
+
+/// Refusal 2: whether all stakes together are above 2^63-1. Exact.
+pub fn stakes_total_wrong(total: u128) -> bool {
+    total > u128::from(MAX_AMOUNT)
+}
+
+/// An exact sum of balances or stakes.
+pub fn sum(amounts: &[u64]) -> u128 {
+    amounts.iter().map(|&amount| u128::from(amount)).sum()
+}

@@ -1,0 +1,11 @@
+//! Not part of paper 01: journals made from a seed, the comparison of another
+//! program's listings with the library's, and stored and full journals.
+
+pub mod build;
+pub mod compare;
+pub mod families;
+pub mod full;
+pub mod process;
+pub mod rng;
+pub mod store;
+pub mod trader;

@@ -1,0 +1,463 @@
+//! Every refusal of records, openings and states at its boundary.
+
+use second_validator::answer::Answer::{self, Passed};
+use second_validator::guard::Guard;
+use second_validator::pair::PairBook;
+use second_validator::record::Ledger::{Far, Home};
+use second_validator::record::{Held, Record, MAX_AMOUNT};
+use second_validator::runner::build::{arrival, local, sending, RESERVED};
+
+fn refused(number: u8) -> Answer {
+    Answer::Refused { number, place: 0 }
+}
+
+fn refused_at(number: u8, place: u64) -> Answer {
+    Answer::Refused { number, place }
+}
+
+fn pair() -> PairBook {
+    PairBook::open(&[100, 50], &[20]).unwrap()
+}
+
+fn guard() -> Guard {
+    Guard::open(&[100, 50], 1, 20).unwrap()
+}
+
+/// A pair book with a local, an arrived sending and one in flight each way.
+fn traded() -> PairBook {
+    let mut book = pair();
+    let over = sending(Home, 0, 0, 7, 30);
+    let back = sending(Far, 0, 1, 8, 5);
+    for record in [
+        local(Home, 0, 1, 6, 1),
+        over,
+        over.matching_arrival(),
+        back,
+        back.matching_arrival(),
+        sending(Home, 1, 0, 9, 10),
+        sending(Far, 0, 0, 10, 3),
+    ] {
+        assert_eq!(book.call(&record.bytes()), Passed);
+    }
+    book
+}
+
+fn traded_guard() -> Guard {
+    let mut guard = guard();
+    for record in [
+        local(Home, 0, 1, 6, 1),
+        sending(Home, 0, 0, 7, 30),
+        arrival(Home, 0, 1, 8, 45),
+    ] {
+        assert_eq!(guard.call(&record.bytes()), Passed);
+    }
+    guard
+}
+
+/// The altered state is refused with 3 by both calls and handed back as it is.
+fn assert_pair_refused(alter: impl FnOnce(&mut PairBook)) {
+    let mut book = traded();
+    alter(&mut book);
+    let before = book.clone();
+    let record = local(Home, 0, 0, 77, 1).bytes();
+    assert_eq!(book.call(&record), refused(3));
+    assert_eq!(book.call(&[]), refused(3));
+    assert_eq!(book.call_list(&record), refused(3));
+    assert_eq!(book.call_list(&[]), refused(3));
+    assert_eq!(book, before);
+}
+
+fn assert_guard_refused(alter: impl FnOnce(&mut Guard)) {
+    let mut guard = traded_guard();
+    alter(&mut guard);
+    let before = guard.clone();
+    let record = local(Home, 0, 0, 77, 1).bytes();
+    assert_eq!(guard.call(&record), refused(3));
+    assert_eq!(guard.call(&[]), refused(3));
+    assert_eq!(guard.call_list(&record), refused(3));
+    assert_eq!(guard.call_list(&[]), refused(3));
+    assert_eq!(guard, before);
+}
+
+#[test]
+fn refusal_1_before_2() {
+    assert_eq!(PairBook::open(&[], &[1]), Err(refused(1)));
+    assert_eq!(PairBook::open(&[1], &[]), Err(refused(1)));
+    assert_eq!(PairBook::open(&[u64::MAX; 57], &[1]), Err(refused(1)));
+    assert_eq!(Guard::open(&[], 1, 0), Err(refused(1)));
+    assert_eq!(Guard::open(&[1], 0, u64::MAX), Err(refused(1)));
+    assert!(PairBook::open(&[0], &[0]).is_ok());
+}
+
+#[test]
+fn refusal_2_is_exact() {
+    let top = u64::MAX;
+    assert_eq!(PairBook::open(&[1 << 63, 1 << 63], &[0]), Err(refused(2)));
+    assert_eq!(PairBook::open(&[top, 1], &[5]), Err(refused(2)));
+    assert_eq!(PairBook::open(&[top; 56], &[top; 56]), Err(refused(2)));
+    assert_eq!(Guard::open(&[top, 1], 1, 0), Err(refused(2)));
+    assert_eq!(Guard::open(&[1], 1, top), Err(refused(2)));
+    let book = PairBook::open(&[MAX_AMOUNT - 3, 1], &[2]).unwrap();
+    assert_eq!(book.stake, MAX_AMOUNT);
+}
+
+#[test]
+fn refusal_3_counts() {
+    for accounts in [0, 57, usize::MAX] {
+        assert_pair_refused(|book| book.sides[0].accounts = accounts);
+        assert_pair_refused(|book| book.sides[1].accounts = accounts);
+        assert_guard_refused(|guard| guard.home.accounts = accounts);
+        assert_guard_refused(|guard| guard.far_accounts = accounts);
+    }
+    let filler = |book: &mut Vec<Held>, count: u64| {
+        book.extend((0..count).map(|i| Held::of(&local(Home, 0, 0, 1_000 + i, 1))));
+    };
+    assert_pair_refused(|book| filler(&mut book.sides[0].held, 509));
+    assert_guard_refused(|guard| filler(&mut guard.home.held, 510));
+    let mut full = traded();
+    filler(&mut full.sides[0].held, 508);
+    assert_eq!(full.call(&local(Home, 0, 0, 1, 1).bytes()), refused(41));
+}
+
+#[test]
+fn refusal_3_stake_and_sums() {
+    assert_pair_refused(|book| book.stake += 1);
+    assert_pair_refused(|book| book.stake -= 1);
+    assert_pair_refused(|book| book.sides[0].balances[0] += 1);
+    assert_pair_refused(|book| book.sides[1].balances[0] -= 1);
+    assert_guard_refused(|guard| guard.stake += 1);
+    assert_guard_refused(|guard| guard.far_due += 1);
+    assert_guard_refused(|guard| guard.home.balances[1] -= 1);
+    // The stake agrees, but is too high.
+    assert_pair_refused(|book| {
+        book.sides[0].balances[0] += (1 << 63) - book.stake;
+        book.stake = 1 << 63;
+    });
+    assert_guard_refused(|guard| {
+        guard.far_due += (1 << 63) - guard.stake;
+        guard.stake = 1 << 63;
+    });
+}
+
+#[test]
+fn refusal_3_sums_do_not_wrap() {
+    let mut book = PairBook::open(&[5, 5], &[0]).unwrap();
+    book.sides[0].balances = [0; 56];
+    book.sides[0].balances[0] = u64::MAX;
+    book.sides[0].balances[1] = 11;
+    assert_eq!(book.call(&[]), refused(3));
+    let mut guard = Guard::open(&[5], 1, 5).unwrap();
+    guard.home.balances[0] = u64::MAX;
+    guard.far_due = 11;
+    assert_eq!(guard.call(&[]), refused(3));
+}
+
+#[test]
+fn refusal_3_balance_beyond_accounts() {
+    // Sums agree in both states.
+    assert_pair_refused(|book| {
+        book.sides[0].balances[2] += 1;
+        book.sides[0].balances[0] -= 1;
+    });
+    assert_guard_refused(|guard| {
+        guard.home.balances[55] += 1;
+        guard.home.balances[0] -= 1;
+    });
+}
+
+#[test]
+fn refusal_3_held_records() {
+    let alterations: [fn(&mut Held); 10] = [
+        |held| held.kind = 0,
+        |held| held.kind = 4,
+        |held| held.ledger = 1,
+        |held| held.ledger = 2,
+        |held| held.verdict = 0,
+        |held| held.verdict = 2,
+        |held| held.amount = 0,
+        |held| held.amount = 1 << 63,
+        |held| held.sender = 2,
+        |held| held.receiver = 2,
+    ];
+    for alter in alterations {
+        assert_pair_refused(|book| alter(&mut book.sides[0].held[0]));
+        assert_guard_refused(|guard| alter(&mut guard.home.held[0]));
+    }
+    // Shared numbers.
+    assert_pair_refused(|book| book.sides[0].held[0].number = 9);
+    assert_guard_refused(|guard| guard.home.held[0].number = 7);
+    // A far receiver that is not open.
+    assert_pair_refused(|book| book.sides[0].held[3].receiver = 1);
+    assert_guard_refused(|guard| guard.home.held[1].receiver = 1);
+    assert_guard_refused(|guard| guard.home.held[2].sender = 1);
+}
+
+#[test]
+fn refusal_3_wrong_ledger() {
+    assert_pair_refused(|book| {
+        let held = book.sides[0].held.remove(0);
+        book.sides[1].held.push(held);
+    });
+    assert_guard_refused(|guard| guard.home.held.push(Held::of(&local(Far, 0, 0, 99, 1))));
+}
+
+#[test]
+fn refusal_3_arrival_without_sending() {
+    let unsent = Held::of(&arrival(Home, 0, 0, 50, 4));
+    // The sums agree all the same.
+    assert_pair_refused(|book| book.sides[0].held.push(unsent));
+    assert_pair_refused(|book| book.sides[0].held[2].amount += 1);
+    assert_pair_refused(|book| book.sides[0].held[2].receiver = 0);
+    assert_pair_refused(|book| book.sides[0].held[2].number = 60);
+    // Only a sending will do.
+    assert_pair_refused(|book| book.sides[0].held[1].kind = 1);
+    // The guard looks for none.
+    let mut guard = traded_guard();
+    guard.home.held.push(unsent);
+    assert_eq!(guard.call(&local(Home, 0, 0, 77, 1).bytes()), Passed);
+}
+
+#[test]
+fn states_that_stay_accepted() {
+    // Nothing is asked of a local's amount or of the order of held records.
+    let mut book = traded();
+    book.sides[0].held[0].amount = MAX_AMOUNT;
+    book.sides[0].held.reverse();
+    book.sides[1].held.reverse();
+    assert!(book.accepted());
+}
+
+#[test]
+fn refusal_21_lengths() {
+    let record = local(Home, 0, 1, 1, 1).bytes();
+    for length in 0..32 {
+        assert_eq!(pair().call(&record[..length]), refused(21));
+        assert_eq!(guard().call(&record[..length]), refused(21));
+    }
+    let mut long = record.to_vec();
+    long.push(0);
+    assert_eq!(pair().call(&long), refused(21));
+    assert_eq!(guard().call(&long), refused(21));
+    assert_eq!(pair().call(&record), Passed);
+}
+
+#[test]
+fn refusal_21_bytes() {
+    let record = local(Home, 0, 1, 1, 1).bytes();
+    for value in 1..=255 {
+        for place in RESERVED {
+            let mut bytes = record;
+            bytes[place] = value;
+            assert_eq!(pair().call(&bytes), refused(21));
+        }
+    }
+    for value in 0..=255 {
+        for (place, lawful) in [(0, 1..=3), (1, 0..=1), (24, 0..=1)] {
+            let mut bytes = record;
+            bytes[place] = value;
+            assert_eq!(Record::read(&bytes).is_some(), lawful.contains(&value));
+        }
+    }
+    for (amount, lawful) in [
+        (0, false),
+        (1, true),
+        (MAX_AMOUNT, true),
+        (MAX_AMOUNT + 1, false),
+        (u64::MAX, false),
+    ] {
+        let bytes = local(Home, 0, 1, 1, amount).bytes();
+        assert_eq!(Record::read(&bytes).is_some(), lawful);
+    }
+}
+
+#[test]
+fn records_read_as_written() {
+    for kind in [local, sending, arrival] {
+        for ledger in [Home, Far] {
+            let record = kind(ledger, 0x1234, 0xfedc, u64::MAX - 5, MAX_AMOUNT);
+            assert_eq!(Record::read(&record.bytes()), Some(record));
+            let bad = Record {
+                good: false,
+                ..record
+            };
+            assert_eq!(Record::read(&bad.bytes()), Some(bad));
+        }
+    }
+}
+
+#[test]
+fn refusal_22_looks_at_the_right_ledger() {
+    // Home has accounts 0 and 1, far has 0.
+    let answers = [
+        (local(Home, 1, 1, 1, 1), Passed),
+        (local(Home, 2, 0, 1, 1), refused(22)),
+        (local(Home, 0, 2, 1, 1), refused(22)),
+        (local(Far, 0, 0, 1, 1), Passed),
+        (local(Far, 1, 0, 1, 1), refused(22)),
+        (local(Far, 0, 1, 1, 1), refused(22)),
+        (sending(Home, 1, 0, 1, 1), Passed),
+        (sending(Home, 0, 1, 1, 1), refused(22)),
+        (sending(Far, 0, 1, 1, 1), Passed),
+        (sending(Far, 1, 0, 1, 1), refused(22)),
+        (arrival(Home, 0, 1, 1, 1), refused(31)),
+        (arrival(Home, 1, 0, 1, 1), refused(22)),
+        (arrival(Far, 1, 0, 1, 1), refused(31)),
+        (arrival(Far, 0, 1, 1, 1), refused(22)),
+        (local(Home, 256, 0, 1, 1), refused(22)),
+        (local(Home, 0, 65_535, 1, 1), refused(22)),
+    ];
+    for (record, answer) in answers {
+        assert_eq!(pair().call(&record.bytes()), answer, "{record:?}");
+    }
+}
+
+#[test]
+fn refusal_24_counts_every_kind_on_its_ledger_only() {
+    for first in [local(Home, 0, 1, 5, 1), sending(Home, 0, 0, 5, 1)] {
+        for second in [local(Home, 0, 1, 5, 1), sending(Home, 0, 0, 5, 1)] {
+            let mut book = pair();
+            assert_eq!(book.call(&first.bytes()), Passed);
+            assert_eq!(book.call(&second.bytes()), refused(24));
+            let home_arrival = arrival(Home, 0, 0, 5, 1);
+            assert_eq!(book.call(&home_arrival.bytes()), refused(24));
+            assert_eq!(book.call(&local(Far, 0, 0, 5, 1).bytes()), Passed);
+        }
+    }
+    // A far local strands the arrival: it stays in flight.
+    let mut book = pair();
+    book.call(&sending(Home, 0, 0, 5, 9).bytes());
+    book.call(&local(Far, 0, 0, 5, 1).bytes());
+    assert_eq!(book.call(&arrival(Far, 0, 0, 5, 9).bytes()), refused(24));
+    assert_eq!(book.in_flight(), 9);
+}
+
+#[test]
+fn order_of_the_pair_book() {
+    let mut book = pair();
+    for number in 0..512 {
+        book.call(&local(Home, 0, 0, number, 1).bytes());
+    }
+    let fresh = local(Home, 0, 0, 600, 1);
+    let uncovered = Record {
+        amount: 101,
+        ..fresh
+    };
+    let used = Record {
+        number: 3,
+        ..uncovered
+    };
+    let unsigned = Record {
+        good: false,
+        ..used
+    };
+    let absent = Record {
+        sender: 9,
+        ..unsigned
+    };
+    let formless = Record {
+        amount: 0,
+        ..absent
+    };
+    let unmatched = arrival(Home, 0, 0, 600, 1);
+    for (record, number) in [
+        (fresh, 41),
+        (uncovered, 25),
+        (used, 24),
+        (unsigned, 23),
+        (absent, 22),
+        (formless, 21),
+        (unmatched, 31),
+    ] {
+        assert_eq!(book.call(&record.bytes()), refused(number));
+    }
+    book.stake += 1;
+    assert_eq!(book.call(&formless.bytes()), refused(3));
+}
+
+#[test]
+fn order_of_the_guard() {
+    let mut guard = guard();
+    for number in 0..512 {
+        guard.call(&local(Home, 0, 0, number, 1).bytes());
+    }
+    let fresh = arrival(Home, 0, 0, 600, 1);
+    let undue = Record {
+        amount: 21,
+        ..fresh
+    };
+    let used = Record { number: 3, ..undue };
+    let unsigned = Record {
+        good: false,
+        ..used
+    };
+    let absent = Record {
+        sender: 9,
+        ..unsigned
+    };
+    let far = Record {
+        kind: local(Far, 0, 0, 0, 1).kind,
+        ..absent
+    };
+    let formless = Record { amount: 0, ..far };
+    for (record, number) in [
+        (fresh, 41),
+        (undue, 32),
+        (used, 24),
+        (unsigned, 23),
+        (absent, 22),
+        (far, 33),
+        (formless, 21),
+        (local(Home, 0, 0, 600, 101), 25),
+    ] {
+        assert_eq!(guard.call(&record.bytes()), refused(number));
+    }
+    for record in [sending(Far, 0, 0, 1, 1), arrival(Far, 0, 0, 1, 1)] {
+        assert_eq!(guard.call(&record.bytes()), refused(33));
+    }
+    guard.stake += 1;
+    assert_eq!(guard.call(&formless.bytes()), refused(3));
+}
+
+#[test]
+fn lists_pass_whole_or_not_at_all() {
+    let over = sending(Home, 0, 0, 7, 30);
+    let mut list = [over.bytes(), over.matching_arrival().bytes()].concat();
+    let mut book = pair();
+    assert_eq!(book.call_list(&[]), Passed);
+    assert_eq!(book, pair());
+    assert_eq!(book.call_list(&list), Passed);
+    assert_eq!(book.far_total(), 50);
+
+    let mut book = pair();
+    list.extend(over.bytes());
+    assert_eq!(book.call_list(&list), refused_at(24, 2));
+    assert_eq!(book, pair());
+    list.truncate(64 + 5);
+    assert_eq!(book.call_list(&list), refused_at(21, 2));
+    assert_eq!(book, pair());
+
+    let mut guard = guard();
+    let opened = guard.clone();
+    assert_eq!(guard.call_list(&list), refused_at(33, 1));
+    assert_eq!(guard, opened);
+    assert_eq!(guard.call_list(&list[..33]), refused_at(21, 1));
+    assert_eq!(guard, opened);
+    assert_eq!(guard.call_list(&list[..32]), Passed);
+    assert_eq!(guard.far_due, 50);
+}
+
+#[test]
+fn arrival_of_a_sending_refused_for_a_full_table() {
+    let mut book = pair();
+    for number in 0..512 {
+        book.call(&local(Home, 0, 0, number, 1).bytes());
+    }
+    let over = sending(Home, 0, 0, 600, 1);
+    assert_eq!(book.call(&over.bytes()), refused(41));
+    assert_eq!(book.call(&over.matching_arrival().bytes()), refused(31));
+    // The full ledger's arrival is refused, its sending stays in flight.
+    let back = sending(Far, 0, 0, 600, 2);
+    assert_eq!(book.call(&back.bytes()), Passed);
+    assert_eq!(book.call(&back.matching_arrival().bytes()), refused(41));
+    assert_eq!(book.in_flight(), 2);
+}
