@@ -79,17 +79,11 @@ fn list(fd: i32) {
 
 // The name of argument i, and the lines of its journal.
 fn journal(i: usize) {
-    let mut path = io::buffer();
-    let n = os::arg(i, &mut path);
-    io::write_all(STDOUT_FILENO, &path[..n]);
-    io::write_all(STDOUT_FILENO, b"\n");
-    let fd = os::open_read(&path[..n]);
-    if fd < 0 {
-        io::write_all(STDOUT_FILENO, b"not opened\n");
-        return;
+    let fd = named_files::open(i);
+    if 0 <= fd {
+        list(fd);
+        libc::close(fd);
     }
-    list(fd);
-    libc::close(fd);
 }
 
 fn main() {

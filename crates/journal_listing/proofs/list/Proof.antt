@@ -1,4 +1,4 @@
--- `crosslist::main` meets its contract. Assumes nothing.
+-- `journal_listing::list` meets its contract. Assumes nothing.
 use Prim.Native.Nat.{ℕ, _*_}
 use mathlib.Core.Path.{_∙_, refl, sym}
 use native.Mathlib.Omega.{arith}
@@ -6,9 +6,9 @@ use lib.ListN.{length-replicate}
 use lib.Seq.{length-take-le}
 use borrow.Author.Needs.{needs}
 use borrow.Author.Tests.{not-false}
-use Rattle.crosslist.proofs.Started.{started}
-use Rattle.crosslist.proofs.main.Statement.{statement}
-use Rattle.crosslist.proofs.main.Tie as tie
+use Rattle.journal_listing.proofs.Started.{started}
+use Rattle.journal_listing.proofs.list.Statement.{statement}
+use Rattle.journal_listing.proofs.list.Tie as tie
 
 pairs-requires : tie.Need-pairs-requires
 pairs-requires c κs = search needs
@@ -123,8 +123,8 @@ list-rest-requires c κs =
 returns-2 : tie.Need-returns-2
 returns-2 c = search needs
 
-pub main-spec : {M : Type 1} → statement M
-main-spec =
+pub list-spec : {M : Type 1} → statement M
+list-spec =
     tie.close
     (tie.spec
     pairs-requires

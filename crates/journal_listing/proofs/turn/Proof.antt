@@ -1,14 +1,14 @@
--- `crosslist::turn` meets its contract. Assumes nothing.
+-- `journal_listing::turn` meets its contract. Assumes nothing.
 use Prim.Native.Nat.{_*_}
 use mathlib.Core.Path.{_∙_, refl, sym}
 use native.Mathlib.Omega.{arith}
 use lib.Seq.{length-take-le}
 use borrow.Author.Needs.{needs}
 use Rattle.block_listing.proofs.Records.{three-figures}
-use Rattle.crosslist.proofs.Started.{take-within}
+use Rattle.journal_listing.proofs.Started.{take-within}
 use Rattle.pair_steps.specs.Steps.{Ready, lent}
-use Rattle.crosslist.proofs.turn.Statement.{statement}
-use Rattle.crosslist.proofs.turn.Tie as tie
+use Rattle.journal_listing.proofs.turn.Statement.{statement}
+use Rattle.journal_listing.proofs.turn.Tie as tie
 
 read-full-requires : tie.Need-read-full-requires
 read-full-requires c κs = search needs

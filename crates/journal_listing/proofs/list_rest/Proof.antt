@@ -1,4 +1,4 @@
--- `crosslist::list_rest` meets its contract. Assumes nothing.
+-- `journal_listing::list_rest` meets its contract. Assumes nothing.
 use Prim.Native.Nat.{_*_}
 use mathlib.Core.Path.{_≡_, _∙_, sym}
 use native.Mathlib.Omega.{arith}
@@ -7,15 +7,15 @@ use borrow.Author.Needs.{needs}
 use Rattle.block_listing.proofs.Records.{three-figures}
 use Rattle.block_listing.specs.Runs.{Bounded}
 use Rattle.pair_steps.specs.Steps.{Ready, lent}
-use Rattle.crosslist.proofs.list_rest.Statement.{statement}
-use Rattle.crosslist.proofs.list_rest.Tie as tie
+use Rattle.journal_listing.proofs.list_rest.Statement.{statement}
+use Rattle.journal_listing.proofs.list_rest.Tie as tie
 
 abbrev Inv-loop : tie.InvT-loop
-Inv-loop input₀ table out₀ supply figures₀ accounts counts₀ balances₀ numbers₀ amounts₀ senders₀ receivers₀ kinds₀ ledgers₀ verdicts₀ heads₀ nexts₀ run₀ turns₀ input out figures counts balances numbers amounts senders receivers kinds ledgers verdicts heads nexts run turns =
+Inv-loop source target input₀ table out₀ supply figures₀ accounts counts₀ balances₀ numbers₀ amounts₀ senders₀ receivers₀ kinds₀ ledgers₀ verdicts₀ heads₀ nexts₀ run₀ turns₀ input out figures counts balances numbers amounts senders receivers kinds ledgers verdicts heads nexts run turns =
     Bounded run × (run .end ≡ 0) × (length input ≡ 64 * 512) × (length out ≡ 64 * (14 * 128)) × Ready (lent supply accounts counts balances numbers amounts senders receivers kinds ledgers verdicts) figures heads nexts
 
 abbrev μ-loop : tie.MeasureT-loop
-μ-loop input₀ table out₀ supply figures₀ accounts counts₀ balances₀ numbers₀ amounts₀ senders₀ receivers₀ kinds₀ ledgers₀ verdicts₀ heads₀ nexts₀ run₀ turns₀ input out figures counts balances numbers amounts senders receivers kinds ledgers verdicts heads nexts run turns =
+μ-loop source target input₀ table out₀ supply figures₀ accounts counts₀ balances₀ numbers₀ amounts₀ senders₀ receivers₀ kinds₀ ledgers₀ verdicts₀ heads₀ nexts₀ run₀ turns₀ input out figures counts balances numbers amounts senders receivers kinds ledgers verdicts heads nexts run turns =
     turns
 
 -- the state is ready

@@ -1,0 +1,214 @@
+// Lists a journal: reads it from one file and prints its lines to another, in chunks. That the chunks' texts are the listing is
+// proved (crates listing, opening_listing, block_listing); what the system reads and writes is not said.
+ghost use Prim.Native.Nat.{_*_};
+ghost use mathlib.Core.Path.{_≡_};
+ghost use lib.ListN.{length};
+ghost use Rattle.block_listing.specs.Runs.{Bounded};
+ghost use Rattle.hex_digits.specs.Hex.{pairTable};
+ghost use Rattle.pair_steps.specs.Steps.{Ready, lent};
+use block_listing::Run;
+use block_listing::list_chunk;
+use hex_digits::pairs;
+use opening_listing::list_opening;
+use pair_tables::HEADS;
+use pair_tables::PLACES;
+use pair_validator::ACCOUNTS;
+
+// The bytes of a chunk: 64 blocks.
+const CHUNK: usize = 64 * 512;
+// The most characters of a chunk's lines.
+const TEXT: usize = 64 * (14 * 128);
+// The most chunks after blocks 0 and 1.
+const CHUNKS: u64 = 1024;
+
+// One chunk: read, listed and written.
+fn turn<'a>(
+    source: i32,
+    target: i32,
+    run: Run,
+    input: &'a mut [u8],
+    table: &'a [u8; 512],
+    out: &'a mut [u8],
+    supply: u64,
+    figures: &'a mut [u64],
+    accounts: &'a [usize],
+    counts: &'a mut [usize],
+    balances: &'a mut [u64],
+    numbers: &'a mut [u64],
+    amounts: &'a mut [u64],
+    senders: &'a mut [u16],
+    receivers: &'a mut [u16],
+    kinds: &'a mut [u8],
+    ledgers: &'a mut [u8],
+    verdicts: &'a mut [u8],
+    heads: &'a mut [u16],
+    nexts: &'a mut [u16],
+) -> Run
+    requires { ⌜ Bounded run × (run .end ≡ 0) × (length (now input) ≡ 64 * 512) × (length (now out) ≡ 64 * (14 * 128))
+        × (now table ≡ pairTable) × Ready (lent supply (now accounts) (now counts) (now balances) (now numbers) (now amounts) (now senders) (now receivers) (now kinds) (now ledgers) (now verdicts)) (now figures) (now heads) (now nexts) ⌝ }
+    ensures { λ r. ⌜ Bounded r × (r .end ≡ 0) × Ready (lent supply (now (accounts .entry)) (now (counts .exit)) (now (balances .exit)) (now (numbers .exit)) (now (amounts .exit)) (now (senders .exit)) (now (receivers .exit)) (now (kinds .exit)) (now (ledgers .exit)) (now (verdicts .exit))) (now (figures .exit)) (now (heads .exit)) (now (nexts .exit)) ⌝ }
+{
+    let n = io::read_full(source, input);
+    let next = list_chunk(
+        run,
+        &input[..n],
+        table,
+        out,
+        supply,
+        figures,
+        accounts,
+        counts,
+        balances,
+        numbers,
+        amounts,
+        senders,
+        receivers,
+        kinds,
+        ledgers,
+        verdicts,
+        heads,
+        nexts,
+    );
+    let end = next.end;
+    io::write_all(target, &out[..end]);
+    if n < CHUNK {
+        return Run {
+            index: next.index,
+            block: next.block,
+            before: next.before,
+            end: 0,
+            going: false,
+        };
+    }
+    Run {
+        index: next.index,
+        block: next.block,
+        before: next.before,
+        end: 0,
+        going: next.going,
+    }
+}
+
+// The blocks after an accepted opening, chunk by chunk, up to a bad block or the end of the journal.
+fn list_rest<'a>(
+    source: i32,
+    target: i32,
+    start: Run,
+    input: &'a mut [u8],
+    table: &'a [u8; 512],
+    out: &'a mut [u8],
+    supply: u64,
+    figures: &'a mut [u64],
+    accounts: &'a [usize],
+    counts: &'a mut [usize],
+    balances: &'a mut [u64],
+    numbers: &'a mut [u64],
+    amounts: &'a mut [u64],
+    senders: &'a mut [u16],
+    receivers: &'a mut [u16],
+    kinds: &'a mut [u8],
+    ledgers: &'a mut [u8],
+    verdicts: &'a mut [u8],
+    heads: &'a mut [u16],
+    nexts: &'a mut [u16],
+)
+    requires { ⌜ Bounded start × (start .end ≡ 0) × (length (now input) ≡ 64 * 512) × (length (now out) ≡ 64 * (14 * 128))
+        × (now table ≡ pairTable) × Ready (lent supply (now accounts) (now counts) (now balances) (now numbers) (now amounts) (now senders) (now receivers) (now kinds) (now ledgers) (now verdicts)) (now figures) (now heads) (now nexts) ⌝ }
+{
+    let mut run = start;
+    let mut turns = CHUNKS;
+    while 0 < turns {
+        if !run.going {
+            return;
+        }
+        run = turn(
+            source,
+            target,
+            run,
+            input,
+            table,
+            out,
+            supply,
+            figures,
+            accounts,
+            counts,
+            balances,
+            numbers,
+            amounts,
+            senders,
+            receivers,
+            kinds,
+            ledgers,
+            verdicts,
+            heads,
+            nexts,
+        );
+        turns -= 1;
+    }
+}
+
+// The listing of the journal in the file `source`, to the file `target`.
+pub fn list(source: i32, target: i32) {
+    let table = pairs();
+    let mut input = [0u8; CHUNK];
+    let mut out = [0u8; TEXT];
+    let mut figures = [0u64; 3];
+    let mut accounts = [0usize; 2];
+    let mut counts = [0usize; 2];
+    let mut balances = [0u64; ACCOUNTS];
+    let mut numbers = [0u64; PLACES];
+    let mut amounts = [0u64; PLACES];
+    let mut senders = [0u16; PLACES];
+    let mut receivers = [0u16; PLACES];
+    let mut kinds = [0u8; PLACES];
+    let mut ledgers = [0u8; PLACES];
+    let mut verdicts = [0u8; PLACES];
+    let mut heads = [0u16; HEADS];
+    let mut nexts = [0u16; PLACES];
+    let mut home = [0u8; 512];
+    let mut far = [0u8; 512];
+    let a = io::read_full(source, &mut home);
+    let b = io::read_full(source, &mut far);
+    let start = list_opening(
+        &home[..a],
+        &far[..b],
+        &mut out,
+        &mut figures,
+        &mut accounts,
+        &mut balances,
+    );
+    let end = start.end;
+    io::write_all(target, &out[..end]);
+    if !start.going {
+        return;
+    }
+    let run = Run {
+        index: 0,
+        block: 2,
+        before: start.before,
+        end: 0,
+        going: true,
+    };
+    list_rest(
+        source,
+        target,
+        run,
+        &mut input,
+        &table,
+        &mut out,
+        start.supply,
+        &mut figures,
+        &accounts,
+        &mut counts,
+        &mut balances,
+        &mut numbers,
+        &mut amounts,
+        &mut senders,
+        &mut receivers,
+        &mut kinds,
+        &mut ledgers,
+        &mut verdicts,
+        &mut heads,
+        &mut nexts,
+    );
+}
