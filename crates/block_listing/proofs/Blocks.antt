@@ -17,6 +17,7 @@ use Rattle.block_listing.specs.declared.Run.{Run}
 use Rattle.journal_reader.proofs.Judging.{right-facts}
 use Rattle.journal_reader.specs.Judged.{blockRefusal}
 use Rattle.lines.specs.Lines.{faultLine}
+use Rattle.listing.proofs.Blocks.{bad-text, right-text}
 use Rattle.listing.specs.Chunks.{stateFigures}
 use Rattle.listing.specs.Listing.{afterBlock, blockText, recordLines, stateListed}
 use Rattle.pair_validator.specs.State.{pairChecker}
@@ -34,10 +35,10 @@ pub record Stopped (run : Run) (s : PairValidator) (b : List ℕ) (m end : ℕ) 
 -- by its refusal
 stopped-by : (run : Run) (s : PairValidator) (b : List ℕ) (m end : ℕ) → blockRefusal b (run .block) (run .before) ≡ suc m
     → Stopped run s b (suc m) end
-unfolding blockText afterBlock
+unfolding afterBlock
 stopped-by run s b m end e =
     record {
-      text = rw e;
+      text = bad-text pairChecker (standing run s) b stateFigures m e;
       stands = rw e (record { index-is = refl; block-is = refl; before-is = refl; going-is = refl });
       leaves = rw e refl;
     }
@@ -72,7 +73,7 @@ pub record Continued (run : Run) (s : PairValidator) (b : List ℕ) : Type 0 whe
 -- by its refusal
 pub continued : (run : Run) (s : PairValidator) (b : List ℕ) → Bounded run → blockRefusal b (run .block) (run .before) ≡ 0
     → Continued run s b
-unfolding blockText afterBlock
+unfolding afterBlock
 continued run s b w e =
     let r = right-facts b (run .block) (run .before) e in
     let m = formed-block-facts b (run .block) (run .before) (r .formed) .fits in
@@ -83,7 +84,7 @@ continued run s b w e =
       low = omega (arith, r .low);
       first-fits = omega (arith, w .index-fits, w .block-fits);
       index-next = omega (arith, m, l, w .index-fits);
-      text = rw e;
+      text = right-text pairChecker (standing run s) b stateFigures e;
       state-is = rw e refl;
       index-is = rw e refl;
       block-is = rw e (omega arith);

@@ -4,4 +4,3 @@ pub mod Carried
 pub mod Chunked
 pub mod Cutting
 pub mod Records
-pub mod Standings

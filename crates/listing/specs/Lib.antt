@@ -2,3 +2,4 @@
 
 pub mod Listing
 pub mod Chunks
+pub mod Runs
