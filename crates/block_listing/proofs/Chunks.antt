@@ -60,7 +60,8 @@ chunk-start start s chunk d z b r =
     refl-zero h = refl
 
 -- there is room for a block more
-pub chunk-room : (start : Run) (first : PairValidator) (chunk d : List ℕ) (at : ℕ) (run : Run) (s : PairValidator) (e : List ℕ) {f h k : List ℕ}
+pub chunk-room : (start : Run) (first : PairValidator) (chunk d : List ℕ) (at : ℕ) (run : Run) (s : PairValidator) (e : List ℕ) {f
+    h k : List ℕ}
     → ChunkListed start first chunk d at run s e f h k → at < length chunk → length chunk ≤ 64 * 512 → 64 * (14 * 128) ≤ length d
     → run .end + 14 * 128 ≤ length e
 chunk-room start first chunk d at run s e a l m n =
@@ -135,7 +136,8 @@ done-of start first chunk d at run s e a t g =
     }
 
 -- no block is left
-pub chunk-end : (start : Run) (first : PairValidator) (chunk d : List ℕ) (at : ℕ) (run : Run) (s : PairValidator) (e : List ℕ) {f h k : List ℕ}
+pub chunk-end : (start : Run) (first : PairValidator) (chunk d : List ℕ) (at : ℕ) (run : Run) (s : PairValidator) (e : List ℕ) {f h
+    k : List ℕ}
     → ChunkListed start first chunk d at run s e f h k → length chunk ≤ at → ChunkDone start first chunk run s e
 chunk-end start first chunk d at run s e a l =
     let z = parts-none 512 at chunk l in

@@ -26,7 +26,8 @@ refused-leaves c s b (suc n) q z = rw (← q)
 -- ## The figures
 
 -- the text of the figures beside a state
-pub figures-text : (s : PairValidator) {f h n : List ℕ} → Ready s f h n → figuresText (getD f 0 0) (getD f 1 0) (getD f 2 0) ≡ stateFigures s
+pub figures-text : (s : PairValidator) {f h n : List ℕ} → Ready s f h n → figuresText (getD f 0 0) (getD f 1 0) (getD f 2 0) ≡
+    stateFigures s
 figures-text s a = rw (a .figures-are)
 
 -- there are three
@@ -88,7 +89,8 @@ pub listed-next : (block : List ℕ) (first o : ℕ) (d : List ℕ) (start : Pai
     → Put e p (recordLine (first + i) b m (take n' text')) e' p'
     → Listed block first o d start (i + 1) e' p' s' f' h' k' text' n'
 unfolding recordsIn
-listed-next block first o d start i {e} {e'} {p} {p'} {s} {s'} {f} {h} {k} {f'} {h'} {k'} {text} {text'} {n} {n'} b m a q z j w r x y u v g t =
+listed-next block first o d start i {e} {e'} {p} {p'} {s} {s'} {f} {h} {k} {f'} {h'} {k'} {text} {text'} {n} {n'} b m a q z j w r x
+    y u v g t =
     let l = length-records i block in
     let text-is : take n' text' ≡ stateFigures s' = by-refusal m j x y in
     let line : recordLine (first + i) b m (take n' text')

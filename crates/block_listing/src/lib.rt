@@ -3,11 +3,11 @@
 ghost use Prim.Native.Nat.{_+_, _*_, _<_, _≤_, _^_};
 ghost use mathlib.Core.Path.{_≡_};
 ghost use lib.ListN.{length, take};
-ghost use Rattle.block_format.specs.Blocks.{recordsIn};
+ghost use Rattle.block_format.specs.Blocks.{recordsIn, recordsPerBlock};
 ghost use Rattle.block_listing.specs.Runs.{Bounded, StandsAt, standing};
 ghost use Rattle.hex_digits.specs.Hex.{pairTable};
-ghost use Rattle.lines.specs.Lines.{Put, figuresText};
-ghost use Rattle.listing.specs.Chunks.{afterChunk, chunkText, stateFigures};
+ghost use Rattle.lines.specs.Lines.{Put, figuresRoom, figuresText, lineRoom};
+ghost use Rattle.listing.specs.Chunks.{afterChunk, chunkRoom, chunkSize, chunkText, stateFigures};
 ghost use Rattle.listing.specs.Listing.{afterBlock, blockText, recordLines, stateListed};
 ghost use Rattle.pair_steps.specs.Steps.{Ready, lent};
 ghost use Rattle.pair_validator.specs.State.{pairChecker};
@@ -44,10 +44,10 @@ fn put_figures_if(
     far: u64,
     flight: u64,
 ) -> usize
-    requires { ⌜ (length (now text) ≡ 64) × (n ≤ 64) ⌝ }
+    requires { ⌜ (length (now text) ≡ figuresRoom) × (n ≤ figuresRoom) ⌝ }
     ensures passed { λ r. ⌜ (refusal ≡ 0 → take r (now (text .exit)) ≡ figuresText home far flight) ⌝ }
     ensures refused { λ r. ⌜ ((refusal ≡ 0 → ⊥) → take r (now (text .exit)) ≡ take n (now (text .entry))) ⌝ }
-    ensures fits { λ r. ⌜ (r ≤ 64) × (length (now (text .exit)) ≡ 64) ⌝ }
+    ensures fits { λ r. ⌜ (r ≤ figuresRoom) × (length (now (text .exit)) ≡ figuresRoom) ⌝ }
 {
     if refusal != 0 {
         return n;
@@ -78,12 +78,24 @@ fn list_records<'a>(
     heads: &'a mut [u16],
     nexts: &'a mut [u16],
 ) -> usize
-    requires { ⌜ (length (now block) ≡ 512) × (count ≤ 14) × (first < 2 ^ 32) × (o + 14 * 128 ≤ length (now out))
-        × (now pairs ≡ pairTable) × Ready (lent supply (now accounts) (now counts) (now balances) (now numbers) (now amounts) (now senders) (now receivers) (now kinds) (now ledgers) (now verdicts)) (now figures) (now heads) (now nexts) ⌝ }
-    ensures puts { λ r. ⌜ Put (now (out .entry)) o (recordLines pairChecker stateFigures (lent supply (now (accounts .entry)) (now (counts .entry)) (now (balances .entry)) (now (numbers .entry)) (now (amounts .entry)) (now (senders .entry)) (now (receivers .entry)) (now (kinds .entry)) (now (ledgers .entry)) (now (verdicts .entry))) first
+    requires { ⌜ (length (now block) ≡ 512) × (count ≤ recordsPerBlock) × (first < 2 ^ 32) × (o + recordsPerBlock * lineRoom ≤
+        length (now out))
+        × (now pairs ≡ pairTable) × Ready (lent supply (now accounts) (now counts) (now balances) (now numbers) (now amounts)
+        (now senders) (now receivers) (now kinds) (now ledgers) (now verdicts)) (now figures) (now heads) (now nexts) ⌝ }
+    ensures puts { λ r. ⌜ Put (now (out .entry)) o (recordLines pairChecker stateFigures (lent supply (now (accounts .entry))
+        (now (counts .entry)) (now (balances .entry)) (now (numbers .entry)) (now (amounts .entry)) (now (senders .entry))
+        (now (receivers .entry)) (now (kinds .entry)) (now (ledgers .entry)) (now (verdicts .entry))) first
         (recordsIn count (now (block .entry)))) (now (out .exit)) r ⌝ }
-    ensures leaves { λ r. ⌜ lent supply (now (accounts .entry)) (now (counts .exit)) (now (balances .exit)) (now (numbers .exit)) (now (amounts .exit)) (now (senders .exit)) (now (receivers .exit)) (now (kinds .exit)) (now (ledgers .exit)) (now (verdicts .exit)) ≡ stateListed pairChecker (lent supply (now (accounts .entry)) (now (counts .entry)) (now (balances .entry)) (now (numbers .entry)) (now (amounts .entry)) (now (senders .entry)) (now (receivers .entry)) (now (kinds .entry)) (now (ledgers .entry)) (now (verdicts .entry))) (recordsIn count (now (block .entry))) ⌝ }
-    ensures keeps { λ r. ⌜ Ready (lent supply (now (accounts .entry)) (now (counts .exit)) (now (balances .exit)) (now (numbers .exit)) (now (amounts .exit)) (now (senders .exit)) (now (receivers .exit)) (now (kinds .exit)) (now (ledgers .exit)) (now (verdicts .exit))) (now (figures .exit)) (now (heads .exit)) (now (nexts .exit)) × (r ≤ o + 14 * 128) ⌝ }
+    ensures leaves { λ r. ⌜ lent supply (now (accounts .entry)) (now (counts .exit)) (now (balances .exit))
+        (now (numbers .exit)) (now (amounts .exit)) (now (senders .exit)) (now (receivers .exit)) (now (kinds .exit))
+        (now (ledgers .exit)) (now (verdicts .exit)) ≡ stateListed pairChecker (lent supply (now (accounts .entry))
+        (now (counts .entry)) (now (balances .entry)) (now (numbers .entry)) (now (amounts .entry)) (now (senders .entry))
+        (now (receivers .entry)) (now (kinds .entry)) (now (ledgers .entry)) (now (verdicts .entry))) (recordsIn count
+        (now (block .entry))) ⌝ }
+    ensures keeps { λ r. ⌜ Ready (lent supply (now (accounts .entry)) (now (counts .exit)) (now (balances .exit))
+        (now (numbers .exit)) (now (amounts .exit)) (now (senders .exit)) (now (receivers .exit)) (now (kinds .exit))
+        (now (ledgers .exit)) (now (verdicts .exit))) (now (figures .exit)) (now (heads .exit))
+        (now (nexts .exit)) × (r ≤ o + recordsPerBlock * lineRoom) ⌝ }
 {
     let mut text = [0u8; FIGURES];
     let mut n = put_figures(&mut text, 0, figures[0], figures[1], figures[2]);
@@ -116,7 +128,7 @@ fn list_records<'a>(
 }
 
 // A block: its lines, or its fault.
-pub fn list_block<'a>(
+fn list_block<'a>(
     run: Run,
     block: &'a [u8],
     pairs: &'a [u8; 512],
@@ -136,13 +148,26 @@ pub fn list_block<'a>(
     heads: &'a mut [u16],
     nexts: &'a mut [u16],
 ) -> Run
-    requires { ⌜ Bounded run × (run .end + 14 * 128 ≤ length (now out)) × (now pairs ≡ pairTable)
-        × Ready (lent supply (now accounts) (now counts) (now balances) (now numbers) (now amounts) (now senders) (now receivers) (now kinds) (now ledgers) (now verdicts)) (now figures) (now heads) (now nexts) ⌝ }
-    ensures puts { λ r. ⌜ Put (now (out .entry)) (run .end) (blockText pairChecker stateFigures (standing run (lent supply (now (accounts .entry)) (now (counts .entry)) (now (balances .entry)) (now (numbers .entry)) (now (amounts .entry)) (now (senders .entry)) (now (receivers .entry)) (now (kinds .entry)) (now (ledgers .entry)) (now (verdicts .entry))))
+    requires { ⌜ Bounded run × (run .end + recordsPerBlock * lineRoom ≤ length (now out)) × (now pairs ≡ pairTable)
+        × Ready (lent supply (now accounts) (now counts) (now balances) (now numbers) (now amounts) (now senders)
+        (now receivers) (now kinds) (now ledgers) (now verdicts)) (now figures) (now heads) (now nexts) ⌝ }
+    ensures puts { λ r. ⌜ Put (now (out .entry)) (run .end) (blockText pairChecker stateFigures (standing run (lent supply
+        (now (accounts .entry)) (now (counts .entry)) (now (balances .entry)) (now (numbers .entry)) (now (amounts .entry))
+        (now (senders .entry)) (now (receivers .entry)) (now (kinds .entry)) (now (ledgers .entry)) (now (verdicts .entry))))
         (now (block .entry))) (now (out .exit)) (r .end) ⌝ }
-    ensures stands { λ r. ⌜ StandsAt r (afterBlock pairChecker (standing run (lent supply (now (accounts .entry)) (now (counts .entry)) (now (balances .entry)) (now (numbers .entry)) (now (amounts .entry)) (now (senders .entry)) (now (receivers .entry)) (now (kinds .entry)) (now (ledgers .entry)) (now (verdicts .entry)))) (now (block .entry)))
-        × (lent supply (now (accounts .entry)) (now (counts .exit)) (now (balances .exit)) (now (numbers .exit)) (now (amounts .exit)) (now (senders .exit)) (now (receivers .exit)) (now (kinds .exit)) (now (ledgers .exit)) (now (verdicts .exit)) ≡ afterBlock pairChecker (standing run (lent supply (now (accounts .entry)) (now (counts .entry)) (now (balances .entry)) (now (numbers .entry)) (now (amounts .entry)) (now (senders .entry)) (now (receivers .entry)) (now (kinds .entry)) (now (ledgers .entry)) (now (verdicts .entry)))) (now (block .entry)) .state) ⌝ }
-    ensures keeps { λ r. ⌜ Ready (lent supply (now (accounts .entry)) (now (counts .exit)) (now (balances .exit)) (now (numbers .exit)) (now (amounts .exit)) (now (senders .exit)) (now (receivers .exit)) (now (kinds .exit)) (now (ledgers .exit)) (now (verdicts .exit))) (now (figures .exit)) (now (heads .exit)) (now (nexts .exit)) × Bounded r × (r .end ≤ run .end + 14 * 128) ⌝ }
+    ensures stands { λ r. ⌜ StandsAt r (afterBlock pairChecker (standing run (lent supply (now (accounts .entry))
+        (now (counts .entry)) (now (balances .entry)) (now (numbers .entry)) (now (amounts .entry)) (now (senders .entry))
+        (now (receivers .entry)) (now (kinds .entry)) (now (ledgers .entry)) (now (verdicts .entry)))) (now (block .entry)))
+        × (lent supply (now (accounts .entry)) (now (counts .exit)) (now (balances .exit)) (now (numbers .exit))
+        (now (amounts .exit)) (now (senders .exit)) (now (receivers .exit)) (now (kinds .exit)) (now (ledgers .exit))
+        (now (verdicts .exit)) ≡ afterBlock pairChecker (standing run (lent supply (now (accounts .entry))
+        (now (counts .entry)) (now (balances .entry)) (now (numbers .entry)) (now (amounts .entry)) (now (senders .entry))
+        (now (receivers .entry)) (now (kinds .entry)) (now (ledgers .entry)) (now (verdicts .entry))))
+        (now (block .entry)) .state) ⌝ }
+    ensures keeps { λ r. ⌜ Ready (lent supply (now (accounts .entry)) (now (counts .exit)) (now (balances .exit))
+        (now (numbers .exit)) (now (amounts .exit)) (now (senders .exit)) (now (receivers .exit)) (now (kinds .exit))
+        (now (ledgers .exit)) (now (verdicts .exit))) (now (figures .exit)) (now (heads .exit))
+        (now (nexts .exit)) × Bounded r × (r .end ≤ run .end + recordsPerBlock * lineRoom) ⌝ }
 {
     let answer = judge(block, run.block, run.before);
     let Answer::Passed = answer else {
@@ -210,12 +235,24 @@ pub fn list_chunk<'a>(
     heads: &'a mut [u16],
     nexts: &'a mut [u16],
 ) -> Run
-    requires { ⌜ Bounded start × (start .end ≡ 0) × (length (now chunk) ≤ 64 * 512) × (64 * (14 * 128) ≤ length (now out))
-        × (now pairs ≡ pairTable) × Ready (lent supply (now accounts) (now counts) (now balances) (now numbers) (now amounts) (now senders) (now receivers) (now kinds) (now ledgers) (now verdicts)) (now figures) (now heads) (now nexts) ⌝ }
-    ensures puts { λ r. ⌜ take (r .end) (now (out .exit)) ≡ chunkText (standing start (lent supply (now (accounts .entry)) (now (counts .entry)) (now (balances .entry)) (now (numbers .entry)) (now (amounts .entry)) (now (senders .entry)) (now (receivers .entry)) (now (kinds .entry)) (now (ledgers .entry)) (now (verdicts .entry)))) (now (chunk .entry)) ⌝ }
-    ensures stands { λ r. ⌜ StandsAt r (afterChunk (standing start (lent supply (now (accounts .entry)) (now (counts .entry)) (now (balances .entry)) (now (numbers .entry)) (now (amounts .entry)) (now (senders .entry)) (now (receivers .entry)) (now (kinds .entry)) (now (ledgers .entry)) (now (verdicts .entry)))) (now (chunk .entry)))
-        × (lent supply (now (accounts .entry)) (now (counts .exit)) (now (balances .exit)) (now (numbers .exit)) (now (amounts .exit)) (now (senders .exit)) (now (receivers .exit)) (now (kinds .exit)) (now (ledgers .exit)) (now (verdicts .exit)) ≡ afterChunk (standing start (lent supply (now (accounts .entry)) (now (counts .entry)) (now (balances .entry)) (now (numbers .entry)) (now (amounts .entry)) (now (senders .entry)) (now (receivers .entry)) (now (kinds .entry)) (now (ledgers .entry)) (now (verdicts .entry)))) (now (chunk .entry)) .state) ⌝ }
-    ensures keeps { λ r. ⌜ Ready (lent supply (now (accounts .entry)) (now (counts .exit)) (now (balances .exit)) (now (numbers .exit)) (now (amounts .exit)) (now (senders .exit)) (now (receivers .exit)) (now (kinds .exit)) (now (ledgers .exit)) (now (verdicts .exit))) (now (figures .exit)) (now (heads .exit)) (now (nexts .exit)) × Bounded r × (r .end ≤ length (now (out .exit))) ⌝ }
+    requires { ⌜ Bounded start × (start .end ≡ 0) × (length (now chunk) ≤ chunkSize) × (chunkRoom ≤ length (now out))
+        × (now pairs ≡ pairTable) × Ready (lent supply (now accounts) (now counts) (now balances) (now numbers) (now amounts)
+        (now senders) (now receivers) (now kinds) (now ledgers) (now verdicts)) (now figures) (now heads) (now nexts) ⌝ }
+    ensures puts { λ r. ⌜ take (r .end) (now (out .exit)) ≡ chunkText (standing start (lent supply (now (accounts .entry))
+        (now (counts .entry)) (now (balances .entry)) (now (numbers .entry)) (now (amounts .entry)) (now (senders .entry))
+        (now (receivers .entry)) (now (kinds .entry)) (now (ledgers .entry)) (now (verdicts .entry)))) (now (chunk .entry)) ⌝ }
+    ensures stands { λ r. ⌜ StandsAt r (afterChunk (standing start (lent supply (now (accounts .entry)) (now (counts .entry))
+        (now (balances .entry)) (now (numbers .entry)) (now (amounts .entry)) (now (senders .entry)) (now (receivers .entry))
+        (now (kinds .entry)) (now (ledgers .entry)) (now (verdicts .entry)))) (now (chunk .entry)))
+        × (lent supply (now (accounts .entry)) (now (counts .exit)) (now (balances .exit)) (now (numbers .exit))
+        (now (amounts .exit)) (now (senders .exit)) (now (receivers .exit)) (now (kinds .exit)) (now (ledgers .exit))
+        (now (verdicts .exit)) ≡ afterChunk (standing start (lent supply (now (accounts .entry)) (now (counts .entry))
+        (now (balances .entry)) (now (numbers .entry)) (now (amounts .entry)) (now (senders .entry)) (now (receivers .entry))
+        (now (kinds .entry)) (now (ledgers .entry)) (now (verdicts .entry)))) (now (chunk .entry)) .state) ⌝ }
+    ensures keeps { λ r. ⌜ Ready (lent supply (now (accounts .entry)) (now (counts .exit)) (now (balances .exit))
+        (now (numbers .exit)) (now (amounts .exit)) (now (senders .exit)) (now (receivers .exit)) (now (kinds .exit))
+        (now (ledgers .exit)) (now (verdicts .exit))) (now (figures .exit)) (now (heads .exit))
+        (now (nexts .exit)) × Bounded r × (r .end ≤ length (now (out .exit))) ⌝ }
 {
     let n = chunk.len();
     let mut run = start;

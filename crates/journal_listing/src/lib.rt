@@ -1,33 +1,53 @@
-// Lists a journal: reads it from one file and prints its lines to another, in chunks. That the chunks' texts are the listing is
-// proved (crates listing, opening_listing, block_listing); what the system reads and writes is not said.
-ghost use Prim.Native.Nat.{_*_};
+// Lists a journal: reads it from one file and prints its lines to another, in chunks of 64 blocks. That the chunks' texts are the
+// listing is proved (crates listing, opening_listing, block_listing). That the chunks are read and written one after the other is
+// read off the loop here: what the system reads and writes is not said.
 ghost use mathlib.Core.Path.{_≡_};
 ghost use lib.ListN.{length};
-ghost use Rattle.block_listing.specs.Runs.{Bounded};
+ghost use Rattle.block_listing.specs.Runs.{Bounded, standing};
 ghost use Rattle.hex_digits.specs.Hex.{pairTable};
+ghost use Rattle.journal_listing.specs.Turns.{Turned};
+ghost use Rattle.listing.specs.Chunks.{chunkRoom, chunkSize};
 ghost use Rattle.pair_steps.specs.Steps.{Ready, lent};
+use block_format::BLOCK_SIZE;
+use block_format::RECORDS;
 use block_listing::Run;
 use block_listing::list_chunk;
 use hex_digits::pairs;
+use lines::LINE;
 use opening_listing::list_opening;
 use pair_tables::HEADS;
 use pair_tables::PLACES;
 use pair_validator::ACCOUNTS;
 
-// The bytes of a chunk: 64 blocks.
-const CHUNK: usize = 64 * 512;
-// The most characters of a chunk's lines.
-const TEXT: usize = 64 * (14 * 128);
+// The blocks of a chunk.
+const CHUNK_BLOCKS: usize = 64;
+// The bytes of a chunk.
+const CHUNK: usize = CHUNK_BLOCKS * BLOCK_SIZE;
+// The room that a chunk's lines take.
+const TEXT: usize = CHUNK_BLOCKS * RECORDS * LINE;
 // The most chunks after blocks 0 and 1.
 const CHUNKS: u64 = 1024;
 
-// One chunk: read, listed and written.
+// A run that has the buffer to itself again.
+fn resumed(run: Run, going: bool) -> Run
+    ensures { λ r. ⌜ r ≡ record { index = run .index; block = run .block; before = run .before; end = 0; going = going } ⌝ }
+{
+    Run {
+        index: run.index,
+        block: run.block,
+        before: run.before,
+        end: 0,
+        going,
+    }
+}
+
+// One chunk: read, listed and written. A write that fails stops the listing, so that what is printed is a beginning of it.
 fn turn<'a>(
     source: i32,
     target: i32,
     run: Run,
     input: &'a mut [u8],
-    table: &'a [u8; 512],
+    digits: &'a [u8; 512],
     out: &'a mut [u8],
     supply: u64,
     figures: &'a mut [u64],
@@ -44,15 +64,24 @@ fn turn<'a>(
     heads: &'a mut [u16],
     nexts: &'a mut [u16],
 ) -> Run
-    requires { ⌜ Bounded run × (run .end ≡ 0) × (length (now input) ≡ 64 * 512) × (length (now out) ≡ 64 * (14 * 128))
-        × (now table ≡ pairTable) × Ready (lent supply (now accounts) (now counts) (now balances) (now numbers) (now amounts) (now senders) (now receivers) (now kinds) (now ledgers) (now verdicts)) (now figures) (now heads) (now nexts) ⌝ }
-    ensures { λ r. ⌜ Bounded r × (r .end ≡ 0) × Ready (lent supply (now (accounts .entry)) (now (counts .exit)) (now (balances .exit)) (now (numbers .exit)) (now (amounts .exit)) (now (senders .exit)) (now (receivers .exit)) (now (kinds .exit)) (now (ledgers .exit)) (now (verdicts .exit))) (now (figures .exit)) (now (heads .exit)) (now (nexts .exit)) ⌝ }
+    requires { ⌜ Bounded run × (run .end ≡ 0) × (length (now input) ≡ chunkSize) × (length (now out) ≡ chunkRoom)
+        × (now digits ≡ pairTable) × Ready (lent supply (now accounts) (now counts) (now balances) (now numbers) (now amounts)
+        (now senders) (now receivers) (now kinds) (now ledgers) (now verdicts)) (now figures) (now heads) (now nexts) ⌝ }
+    ensures keeps { λ r. ⌜ Bounded r × (r .end ≡ 0) × Ready (lent supply (now (accounts .entry)) (now (counts .exit))
+        (now (balances .exit)) (now (numbers .exit)) (now (amounts .exit)) (now (senders .exit)) (now (receivers .exit))
+        (now (kinds .exit)) (now (ledgers .exit)) (now (verdicts .exit))) (now (figures .exit)) (now (heads .exit))
+        (now (nexts .exit)) ⌝ }
+    ensures turns { λ r. ⌜ Turned (standing run (lent supply (now (accounts .entry)) (now (counts .entry))
+        (now (balances .entry)) (now (numbers .entry)) (now (amounts .entry)) (now (senders .entry)) (now (receivers .entry))
+        (now (kinds .entry)) (now (ledgers .entry)) (now (verdicts .entry)))) (now (input .exit)) r (lent supply
+        (now (accounts .entry)) (now (counts .exit)) (now (balances .exit)) (now (numbers .exit)) (now (amounts .exit))
+        (now (senders .exit)) (now (receivers .exit)) (now (kinds .exit)) (now (ledgers .exit)) (now (verdicts .exit))) ⌝ }
 {
     let n = io::read_full(source, input);
     let next = list_chunk(
         run,
         &input[..n],
-        table,
+        digits,
         out,
         supply,
         figures,
@@ -70,23 +99,14 @@ fn turn<'a>(
         nexts,
     );
     let end = next.end;
-    io::write_all(target, &out[..end]);
+    if !io::write_all(target, &out[..end]) {
+        return resumed(next, false);
+    }
     if n < CHUNK {
-        return Run {
-            index: next.index,
-            block: next.block,
-            before: next.before,
-            end: 0,
-            going: false,
-        };
+        return resumed(next, false);
     }
-    Run {
-        index: next.index,
-        block: next.block,
-        before: next.before,
-        end: 0,
-        going: next.going,
-    }
+    let going = next.going;
+    resumed(next, going)
 }
 
 // The blocks after an accepted opening, chunk by chunk, up to a bad block or the end of the journal.
@@ -95,7 +115,7 @@ fn list_rest<'a>(
     target: i32,
     start: Run,
     input: &'a mut [u8],
-    table: &'a [u8; 512],
+    digits: &'a [u8; 512],
     out: &'a mut [u8],
     supply: u64,
     figures: &'a mut [u64],
@@ -112,8 +132,9 @@ fn list_rest<'a>(
     heads: &'a mut [u16],
     nexts: &'a mut [u16],
 )
-    requires { ⌜ Bounded start × (start .end ≡ 0) × (length (now input) ≡ 64 * 512) × (length (now out) ≡ 64 * (14 * 128))
-        × (now table ≡ pairTable) × Ready (lent supply (now accounts) (now counts) (now balances) (now numbers) (now amounts) (now senders) (now receivers) (now kinds) (now ledgers) (now verdicts)) (now figures) (now heads) (now nexts) ⌝ }
+    requires { ⌜ Bounded start × (start .end ≡ 0) × (length (now input) ≡ chunkSize) × (length (now out) ≡ chunkRoom)
+        × (now digits ≡ pairTable) × Ready (lent supply (now accounts) (now counts) (now balances) (now numbers) (now amounts)
+        (now senders) (now receivers) (now kinds) (now ledgers) (now verdicts)) (now figures) (now heads) (now nexts) ⌝ }
 {
     let mut run = start;
     let mut turns = CHUNKS;
@@ -126,7 +147,7 @@ fn list_rest<'a>(
             target,
             run,
             input,
-            table,
+            digits,
             out,
             supply,
             figures,
@@ -147,9 +168,9 @@ fn list_rest<'a>(
     }
 }
 
-// The listing of the journal in the file `source`, to the file `target`.
+// The listing of the journal in the file `source`, to the file `target` (descriptors).
 pub fn list(source: i32, target: i32) {
-    let table = pairs();
+    let digits = pairs();
     let mut input = [0u8; CHUNK];
     let mut out = [0u8; TEXT];
     let mut figures = [0u64; 3];
@@ -165,8 +186,8 @@ pub fn list(source: i32, target: i32) {
     let mut verdicts = [0u8; PLACES];
     let mut heads = [0u16; HEADS];
     let mut nexts = [0u16; PLACES];
-    let mut home = [0u8; 512];
-    let mut far = [0u8; 512];
+    let mut home = [0u8; BLOCK_SIZE];
+    let mut far = [0u8; BLOCK_SIZE];
     let a = io::read_full(source, &mut home);
     let b = io::read_full(source, &mut far);
     let start = list_opening(
@@ -178,7 +199,9 @@ pub fn list(source: i32, target: i32) {
         &mut balances,
     );
     let end = start.end;
-    io::write_all(target, &out[..end]);
+    if !io::write_all(target, &out[..end]) {
+        return;
+    }
     if !start.going {
         return;
     }
@@ -194,7 +217,7 @@ pub fn list(source: i32, target: i32) {
         target,
         run,
         &mut input,
-        &table,
+        &digits,
         &mut out,
         start.supply,
         &mut figures,

@@ -36,7 +36,13 @@ figuresText home far flight = 32 ∷ decimal home ++ 32 ∷ decimal far ++ 32 �
 -- "record number answer home far flight"
 unfoldable pub headerLine : List ℕ
 headerLine =
-    114 ∷ 101 ∷ 99 ∷ 111 ∷ 114 ∷ 100 ∷ 32 ∷ 110 ∷ 117 ∷ 109 ∷ 98 ∷ 101 ∷ 114 ∷ 32 ∷ 97 ∷ 110 ∷ 115 ∷ 119 ∷ 101 ∷ 114 ∷ 32 ∷ 104 ∷ 111 ∷ 109 ∷ 101 ∷ 32 ∷ 102 ∷ 97 ∷ 114 ∷ 32 ∷ 102 ∷ 108 ∷ 105 ∷ 103 ∷ 104 ∷ 116 ∷ 10 ∷ []
+    114 ∷ 101 ∷ 99 ∷ 111 ∷ 114 ∷ 100 ∷ 32
+    ∷ 110 ∷ 117 ∷ 109 ∷ 98 ∷ 101 ∷ 114 ∷ 32
+    ∷ 97 ∷ 110 ∷ 115 ∷ 119 ∷ 101 ∷ 114 ∷ 32
+    ∷ 104 ∷ 111 ∷ 109 ∷ 101 ∷ 32
+    ∷ 102 ∷ 97 ∷ 114 ∷ 32
+    ∷ 102 ∷ 108 ∷ 105 ∷ 103 ∷ 104 ∷ 116 ∷ 10
+    ∷ []
 
 -- "open - 0" and the figures
 unfoldable pub openLine : List ℕ → List ℕ
@@ -52,7 +58,15 @@ faultLine refusal block = 102 ∷ 97 ∷ 117 ∷ 108 ∷ 116 ∷ 32 ∷ decimal 
 
 -- ## In a lent buffer
 
--- in the bytes d the text x was put at o, which gave the bytes e, and r is the place after it; what stands before o stays
+-- the room that any line takes in it, and the figures with their blanks and the line feed
+abbrev pub lineRoom : ℕ
+lineRoom = 128
+
+abbrev pub figuresRoom : ℕ
+figuresRoom = 64
+
+-- in the bytes d the text x was put at o, which gave the bytes e, and r is the place after it; what stands before o
+-- stays, and of what stands after r nothing is said
 pub record Put (d : List ℕ) (o : ℕ) (x e : List ℕ) (r : ℕ) : Type 0 where
   pub next : r ≡ o + length x
   pub size : length e ≡ length d

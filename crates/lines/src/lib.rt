@@ -4,7 +4,8 @@ ghost use mathlib.Core.List.{[], _∷_};
 ghost use mathlib.Core.Path.{_≡_};
 ghost use lib.ListN.{length};
 ghost use Rattle.hex_digits.specs.Hex.{pairTable};
-ghost use Rattle.lines.specs.Lines.{Put, decimal, faultLine, figuresText, headerLine, numberText, openLine, recordLine};
+ghost use Rattle.lines.specs.Lines.{Put, decimal, faultLine, figuresRoom, figuresText, headerLine, lineRoom, numberText};
+ghost use Rattle.lines.specs.Lines.{openLine, recordLine};
 use hex_digits::high;
 use hex_digits::low;
 
@@ -61,7 +62,7 @@ fn put_number(out: &mut [u8], o: usize, pairs: &[u8; 512], bytes: &[u8]) -> usiz
 
 // The figures: home total, far total and in flight.
 pub fn put_figures(out: &mut [u8], o: usize, home: u64, far: u64, flight: u64) -> usize
-    requires { ⌜ o + 64 ≤ length (now out) ⌝ }
+    requires { ⌜ o + figuresRoom ≤ length (now out) ⌝ }
     ensures { λ r. ⌜ Put (now (out .entry)) o (figuresText home far flight) (now (out .exit)) r ⌝ }
 {
     let a = put_byte(out, o, b' ');
@@ -77,7 +78,7 @@ pub fn put_figures(out: &mut [u8], o: usize, home: u64, far: u64, flight: u64) -
 
 // The first line.
 pub fn put_header(out: &mut [u8], o: usize) -> usize
-    requires { ⌜ o + 128 ≤ length (now out) ⌝ }
+    requires { ⌜ o + lineRoom ≤ length (now out) ⌝ }
     ensures { λ r. ⌜ Put (now (out .entry)) o headerLine (now (out .exit)) r ⌝ }
 {
     put_bytes(out, o, b"record number answer home far flight\n")
@@ -85,7 +86,7 @@ pub fn put_header(out: &mut [u8], o: usize) -> usize
 
 // The line of an accepted opening.
 pub fn put_open(out: &mut [u8], o: usize, home: u64, far: u64) -> usize
-    requires { ⌜ o + 128 ≤ length (now out) ⌝ }
+    requires { ⌜ o + lineRoom ≤ length (now out) ⌝ }
     ensures { λ r. ⌜ Put (now (out .entry)) o (openLine (figuresText home far 0)) (now (out .exit)) r ⌝ }
 {
     let a = put_bytes(out, o, b"open - 0");
@@ -102,7 +103,8 @@ pub fn put_record(
     answer: u64,
     figures: &[u8],
 ) -> usize
-    requires { ⌜ (o + 128 ≤ length (now out)) × (now pairs ≡ pairTable) × (length (now bytes) ≡ 32) × (length (now figures) ≤ 64) ⌝ }
+    requires { ⌜ (o + lineRoom ≤ length (now out)) × (now pairs ≡ pairTable) × (length (now bytes) ≡ 32)
+        × (length (now figures) ≤ figuresRoom) ⌝ }
     ensures { λ r. ⌜ Put (now (out .entry)) o (recordLine index (now (bytes .entry)) answer (now (figures .entry)))
         (now (out .exit)) r ⌝ }
 {
@@ -116,7 +118,7 @@ pub fn put_record(
 
 // The line of a bad block.
 pub fn put_fault(out: &mut [u8], o: usize, refusal: u64, block: u64) -> usize
-    requires { ⌜ o + 128 ≤ length (now out) ⌝ }
+    requires { ⌜ o + lineRoom ≤ length (now out) ⌝ }
     ensures { λ r. ⌜ Put (now (out .entry)) o (faultLine refusal block) (now (out .exit)) r ⌝ }
 {
     let a = put_bytes(out, o, b"fault ");

@@ -6,8 +6,8 @@ use mathlib.Core.List.{List, [], _∷_, _++_}
 use mathlib.Core.Path.{_≡_}
 use lib.Dec.{eqb}
 use lib.ListN.{length, take, drop}
-use Rattle.block_format.specs.Blocks.{balancesOf, statedCount}
-use Rattle.lines.specs.Lines.{headerLine}
+use Rattle.block_format.specs.Blocks.{balancesOf, recordsPerBlock, statedCount}
+use Rattle.lines.specs.Lines.{headerLine, lineRoom}
 use Rattle.listing.specs.Listing.{Standing, afterBlock, blocksIn, blocksText, figuresLine, listing, opened, openingText, whileGoing}
 use Rattle.pair_validator.specs.State.{openedState, pairChecker, viewOfState}
 use Rattle.pair_validator.specs.declared.PairValidator.{PairValidator}
@@ -18,29 +18,39 @@ use Rattle.pair_validator.specs.declared.PairValidator.{PairValidator}
 abbrev pub stateFigures : PairValidator → List ℕ
 stateFigures s = figuresLine (viewOfState s)
 
--- where the listing stands after blocks, up to a bad one
+-- a standing, where the listing goes on
 abbrev pub ifGoing : Bool → Standing PairValidator → Standing PairValidator → Standing PairValidator
 ifGoing true p later = later
 ifGoing false p later = p
 
+-- where the listing stands after blocks, up to a bad one
 unfoldable pub afterBlocks : Standing PairValidator → List (List ℕ) → Standing PairValidator
 afterBlocks p [] = p
 afterBlocks p (b ∷ bs) = ifGoing (p .going) p (afterBlocks (afterBlock pairChecker p b) bs)
 
 -- ## Chunks
 
--- the bytes of a chunk: 64 blocks
+-- the blocks of a chunk
+abbrev pub chunkBlocks : ℕ
+chunkBlocks = 64
+
+-- its bytes
 abbrev pub chunkSize : ℕ
-chunkSize = 64 * 512
+chunkSize = chunkBlocks * 512
+
+-- the room that its lines take
+abbrev pub chunkRoom : ℕ
+chunkRoom = chunkBlocks * (recordsPerBlock * lineRoom)
 
 -- the most chunks after blocks 0 and 1, of which the last has a block beyond the greatest number
 abbrev pub mostChunks : ℕ
 mostChunks = 1024
 
--- the text of a chunk, and where the listing stands after it
+-- the text of a chunk
 abbrev pub chunkText : Standing PairValidator → List ℕ → List ℕ
 chunkText p chunk = blocksText pairChecker stateFigures p (blocksIn chunk)
 
+-- where the listing stands after it
 abbrev pub afterChunk : Standing PairValidator → List ℕ → Standing PairValidator
 afterChunk p chunk = afterBlocks p (blocksIn chunk)
 

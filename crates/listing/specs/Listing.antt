@@ -35,7 +35,7 @@ whileGoing true text = text
 whileGoing false text = []
 
 module _ {S : Type 0} (c : Checker S) where
-  -- the state after records, of which a refused one leaves it
+  -- the state after records; a refused record leaves the state as it was
   unfoldable pub stateListed : S → List (List ℕ) → S
   stateListed s [] = s
   stateListed s (b ∷ bs) = stateListed (callOne c s b .state) bs
@@ -58,7 +58,7 @@ module _ {S : Type 0} (c : Checker S) where
   afterBlock p b = standingBy (blockRefusal b (p .block) (p .before)) p b
 
   module _ (figures : S → List ℕ) where
-    -- a line for each record, from an index on, with the figures after it
+    -- a line for each record, from an index on, with the figures after it (the calls' answers: ListedAsRun)
     unfoldable pub recordLines : S → ℕ → List (List ℕ) → List ℕ
     recordLines s i [] = []
     recordLines s i (b ∷ bs) =
@@ -79,15 +79,15 @@ module _ {S : Type 0} (c : Checker S) where
 abbrev pub figuresLine : PairView → List ℕ
 figuresLine v = figuresText (total (v .pair .home .balances)) (total (v .pair .far .balances)) (inFlight (v .pair))
 
--- the blocks of bytes, 512 each; fewer at the end are a block too
+-- the blocks of bytes, 512 each; fewer at the end are a block too (Refusals: 11, not 512 bytes long)
 abbrev pub blocksIn : List ℕ → List (List ℕ)
 blocksIn j = cut (length j) 512 j
 
--- after an accepted opening, before block 2
+-- after an accepted opening, before block 2, for which the count before is not looked at
 abbrev pub opened : {S : Type 0} → S → ℕ → Standing S
 opened s before = record { state = s; index = 0; block = 2; before = before; going = true }
 
--- the line of the opening, or the fault of block 0 or 1; the opening's own refusal is told at block 1; then, the rest
+-- the line of the opening, or the fault of block 0 or 1; the opening's own refusal is told at block 1 (Cases: refusal 2); then the rest
 unfoldable pub openingText : List ℕ → List ℕ → List ℕ → List ℕ
 openingText home far rest =
     unlessFault (blockRefusal home 0 0) 0

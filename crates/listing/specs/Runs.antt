@@ -22,7 +22,7 @@ listed homes fars bs = stateListed (pairValidator capacity) (pairOpened homes fa
 
 -- what holds of the line of record b, after the records bs
 pub record LineAsRun (homes fars : List ℕ) (bs : List (List ℕ)) (b : List ℕ) : Type 0 where
-  -- its answer is the call's, which is never 3
+  -- its answer is the call's
   pub answer-is : pairValidator capacity .judge (listed homes fars bs) b
       ≡ numberOf
       (call (pairValidator capacity) (run (pairValidator capacity) (pairOpened homes fars) (oneByOne bs)) (one b) .answer)

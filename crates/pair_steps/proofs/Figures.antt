@@ -11,7 +11,8 @@ use Rattle.pair_steps.specs.Steps.{figuresIn}
 use Rattle.rules.proofs.Lists.{balance-total, length-lowered, total-lowered, total-raised}
 use Rattle.rules.proofs.Refusals.{Passable, judge-none}
 use Rattle.rules.specs.Lists.{lowered, total}
-use Rattle.rules.specs.Rules.{Far, Home, Kind, Ledger, LedgerState, Local, PairState, Receiving, Record, Sending, after, inFlight, judge, moved}
+use Rattle.rules.specs.Rules.{Far, Home, Kind, Ledger, LedgerState, Local, PairState, Receiving, Record, Sending, after, inFlight}
+use Rattle.rules.specs.Rules.{judge, moved}
 use Rattle.rules.specs.Rules.{stateOf}
 
 -- ## A ledger's total

@@ -13,24 +13,51 @@ use Rattle.block_listing.proofs.list_chunk.Statement.{statement}
 use Rattle.block_listing.proofs.list_chunk.Tie as tie
 
 abbrev Inv-loop : tie.InvT-loop
-Inv-loop chunk pairs out₀ supply figures₀ accounts counts₀ balances₀ numbers₀ amounts₀ senders₀ receivers₀ kinds₀ ledgers₀ verdicts₀ heads₀ nexts₀ n run₀ at₀ out figures counts balances numbers amounts senders receivers kinds ledgers verdicts heads nexts run at =
+Inv-loop chunk pairs out₀ supply figures₀ accounts counts₀ balances₀ numbers₀ amounts₀ senders₀ receivers₀ kinds₀ ledgers₀
+    verdicts₀ heads₀ nexts₀ n run₀ at₀ out figures counts balances numbers amounts senders receivers kinds ledgers verdicts heads
+    nexts run at =
     (at ≤ length chunk)
-    × ChunkListed run₀ (lent supply accounts counts₀ balances₀ numbers₀ amounts₀ senders₀ receivers₀ kinds₀ ledgers₀ verdicts₀) chunk out₀ at run (lent supply accounts counts balances numbers amounts senders receivers kinds ledgers verdicts) out figures heads nexts
+    × ChunkListed run₀ (lent supply accounts counts₀ balances₀ numbers₀ amounts₀ senders₀ receivers₀ kinds₀ ledgers₀ verdicts₀)
+    chunk out₀ at run (lent supply accounts counts balances numbers amounts senders receivers kinds ledgers verdicts) out figures
+    heads nexts
 
 abbrev μ-loop : tie.MeasureT-loop
-μ-loop chunk pairs out₀ supply figures₀ accounts counts₀ balances₀ numbers₀ amounts₀ senders₀ receivers₀ kinds₀ ledgers₀ verdicts₀ heads₀ nexts₀ n run₀ at₀ out figures counts balances numbers amounts senders receivers kinds ledgers verdicts heads nexts run at =
+μ-loop chunk pairs out₀ supply figures₀ accounts counts₀ balances₀ numbers₀ amounts₀ senders₀ receivers₀ kinds₀ ledgers₀ verdicts₀
+    heads₀ nexts₀ n run₀ at₀ out figures counts balances numbers amounts senders receivers kinds ledgers verdicts heads nexts run
+    at =
     length chunk - at
 
 -- the state is ready
-ready-at : (c : tie.After-slice-known13 Inv-loop μ-loop) → Ready (lent (c .before .before .before .before .before .before .before .before .before .before .before .before .before .before .before .args .supply) (c .before .before .before .before .before .before .before .before .before .before .before .before .before .before .before .args .accounts .now) (c .before .before .before .before .before .before .before .before .before .before .before .before .before .before .before .args .counts .now) (c .before .before .before .before .before .before .before .before .before .before .before .before .before .before .before .args .balances .now) (c .before .before .before .before .before .before .before .before .before .before .before .before .before .before .before .args .numbers .now) (c .before .before .before .before .before .before .before .before .before .before .before .before .before .before .before .args .amounts .now) (c .before .before .before .before .before .before .before .before .before .before .before .before .before .before .before .args .senders .now) (c .before .before .before .before .before .before .before .before .before .before .before .before .before .before .before .args .receivers .now) (c .before .before .before .before .before .before .before .before .before .before .before .before .before .before .before .args .kinds .now) (c .before .before .before .before .before .before .before .before .before .before .before .before .before .before .before .args .ledgers .now) (c .before .before .before .before .before .before .before .before .before .before .before .before .before .before .before .args .verdicts .now)) (c .before .before .before .before .before .before .before .before .before .before .before .before .before .before .before .args .figures .now) (c .before .before .before .before .before .before .before .before .before .before .before .before .before .before .before .args .heads .now) (c .before .before .before .before .before .before .before .before .before .before .before .before .before .before .before .args .nexts .now)
+ready-at : (c : tie.After-slice-known13 Inv-loop μ-loop) → Ready (lent (c .before .before .before .before .before .before .before
+    .before .before .before .before .before .before .before .before .args .supply) (c .before .before .before .before .before
+    .before .before .before .before .before .before .before .before .before .before .args .accounts .now) (c .before .before
+    .before .before .before .before .before .before .before .before .before .before .before .before .before .args .counts .now) (c
+    .before .before .before .before .before .before .before .before .before .before .before .before .before .before .before .args
+    .balances .now) (c .before .before .before .before .before .before .before .before .before .before .before .before .before
+    .before .before .args .numbers .now) (c .before .before .before .before .before .before .before .before .before .before .before
+    .before .before .before .before .args .amounts .now) (c .before .before .before .before .before .before .before .before .before
+    .before .before .before .before .before .before .args .senders .now) (c .before .before .before .before .before .before .before
+    .before .before .before .before .before .before .before .before .args .receivers .now) (c .before .before .before .before
+    .before .before .before .before .before .before .before .before .before .before .before .args .kinds .now) (c .before .before
+    .before .before .before .before .before .before .before .before .before .before .before .before .before .args .ledgers .now) (c
+    .before .before .before .before .before .before .before .before .before .before .before .before .before .before .before .args
+    .verdicts .now)) (c .before .before .before .before .before .before .before .before .before .before .before .before .before
+    .before .before .args .figures .now) (c .before .before .before .before .before .before .before .before .before .before .before
+    .before .before .before .before .args .heads .now) (c .before .before .before .before .before .before .before .before .before
+    .before .before .before .before .before .before .args .nexts .now)
 ready-at c =
     let c15 = c .before .before .before .before .before .before .before .before .before .before .before .before .before .before .before in
     c15 .pre .5
 
 loop-holds : tie.Need-loop-holds Inv-loop μ-loop
 loop-holds c =
-    let c15 = c .before .before .before .before .before .before .before .before .before .before .before .before .before .before .before in
-    (omega arith, chunk-start (c15 .args .start) (lent (c15 .args .supply) (c15 .args .accounts .now) (c15 .args .counts .now) (c15 .args .balances .now) (c15 .args .numbers .now) (c15 .args .amounts .now) (c15 .args .senders .now) (c15 .args .receivers .now) (c15 .args .kinds .now) (c15 .args .ledgers .now) (c15 .args .verdicts .now)) (c15 .args .chunk .now) (c15 .args .out .now) (c15 .pre .1) (c15 .pre .0) (ready-at (c)))
+    let c15 = c .before .before .before .before .before .before .before .before .before .before .before .before .before .before .before in (
+      omega arith,
+      chunk-start (c15 .args .start) (lent (c15 .args .supply) (c15 .args .accounts .now) (c15 .args .counts .now) (c15
+          .args .balances .now) (c15 .args .numbers .now) (c15 .args .amounts .now) (c15 .args .senders .now) (c15 .args .receivers .now)
+          (c15 .args .kinds .now) (c15 .args .ledgers .now) (c15 .args .verdicts .now)) (c15 .args .chunk .now) (c15 .args .out .now)
+          (c15 .pre .1) (c15 .pre .0) (ready-at (c)),
+    )
 
 same-length : tie.Need-same-length Inv-loop μ-loop
 same-length c =
@@ -112,15 +139,39 @@ same-length-13 c =
 returns : tie.Need-returns Inv-loop μ-loop
 returns c =
     let c3 = c .before .before .before in
-    let c19 = c3 .before .before .before .before .before .before .before .before .before .before .before .before .before .before .before .before in
-    let k = chunk-stopped (c19 .args .start) (lent (c19 .args .supply) (c19 .args .accounts .now) (c19 .args .counts .now) (c19 .args .balances .now) (c19 .args .numbers .now) (c19 .args .amounts .now) (c19 .args .senders .now) (c19 .args .receivers .now) (c19 .args .kinds .now) (c19 .args .ledgers .now) (c19 .args .verdicts .now)) (c19 .args .chunk .now) (c19 .args .out .now) (c3 .loop .at) (c3 .loop .run) (lent (c19 .args .supply) (c19 .args .accounts .now) (c3 .loop .counts) (c3 .loop .balances) (c3 .loop .numbers) (c3 .loop .amounts) (c3 .loop .senders) (c3 .loop .receivers) (c3 .loop .kinds) (c3 .loop .ledgers) (c3 .loop .verdicts)) (c3 .loop .out) (c3 .loop .inv .1) (not-true _ (c .if1 .taken)) in
-    (k .text-is, ((k .stands, k .state-is), (c3 .loop .inv .1 .ready, c3 .loop .inv .1 .bounded, omega (arith, c3 .loop .inv .1 .room, c3 .loop .inv .1 .most, c3 .loop .inv .1 .puts .size, c19 .pre .3))))
+    let c19 = c3 .before .before .before .before .before .before .before .before .before .before .before .before .before .before
+    .before .before in
+    let k = chunk-stopped (c19 .args .start) (lent (c19 .args .supply) (c19 .args .accounts .now) (c19 .args .counts .now) (c19
+    .args .balances .now) (c19 .args .numbers .now) (c19 .args .amounts .now) (c19 .args .senders .now) (c19 .args .receivers .now)
+    (c19 .args .kinds .now) (c19 .args .ledgers .now) (c19 .args .verdicts .now)) (c19 .args .chunk .now) (c19 .args .out .now) (c3
+    .loop .at) (c3 .loop .run) (lent (c19 .args .supply) (c19 .args .accounts .now) (c3 .loop .counts) (c3 .loop .balances) (c3
+    .loop .numbers) (c3 .loop .amounts) (c3 .loop .senders) (c3 .loop .receivers) (c3 .loop .kinds) (c3 .loop .ledgers) (c3 .loop
+    .verdicts)) (c3 .loop .out) (c3 .loop .inv .1) (not-true _ (c .if1 .taken)) in (
+      k .text-is,
+      (
+        (k .stands, k .state-is),
+        (
+          c3 .loop .inv .1 .ready,
+          c3 .loop .inv .1 .bounded,
+          omega (
+            arith,
+            c3 .loop .inv .1
+                .room,
+            c3 .loop .inv .1 .most,
+            c3 .loop .inv .1 .puts .size,
+            c19 .pre .3,
+          ),
+        ),
+      ),
+    )
 
 part-end-requires : tie.Need-part-end-requires Inv-loop μ-loop
 part-end-requires c κs = search needs
 
 -- where the block ends
-ends-at : (c : tie.After-part-end Inv-loop μ-loop) → Shorter (c .before .before .before .before .loop .at) (length (c .before .before .before .before .before .before .before .before .before .before .before .before .before .before .before .before .before .before .before .before .args .chunk .now)) (c .part-end .result)
+ends-at : (c : tie.After-part-end Inv-loop μ-loop) → Shorter (c .before .before .before .before .loop .at) (length (c .before
+    .before .before .before .before .before .before .before .before .before .before .before .before .before .before .before .before
+    .before .before .before .args .chunk .now)) (c .part-end .result)
 ends-at c =
     let c3 = c .before .before .before in
     rw (c .part-end .ensures) (parts-less 512 _ _ (omega arith) (c3 .loop-test .taken))
@@ -139,26 +190,52 @@ part-list-block-end c =
 
 list-block-requires : tie.Need-list-block-requires Inv-loop μ-loop
 list-block-requires c κs =
-    let c17 = c .before .before .before .before .before .before .before .before .before .before .before .before .before .before .before .before .before in
+    let c17 = c .before .before .before .before .before .before .before .before .before .before .before .before .before .before
+    .before .before .before in
     let c18 = c17 .before in
-    let c34 = c18 .before .before .before .before .before .before .before .before .before .before .before .before .before .before .before .before in
-    (c18 .loop .inv .1 .bounded, chunk-room (c34 .args .start) (lent (c34 .args .supply) (c34 .args .accounts .now) (c34 .args .counts .now) (c34 .args .balances .now) (c34 .args .numbers .now) (c34 .args .amounts .now) (c34 .args .senders .now) (c34 .args .receivers .now) (c34 .args .kinds .now) (c34 .args .ledgers .now) (c34 .args .verdicts .now)) (c34 .args .chunk .now) (c34 .args .out .now) (c18 .loop .at) (c18 .loop .run) (lent (c34 .args .supply) (c34 .args .accounts .now) (c18 .loop .counts) (c18 .loop .balances) (c18 .loop .numbers) (c18 .loop .amounts) (c18 .loop .senders) (c18 .loop .receivers) (c18 .loop .kinds) (c18 .loop .ledgers) (c18 .loop .verdicts)) (c18 .loop .out) (c18 .loop .inv .1) (c17 .loop-test .taken) (c34 .pre .2) (c34 .pre .3), c34 .pre .4, c18 .loop .inv .1 .ready)
+    let c34 = c18 .before .before .before .before .before .before .before .before .before .before .before .before .before .before
+    .before .before in (
+      c18 .loop .inv .1 .bounded,
+      chunk-room (c34 .args .start) (lent (c34 .args .supply) (c34 .args .accounts .now) (c34 .args
+          .counts .now) (c34 .args .balances .now) (c34 .args .numbers .now) (c34 .args .amounts .now) (c34 .args .senders .now) (c34
+          .args .receivers .now) (c34 .args .kinds .now) (c34 .args .ledgers .now) (c34 .args .verdicts .now)) (c34 .args .chunk .now)
+          (c34 .args .out .now) (c18 .loop .at) (c18 .loop .run) (lent (c34 .args .supply) (c34 .args .accounts .now) (c18 .loop .counts)
+          (c18 .loop .balances) (c18 .loop .numbers) (c18 .loop .amounts) (c18 .loop .senders) (c18 .loop .receivers) (c18 .loop .kinds)
+          (c18 .loop .ledgers) (c18 .loop .verdicts)) (c18 .loop .out) (c18 .loop .inv .1) (c17 .loop-test .taken) (c34 .pre .2) (c34
+          .pre .3),
+      c34 .pre .4,
+      c18 .loop .inv .1 .ready,
+    )
 
 loop-less : tie.Need-loop-less Inv-loop μ-loop
 loop-less c =
-    let c41 = c .before .before .before .before .before .before .before .before .before .before .before .before .before .before .before .before .before .before .before .before .before .before .before .before .before .before .before .before .before .before .before .before .before .before .before .before .before .before .before .before .before in
+    let c41 = c .before .before .before .before .before .before .before .before .before .before .before .before .before .before
+    .before .before .before .before .before .before .before .before .before .before .before .before .before .before .before .before
+    .before .before .before .before .before .before .before .before .before .before .before in
     omega (arith, ends-at c41 .starts, ends-at c41 .ends)
 
 loop-again : tie.Need-loop-again Inv-loop μ-loop
 loop-again c =
-    let c26 = c .before .before .before .before .before .before .before .before .before .before .before .before .before .before .before .before .before .before .before .before .before .before .before .before .before .before in
-    let c41 = c26 .before .before .before .before .before .before .before .before .before .before .before .before .before .before .before in
+    let c26 = c .before .before .before .before .before .before .before .before .before .before .before .before .before .before
+    .before .before .before .before .before .before .before .before .before .before .before .before in
+    let c41 = c26 .before .before .before .before .before .before .before .before .before .before .before .before .before .before
+    .before in
     let c42 = c41 .before in
     let c44 = c42 .before .before in
     let c45 = c44 .before in
-    let c61 = c45 .before .before .before .before .before .before .before .before .before .before .before .before .before .before .before .before in
-    let p = c26 .list-block .ensures in
-    (ends-at c41 .ends, chunk-next (c61 .args .start) (lent (c61 .args .supply) (c61 .args .accounts .now) (c61 .args .counts .now) (c61 .args .balances .now) (c61 .args .numbers .now) (c61 .args .amounts .now) (c61 .args .senders .now) (c61 .args .receivers .now) (c61 .args .kinds .now) (c61 .args .ledgers .now) (c61 .args .verdicts .now)) (c61 .args .chunk .now) (c61 .args .out .now) (c45 .loop .at) (c45 .loop .run) (c26 .list-block .result) (lent (c61 .args .supply) (c61 .args .accounts .now) (c45 .loop .counts) (c45 .loop .balances) (c45 .loop .numbers) (c45 .loop .amounts) (c45 .loop .senders) (c45 .loop .receivers) (c45 .loop .kinds) (c45 .loop .ledgers) (c45 .loop .verdicts)) _ (c45 .loop .out) _ (c41 .part-end .result) (c45 .loop .inv .1) (c44 .loop-test .taken) (c61 .pre .2) (not-false _ (c42 .if1 .left)) (c41 .part-end .ensures) (p .0) (p .1 .0 .0) (p .1 .0 .1) (p .1 .1 .0) (p .1 .1 .1) (p .1 .1 .2))
+    let c61 = c45 .before .before .before .before .before .before .before .before .before .before .before .before .before .before
+    .before .before in
+    let p = c26 .list-block .ensures in (
+      ends-at c41 .ends,
+      chunk-next (c61 .args .start) (lent (c61 .args .supply) (c61 .args .accounts .now) (c61 .args .counts .now)
+          (c61 .args .balances .now) (c61 .args .numbers .now) (c61 .args .amounts .now) (c61 .args .senders .now) (c61 .args .receivers
+          .now) (c61 .args .kinds .now) (c61 .args .ledgers .now) (c61 .args .verdicts .now)) (c61 .args .chunk .now) (c61 .args .out
+          .now) (c45 .loop .at) (c45 .loop .run) (c26 .list-block .result) (lent (c61 .args .supply) (c61 .args .accounts .now) (c45
+          .loop .counts) (c45 .loop .balances) (c45 .loop .numbers) (c45 .loop .amounts) (c45 .loop .senders) (c45 .loop .receivers) (c45
+          .loop .kinds) (c45 .loop .ledgers) (c45 .loop .verdicts)) _ (c45 .loop .out) _ (c41 .part-end .result) (c45 .loop .inv .1) (c44
+          .loop-test .taken) (c61 .pre .2) (not-false _ (c42 .if1 .left)) (c41 .part-end .ensures) (p .0) (p .1 .0 .0) (p .1 .0 .1) (p .1
+          .1 .0) (p .1 .1 .1) (p .1 .1 .2),
+    )
 
 same-length-14 : tie.Need-same-length-14 Inv-loop μ-loop
 same-length-14 c =
@@ -214,9 +291,32 @@ same-length-26 c =
 
 returns-2 : tie.Need-returns-2 Inv-loop μ-loop
 returns-2 c =
-    let c17 = c .before .before .before .before .before .before .before .before .before .before .before .before .before .before .before .before .before in
-    let k = chunk-end (c17 .args .start) (lent (c17 .args .supply) (c17 .args .accounts .now) (c17 .args .counts .now) (c17 .args .balances .now) (c17 .args .numbers .now) (c17 .args .amounts .now) (c17 .args .senders .now) (c17 .args .receivers .now) (c17 .args .kinds .now) (c17 .args .ledgers .now) (c17 .args .verdicts .now)) (c17 .args .chunk .now) (c17 .args .out .now) (c .before .loop .at) (c .before .loop .run) (lent (c17 .args .supply) (c17 .args .accounts .now) (c .before .loop .counts) (c .before .loop .balances) (c .before .loop .numbers) (c .before .loop .amounts) (c .before .loop .senders) (c .before .loop .receivers) (c .before .loop .kinds) (c .before .loop .ledgers) (c .before .loop .verdicts)) (c .before .loop .out) (c .before .loop .inv .1) (c .loop-test .left) in
-    (k .text-is, ((k .stands, k .state-is), (c .before .loop .inv .1 .ready, c .before .loop .inv .1 .bounded, omega (arith, c .before .loop .inv .1 .room, c .before .loop .inv .1 .most, c .before .loop .inv .1 .puts .size, c17 .pre .3))))
+    let c17 = c .before .before .before .before .before .before .before .before .before .before .before .before .before .before
+    .before .before .before in
+    let k = chunk-end (c17 .args .start) (lent (c17 .args .supply) (c17 .args .accounts .now) (c17 .args .counts .now) (c17 .args
+    .balances .now) (c17 .args .numbers .now) (c17 .args .amounts .now) (c17 .args .senders .now) (c17 .args .receivers .now) (c17
+    .args .kinds .now) (c17 .args .ledgers .now) (c17 .args .verdicts .now)) (c17 .args .chunk .now) (c17 .args .out .now) (c
+    .before .loop .at) (c .before .loop .run) (lent (c17 .args .supply) (c17 .args .accounts .now) (c .before .loop .counts) (c
+    .before .loop .balances) (c .before .loop .numbers) (c .before .loop .amounts) (c .before .loop .senders) (c .before .loop
+    .receivers) (c .before .loop .kinds) (c .before .loop .ledgers) (c .before .loop .verdicts)) (c .before .loop .out) (c .before
+    .loop .inv .1) (c .loop-test .left) in (
+      k .text-is,
+      (
+        (k .stands, k .state-is),
+        (
+          c .before .loop .inv .1 .ready,
+          c .before .loop .inv .1 .bounded,
+          omega (
+            arith,
+            c
+                .before .loop .inv .1 .room,
+            c .before .loop .inv .1 .most,
+            c .before .loop .inv .1 .puts .size,
+            c17 .pre .3,
+          ),
+        ),
+      ),
+    )
 
 pub list-chunk-spec : {M : Type 1} → statement M
 list-chunk-spec =

@@ -17,21 +17,46 @@ use Rattle.block_listing.proofs.list_records.Statement.{statement}
 use Rattle.block_listing.proofs.list_records.Tie as tie
 
 abbrev Inv-loop : tie.InvT-loop
-Inv-loop block count first pairs out₀ o supply figures₀ accounts counts₀ balances₀ numbers₀ amounts₀ senders₀ receivers₀ kinds₀ ledgers₀ verdicts₀ heads₀ nexts₀ text₀ n₀ i₀ p₀ out figures counts balances numbers amounts senders receivers kinds ledgers verdicts heads nexts text n i p =
+Inv-loop block count first pairs out₀ o supply figures₀ accounts counts₀ balances₀ numbers₀ amounts₀ senders₀ receivers₀ kinds₀
+    ledgers₀ verdicts₀ heads₀ nexts₀ text₀ n₀ i₀ p₀ out figures counts balances numbers amounts senders receivers kinds ledgers
+    verdicts heads nexts text n i p =
     (i ≤ count)
-    × Listed block first o out₀ (lent supply accounts counts₀ balances₀ numbers₀ amounts₀ senders₀ receivers₀ kinds₀ ledgers₀ verdicts₀) i out p (lent supply accounts counts balances numbers amounts senders receivers kinds ledgers verdicts) figures heads nexts text n
+    × Listed block first o out₀ (lent supply accounts counts₀ balances₀ numbers₀ amounts₀ senders₀ receivers₀ kinds₀ ledgers₀
+    verdicts₀) i out p (lent supply accounts counts balances numbers amounts senders receivers kinds ledgers verdicts) figures
+    heads nexts text n
 
 abbrev μ-loop : tie.MeasureT-loop
-μ-loop block count first pairs out₀ o supply figures₀ accounts counts₀ balances₀ numbers₀ amounts₀ senders₀ receivers₀ kinds₀ ledgers₀ verdicts₀ heads₀ nexts₀ text₀ n₀ i₀ p₀ out figures counts balances numbers amounts senders receivers kinds ledgers verdicts heads nexts text n i p =
+μ-loop block count first pairs out₀ o supply figures₀ accounts counts₀ balances₀ numbers₀ amounts₀ senders₀ receivers₀ kinds₀
+    ledgers₀ verdicts₀ heads₀ nexts₀ text₀ n₀ i₀ p₀ out figures counts balances numbers amounts senders receivers kinds ledgers
+    verdicts heads nexts text n i p =
     count - i
 
 slice-aggregate-put-figures : tie.Need-slice-aggregate-put-figures Inv-loop μ-loop
 slice-aggregate-put-figures c = search needs
 
 -- the state is ready
-ready-at : (c : tie.After-slice-known14 Inv-loop μ-loop) → Ready (lent (c .before .before .before .before .before .before .before .before .before .before .before .before .before .before .before .before .before .args .supply) (c .before .before .before .before .before .before .before .before .before .before .before .before .before .before .before .before .before .args .accounts .now) (c .before .before .before .before .before .before .before .before .before .before .before .before .before .before .before .before .before .args .counts .now) (c .before .before .before .before .before .before .before .before .before .before .before .before .before .before .before .before .before .args .balances .now) (c .before .before .before .before .before .before .before .before .before .before .before .before .before .before .before .before .before .args .numbers .now) (c .before .before .before .before .before .before .before .before .before .before .before .before .before .before .before .before .before .args .amounts .now) (c .before .before .before .before .before .before .before .before .before .before .before .before .before .before .before .before .before .args .senders .now) (c .before .before .before .before .before .before .before .before .before .before .before .before .before .before .before .before .before .args .receivers .now) (c .before .before .before .before .before .before .before .before .before .before .before .before .before .before .before .before .before .args .kinds .now) (c .before .before .before .before .before .before .before .before .before .before .before .before .before .before .before .before .before .args .ledgers .now) (c .before .before .before .before .before .before .before .before .before .before .before .before .before .before .before .before .before .args .verdicts .now)) (c .before .before .before .before .before .before .before .before .before .before .before .before .before .before .before .before .before .args .figures .now) (c .before .before .before .before .before .before .before .before .before .before .before .before .before .before .before .before .before .args .heads .now) (c .before .before .before .before .before .before .before .before .before .before .before .before .before .before .before .before .before .args .nexts .now)
+ready-at : (c : tie.After-slice-known14 Inv-loop μ-loop) → Ready (lent (c .before .before .before .before .before .before .before
+    .before .before .before .before .before .before .before .before .before .before .args .supply) (c .before .before .before
+    .before .before .before .before .before .before .before .before .before .before .before .before .before .before .args .accounts
+    .now) (c .before .before .before .before .before .before .before .before .before .before .before .before .before .before
+    .before .before .before .args .counts .now) (c .before .before .before .before .before .before .before .before .before .before
+    .before .before .before .before .before .before .before .args .balances .now) (c .before .before .before .before .before
+    .before .before .before .before .before .before .before .before .before .before .before .before .args .numbers .now) (c .before
+    .before .before .before .before .before .before .before .before .before .before .before .before .before .before .before .before
+    .args .amounts .now) (c .before .before .before .before .before .before .before .before .before .before .before .before .before
+    .before .before .before .before .args .senders .now) (c .before .before .before .before .before .before .before .before .before
+    .before .before .before .before .before .before .before .before .args .receivers .now) (c .before .before .before .before
+    .before .before .before .before .before .before .before .before .before .before .before .before .before .args .kinds .now) (c
+    .before .before .before .before .before .before .before .before .before .before .before .before .before .before .before .before
+    .before .args .ledgers .now) (c .before .before .before .before .before .before .before .before .before .before .before .before
+    .before .before .before .before .before .args .verdicts .now)) (c .before .before .before .before .before .before .before
+    .before .before .before .before .before .before .before .before .before .before .args .figures .now) (c .before .before .before
+    .before .before .before .before .before .before .before .before .before .before .before .before .before .before .args .heads
+    .now) (c .before .before .before .before .before .before .before .before .before .before .before .before .before .before
+    .before .before .before .args .nexts .now)
 ready-at c =
-    let c17 = c .before .before .before .before .before .before .before .before .before .before .before .before .before .before .before .before .before in
+    let c17 = c .before .before .before .before .before .before .before .before .before .before .before .before .before .before
+    .before .before .before in
     c17 .pre .5
 
 slice-read-put-figures : tie.Need-slice-read-put-figures Inv-loop μ-loop
@@ -52,12 +77,25 @@ put-figures-requires c κs = search needs
 loop-holds : tie.Need-loop-holds Inv-loop μ-loop
 loop-holds c =
     let c4 = c .before .before .before .before in
-    let c21 = c4 .before .before .before .before .before .before .before .before .before .before .before .before .before .before .before .before .before in
-    (omega arith, listed-start (c21 .args .block .now) (c21 .args .first) (c21 .args .o) (c21 .args .out .now) (lent (c21 .args .supply) (c21 .args .accounts .now) (c21 .args .counts .now) (c21 .args .balances .now) (c21 .args .numbers .now) (c21 .args .amounts .now) (c21 .args .senders .now) (c21 .args .receivers .now) (c21 .args .kinds .now) (c21 .args .ledgers .now) (c21 .args .verdicts .now)) (ready-at c4) (c .before .put-figures .ensures) refl (omega (arith, c .before .put-figures .ensures .next, figures-short (getD (c21 .args .figures .now) 0 0) (getD (c21 .args .figures .now) 1 0) (getD (c21 .args .figures .now) 2 0))))
+    let c21 = c4 .before .before .before .before .before .before .before .before .before .before .before .before .before .before
+    .before .before .before in (
+      omega arith,
+      listed-start (c21 .args .block .now) (c21 .args .first) (c21 .args .o) (c21 .args .out .now) (lent (c21 .args
+          .supply) (c21 .args .accounts .now) (c21 .args .counts .now) (c21 .args .balances .now) (c21 .args .numbers .now) (c21 .args
+          .amounts .now) (c21 .args .senders .now) (c21 .args .receivers .now) (c21 .args .kinds .now) (c21 .args .ledgers .now) (c21
+          .args .verdicts .now)) (ready-at c4) (c .before .put-figures .ensures) refl (omega (
+            arith,
+            c .before .put-figures .ensures
+                .next,
+            figures-short (getD (c21 .args .figures .now) 0 0) (getD (c21 .args .figures .now) 1 0) (getD (c21 .args .figures .now)
+                2 0),
+          )),
+    )
 
 judged-part-requires : tie.Need-judged-part-requires Inv-loop μ-loop
 judged-part-requires c κs =
-    let c23 = c .before .before .before .before .before .before .before .before .before .before .before .before .before .before .before .before .before .before .before .before .before .before .before in
+    let c23 = c .before .before .before .before .before .before .before .before .before .before .before .before .before .before
+    .before .before .before .before .before .before .before .before .before in
     (c23 .pre .0, omega (arith, c .loop-test .taken, c23 .pre .1))
 
 step-requires : tie.Need-step-requires Inv-loop μ-loop
@@ -67,33 +105,43 @@ step-requires c κs =
 
 slice-aggregate-put-figures-if : tie.Need-slice-aggregate-put-figures-if Inv-loop μ-loop
 slice-aggregate-put-figures-if c =
-    let c40 = c .before .before .before .before .before .before .before .before .before .before .before .before .before .before .before .before .before .before .before .before .before .before .before .before .before .before .before .before .before .before .before .before .before .before .before .before .before .before .before .before in
+    let c40 = c .before .before .before .before .before .before .before .before .before .before .before .before .before .before
+    .before .before .before .before .before .before .before .before .before .before .before .before .before .before .before .before
+    .before .before .before .before .before .before .before .before .before .before in
     sym (c40 .loop .inv .1 .text-long)
 
 slice-read-put-figures-if : tie.Need-slice-read-put-figures-if Inv-loop μ-loop
 slice-read-put-figures-if c =
-    let c26 = c .before .before .before .before .before .before .before .before .before .before .before .before .before .before .before .before .before .before .before .before .before .before .before .before .before .before in
+    let c26 = c .before .before .before .before .before .before .before .before .before .before .before .before .before .before
+    .before .before .before .before .before .before .before .before .before .before .before .before in
     omega (arith, three-figures _ (c26 .step .ensures .1 .1))
 
 slice-read-put-figures-if-2 : tie.Need-slice-read-put-figures-if-2 Inv-loop μ-loop
 slice-read-put-figures-if-2 c =
-    let c27 = c .before .before .before .before .before .before .before .before .before .before .before .before .before .before .before .before .before .before .before .before .before .before .before .before .before .before .before in
+    let c27 = c .before .before .before .before .before .before .before .before .before .before .before .before .before .before
+    .before .before .before .before .before .before .before .before .before .before .before .before .before in
     omega (arith, three-figures _ (c27 .step .ensures .1 .1))
 
 slice-read-put-figures-if-3 : tie.Need-slice-read-put-figures-if-3 Inv-loop μ-loop
 slice-read-put-figures-if-3 c =
-    let c28 = c .before .before .before .before .before .before .before .before .before .before .before .before .before .before .before .before .before .before .before .before .before .before .before .before .before .before .before .before in
+    let c28 = c .before .before .before .before .before .before .before .before .before .before .before .before .before .before
+    .before .before .before .before .before .before .before .before .before .before .before .before .before .before in
     omega (arith, three-figures _ (c28 .step .ensures .1 .1))
 
 put-figures-if-requires : tie.Need-put-figures-if-requires Inv-loop μ-loop
 put-figures-if-requires c κs =
-    let c43 = c .before .before .before .before .before .before .before .before .before .before .before .before .before .before .before .before .before .before .before .before .before .before .before .before .before .before .before .before .before .before .before .before .before .before .before .before .before .before .before .before .before .before .before in
+    let c43 = c .before .before .before .before .before .before .before .before .before .before .before .before .before .before
+    .before .before .before .before .before .before .before .before .before .before .before .before .before .before .before .before
+    .before .before .before .before .before .before .before .before .before .before .before .before .before in
     (c43 .loop .inv .1 .text-long, c43 .loop .inv .1 .text-fits)
 
 add-put-record : tie.Need-add-put-record Inv-loop μ-loop
 add-put-record c =
-    let c45 = c .before .before .before .before .before .before .before .before .before .before .before .before .before .before .before .before .before .before .before .before .before .before .before .before .before .before .before .before .before .before .before .before .before .before .before .before .before .before .before .before .before .before .before .before .before in
-    let c68 = c45 .before .before .before .before .before .before .before .before .before .before .before .before .before .before .before .before .before .before .before .before .before .before .before in
+    let c45 = c .before .before .before .before .before .before .before .before .before .before .before .before .before .before
+    .before .before .before .before .before .before .before .before .before .before .before .before .before .before .before .before
+    .before .before .before .before .before .before .before .before .before .before .before .before .before .before .before in
+    let c68 = c45 .before .before .before .before .before .before .before .before .before .before .before .before .before .before
+    .before .before .before .before .before .before .before .before .before in
     omega (arith, c68 .pre .2, c68 .pre .1, c45 .loop-test .taken)
 
 cast-put-record : tie.Need-cast-put-record Inv-loop μ-loop
@@ -111,32 +159,66 @@ slice-aggregate-put-record c =
 put-record-requires : tie.Need-put-record-requires Inv-loop μ-loop
 put-record-requires c κs =
     let c3 = c .before .before .before in
-    let c45 = c3 .before .before .before .before .before .before .before .before .before .before .before .before .before .before .before .before .before .before .before .before .before .before .before .before .before .before .before .before .before .before .before .before .before .before .before .before .before .before .before .before .before .before in
+    let c45 = c3 .before .before .before .before .before .before .before .before .before .before .before .before .before .before
+    .before .before .before .before .before .before .before .before .before .before .before .before .before .before .before .before
+    .before .before .before .before .before .before .before .before .before .before .before .before in
     let c46 = c45 .before in
     let c47 = c46 .before in
-    let c69 = c47 .before .before .before .before .before .before .before .before .before .before .before .before .before .before .before .before .before .before .before .before .before .before in
-    (omega (arith, c69 .pre .3, c69 .pre .1, c46 .loop-test .taken, c47 .loop .inv .1 .room, c47 .loop .inv .1 .puts .size), c69 .pre .4, rw (c45 .judged-part .ensures) (part-long (c69 .args .block .now) (c47 .loop .i) (c69 .pre .0) (omega (arith, c46 .loop-test .taken, c69 .pre .1))), take-most _ _ (c3 .put-figures-if .ensures .1 .1 .0))
+    let c69 = c47 .before .before .before .before .before .before .before .before .before .before .before .before .before .before
+    .before .before .before .before .before .before .before .before in (
+      omega (arith, c69 .pre .3, c69 .pre .1, c46 .loop-test .taken, c47 .loop .inv .1 .room, c47 .loop .inv .1 .puts .size),
+      c69
+          .pre .4,
+      rw (c45 .judged-part .ensures) (part-long (c69 .args .block .now) (c47 .loop .i) (c69 .pre .0) (omega (
+        arith,
+        c46
+            .loop-test .taken,
+        c69 .pre .1,
+      ))),
+      take-most _ _ (c3 .put-figures-if .ensures .1 .1 .0),
+    )
 
 add-i : tie.Need-add-i Inv-loop μ-loop
 add-i c =
-    let c49 = c .before .before .before .before .before .before .before .before .before .before .before .before .before .before .before .before .before .before .before .before .before .before .before .before .before .before .before .before .before .before .before .before .before .before .before .before .before .before .before .before .before .before .before .before .before .before .before .before .before in
-    let c72 = c49 .before .before .before .before .before .before .before .before .before .before .before .before .before .before .before .before .before .before .before .before .before .before .before in
+    let c49 = c .before .before .before .before .before .before .before .before .before .before .before .before .before .before
+    .before .before .before .before .before .before .before .before .before .before .before .before .before .before .before .before
+    .before .before .before .before .before .before .before .before .before .before .before .before .before .before .before .before
+    .before .before .before in
+    let c72 = c49 .before .before .before .before .before .before .before .before .before .before .before .before .before .before
+    .before .before .before .before .before .before .before .before .before in
     omega (arith, c49 .loop-test .taken, c72 .pre .1)
 
 loop-less : tie.Need-loop-less Inv-loop μ-loop
 loop-less c =
-    let c49 = c .before .before .before .before .before .before .before .before .before .before .before .before .before .before .before .before .before .before .before .before .before .before .before .before .before .before .before .before .before .before .before .before .before .before .before .before .before .before .before .before .before .before .before .before .before .before .before .before .before in
+    let c49 = c .before .before .before .before .before .before .before .before .before .before .before .before .before .before
+    .before .before .before .before .before .before .before .before .before .before .before .before .before .before .before .before
+    .before .before .before .before .before .before .before .before .before .before .before .before .before .before .before .before
+    .before .before .before in
     omega (arith, c49 .loop-test .taken)
 
 loop-again : tie.Need-loop-again Inv-loop μ-loop
 loop-again c =
     let c6 = c .before .before .before .before .before .before in
-    let c35 = c6 .before .before .before .before .before .before .before .before .before .before .before .before .before .before .before .before .before .before .before .before .before .before .before .before .before .before .before .before .before in
+    let c35 = c6 .before .before .before .before .before .before .before .before .before .before .before .before .before .before
+    .before .before .before .before .before .before .before .before .before .before .before .before .before .before .before in
     let c48 = c35 .before .before .before .before .before .before .before .before .before .before .before .before .before in
     let c49 = c48 .before in
     let c50 = c49 .before in
-    let c72 = c50 .before .before .before .before .before .before .before .before .before .before .before .before .before .before .before .before .before .before .before .before .before .before in
-    (omega (arith, c49 .loop-test .taken), listed-next (c72 .args .block .now) (c72 .args .first) (c72 .args .o) (c72 .args .out .now) (lent (c72 .args .supply) (c72 .args .accounts .now) (c72 .args .counts .now) (c72 .args .balances .now) (c72 .args .numbers .now) (c72 .args .amounts .now) (c72 .args .senders .now) (c72 .args .receivers .now) (c72 .args .kinds .now) (c72 .args .ledgers .now) (c72 .args .verdicts .now)) (c50 .loop .i) _ _ (c50 .loop .inv .1) (c48 .judged-part .ensures) (rw (c48 .judged-part .ensures) (part-long (c72 .args .block .now) (c50 .loop .i) (c72 .pre .0) (omega (arith, c49 .loop-test .taken, c72 .pre .1)))) (c35 .step .ensures .0) (c35 .step .ensures .1 .0) (c35 .step .ensures .1 .1) (c6 .put-figures-if .ensures .0) (c6 .put-figures-if .ensures .1 .0) (c6 .put-figures-if .ensures .1 .1 .0) (c6 .put-figures-if .ensures .1 .1 .1) (take-most _ _ (c6 .put-figures-if .ensures .1 .1 .0)) (c .before .before .put-record .ensures))
+    let c72 = c50 .before .before .before .before .before .before .before .before .before .before .before .before .before .before
+    .before .before .before .before .before .before .before .before in (
+      omega (arith, c49 .loop-test .taken),
+      listed-next (c72 .args .block .now) (c72 .args .first) (c72 .args .o) (c72 .args .out
+          .now) (lent (c72 .args .supply) (c72 .args .accounts .now) (c72 .args .counts .now) (c72 .args .balances .now) (c72 .args
+          .numbers .now) (c72 .args .amounts .now) (c72 .args .senders .now) (c72 .args .receivers .now) (c72 .args .kinds .now) (c72
+          .args .ledgers .now) (c72 .args .verdicts .now)) (c50 .loop .i) _ _ (c50 .loop .inv .1) (c48 .judged-part .ensures) (rw (c48
+          .judged-part .ensures) (part-long (c72 .args .block .now) (c50 .loop .i) (c72 .pre .0) (omega (
+            arith,
+            c49 .loop-test .taken,
+            c72 .pre .1,
+          )))) (c35 .step .ensures .0) (c35 .step .ensures .1 .0) (c35 .step .ensures .1 .1) (c6 .put-figures-if .ensures .0)
+          (c6 .put-figures-if .ensures .1 .0) (c6 .put-figures-if .ensures .1 .1 .0) (c6 .put-figures-if .ensures .1 .1 .1) (take-most _
+          _ (c6 .put-figures-if .ensures .1 .1 .0)) (c .before .before .put-record .ensures),
+    )
 
 same-length : tie.Need-same-length Inv-loop μ-loop
 same-length c =
@@ -204,10 +286,25 @@ same-length-13 c =
 
 returns : tie.Need-returns Inv-loop μ-loop
 returns c =
-    let c23 = c .before .before .before .before .before .before .before .before .before .before .before .before .before .before .before .before .before .before .before .before .before .before .before in
+    let c23 = c .before .before .before .before .before .before .before .before .before .before .before .before .before .before
+    .before .before .before .before .before .before .before .before .before in
     let e : c .before .loop .i ≡ c23 .args .count = omega (arith, c .before .loop .inv .0, c .loop-test .left) in
-    let v = c .before .loop .inv .1 in
-    (subst (λ (k : ℕ). Put (c23 .args .out .now) (c23 .args .o) (recordLines pairChecker stateFigures (lent (c23 .args .supply) (c23 .args .accounts .now) (c23 .args .counts .now) (c23 .args .balances .now) (c23 .args .numbers .now) (c23 .args .amounts .now) (c23 .args .senders .now) (c23 .args .receivers .now) (c23 .args .kinds .now) (c23 .args .ledgers .now) (c23 .args .verdicts .now)) (c23 .args .first) (recordsIn k (c23 .args .block .now))) (c .before .loop .out) (c .before .loop .p)) e (v .puts), (subst (λ (k : ℕ). lent (c23 .args .supply) (c23 .args .accounts .now) (c .before .loop .counts) (c .before .loop .balances) (c .before .loop .numbers) (c .before .loop .amounts) (c .before .loop .senders) (c .before .loop .receivers) (c .before .loop .kinds) (c .before .loop .ledgers) (c .before .loop .verdicts) ≡ stateListed pairChecker (lent (c23 .args .supply) (c23 .args .accounts .now) (c23 .args .counts .now) (c23 .args .balances .now) (c23 .args .numbers .now) (c23 .args .amounts .now) (c23 .args .senders .now) (c23 .args .receivers .now) (c23 .args .kinds .now) (c23 .args .ledgers .now) (c23 .args .verdicts .now)) (recordsIn k (c23 .args .block .now))) e (v .leaves), (v .ready, omega (arith, v .room, c23 .pre .1))))
+    let v = c .before .loop .inv .1 in (
+      subst (λ (k : ℕ). Put (c23 .args .out .now) (c23 .args .o) (recordLines pairChecker stateFigures (lent (c23 .args .supply)
+          (c23 .args .accounts .now) (c23 .args .counts .now) (c23 .args .balances .now) (c23 .args .numbers .now) (c23 .args .amounts
+          .now) (c23 .args .senders .now) (c23 .args .receivers .now) (c23 .args .kinds .now) (c23 .args .ledgers .now) (c23 .args
+          .verdicts .now)) (c23 .args .first) (recordsIn k (c23 .args .block .now))) (c .before .loop .out) (c .before .loop .p)) e (v
+          .puts),
+      (
+        subst (λ (k : ℕ). lent (c23 .args .supply) (c23 .args .accounts .now) (c .before .loop .counts) (c .before .loop
+            .balances) (c .before .loop .numbers) (c .before .loop .amounts) (c .before .loop .senders) (c .before .loop .receivers) (c
+            .before .loop .kinds) (c .before .loop .ledgers) (c .before .loop .verdicts) ≡ stateListed pairChecker (lent (c23 .args
+            .supply) (c23 .args .accounts .now) (c23 .args .counts .now) (c23 .args .balances .now) (c23 .args .numbers .now) (c23 .args
+            .amounts .now) (c23 .args .senders .now) (c23 .args .receivers .now) (c23 .args .kinds .now) (c23 .args .ledgers .now) (c23
+            .args .verdicts .now)) (recordsIn k (c23 .args .block .now))) e (v .leaves),
+        (v .ready, omega (arith, v .room, c23 .pre .1)),
+      ),
+    )
 
 pub list-records-spec : {M : Type 1} → statement M
 list-records-spec =

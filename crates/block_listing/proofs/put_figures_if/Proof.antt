@@ -21,8 +21,22 @@ same-length c = search needs
 returns-2 : tie.Need-returns-2
 returns-2 c =
     let c4 = c .before .before .before .before in
-    let c6 = c4 .before .before in
-    ((λ e. c .before .before .put-figures .ensures .text), ((λ z. absurd (z (c4 .if1 .left))), (omega (arith, c .before .before .put-figures .ensures .next, figures-short (c6 .args .home) (c6 .args .far) (c6 .args .flight)), c .before .before .put-figures .ensures .size ∙ c6 .pre .0)))
+    let c6 = c4 .before .before in (
+      (λ e. c .before .before .put-figures .ensures .text),
+      (
+        (λ z. absurd (z (c4 .if1 .left))),
+        (
+          omega (
+            arith,
+            c .before .before
+                .put-figures .ensures .next,
+            figures-short (c6 .args .home) (c6 .args .far) (c6 .args .flight),
+          ),
+          c .before .before .put-figures
+              .ensures .size ∙ c6 .pre .0,
+        ),
+      ),
+    )
 
 pub put-figures-if-spec : {M : Type 1} → statement M
 put-figures-if-spec = tie.close (tie.spec returns put-figures-requires same-length returns-2)

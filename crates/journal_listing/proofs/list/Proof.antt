@@ -59,13 +59,22 @@ array-share-prefix-out c = search needs
 slice-aggregate-write-all : tie.Need-slice-aggregate-write-all
 slice-aggregate-write-all c =
     let c5 = c .before .before .before .before .before in
-    sym (length-take-le _ _ (omega (arith, c5 .list-opening .ensures .1 .1 .1, c5 .list-opening .ensures .0 .size, length-replicate {A = ℕ} (64 * (14 * 128)) 0)))
+    sym (length-take-le _ _ (omega (
+      arith,
+      c5 .list-opening .ensures .1 .1 .1,
+      c5 .list-opening .ensures .0 .size,
+      length-replicate
+          {A = ℕ} (64 * (14 * 128)) 0,
+    )))
 
 write-all-requires : tie.Need-write-all-requires
 write-all-requires c κs = search needs
 
 returns : tie.Need-returns
 returns c = search needs
+
+returns-2 : tie.Need-returns-2
+returns-2 c = search needs
 
 slice-aggregate-list-rest : tie.Need-slice-aggregate-list-rest
 slice-aggregate-list-rest c = search needs
@@ -114,14 +123,23 @@ slice-aggregate-list-rest-15 c = search needs
 
 list-rest-requires : tie.Need-list-rest-requires
 list-rest-requires c κs =
-    let c16 = c .before .before .before .before .before .before .before .before .before .before .before .before .before .before .before .before in
-    let c24 = c16 .before .before .before .before .before .before .before .before in
-    let c37 = c24 .before .before .before .before .before .before .before .before .before .before .before .before .before in
-    let o = c24 .list-opening .ensures in
-    (record { records = omega arith; block-fits = omega arith; index-fits = omega arith }, refl, length-replicate {A = ℕ} (64 * 512) 0, o .0 .size ∙ length-replicate {A = ℕ} (64 * (14 * 128)) 0, c37 .pairs .ensures, started _ _ _ _ _ _ (o .1 .0 (not-false _ (c16 .if1 .left))))
+    let c16 = c .before .before .before .before .before .before .before .before .before .before .before .before .before .before
+    .before .before in
+    let c25 = c16 .before .before .before .before .before .before .before .before .before in
+    let c38 = c25 .before .before .before .before .before .before .before .before .before .before .before .before .before in
+    let o = c25 .list-opening .ensures in (
+      record { records = omega arith; block-fits = omega arith; index-fits = omega arith },
+      refl,
+      length-replicate {A = ℕ} (64 *
+          512) 0,
+      o .0 .size ∙ length-replicate {A = ℕ} (64 * (14 * 128)) 0,
+      c38 .pairs .ensures,
+      started _ _ _ _ _ _ (o .1 .0 (not-false
+          _ (c16 .if2 .left))),
+    )
 
-returns-2 : tie.Need-returns-2
-returns-2 c = search needs
+returns-3 : tie.Need-returns-3
+returns-3 c = search needs
 
 pub list-spec : {M : Type 1} → statement M
 list-spec =
@@ -145,6 +163,7 @@ list-spec =
     slice-aggregate-write-all
     write-all-requires
     returns
+    returns-2
     slice-aggregate-list-rest
     slice-aggregate-list-rest-2
     slice-aggregate-list-rest-3
@@ -161,4 +180,4 @@ list-spec =
     slice-aggregate-list-rest-14
     slice-aggregate-list-rest-15
     list-rest-requires
-    returns-2)
+    returns-3)

@@ -11,15 +11,36 @@ use Rattle.journal_listing.proofs.list_rest.Statement.{statement}
 use Rattle.journal_listing.proofs.list_rest.Tie as tie
 
 abbrev Inv-loop : tie.InvT-loop
-Inv-loop source target input₀ table out₀ supply figures₀ accounts counts₀ balances₀ numbers₀ amounts₀ senders₀ receivers₀ kinds₀ ledgers₀ verdicts₀ heads₀ nexts₀ run₀ turns₀ input out figures counts balances numbers amounts senders receivers kinds ledgers verdicts heads nexts run turns =
-    Bounded run × (run .end ≡ 0) × (length input ≡ 64 * 512) × (length out ≡ 64 * (14 * 128)) × Ready (lent supply accounts counts balances numbers amounts senders receivers kinds ledgers verdicts) figures heads nexts
+Inv-loop source target input₀ digits out₀ supply figures₀ accounts counts₀ balances₀ numbers₀ amounts₀ senders₀ receivers₀ kinds₀
+    ledgers₀ verdicts₀ heads₀ nexts₀ run₀ turns₀ input out figures counts balances numbers amounts senders receivers kinds ledgers
+    verdicts heads nexts run turns =
+    Bounded run × (run .end ≡ 0) × (length input ≡ 64 * 512) × (length out ≡ 64 * (14 * 128)) × Ready (lent supply accounts counts
+    balances numbers amounts senders receivers kinds ledgers verdicts) figures heads nexts
 
 abbrev μ-loop : tie.MeasureT-loop
-μ-loop source target input₀ table out₀ supply figures₀ accounts counts₀ balances₀ numbers₀ amounts₀ senders₀ receivers₀ kinds₀ ledgers₀ verdicts₀ heads₀ nexts₀ run₀ turns₀ input out figures counts balances numbers amounts senders receivers kinds ledgers verdicts heads nexts run turns =
+μ-loop source target input₀ digits out₀ supply figures₀ accounts counts₀ balances₀ numbers₀ amounts₀ senders₀ receivers₀ kinds₀
+    ledgers₀ verdicts₀ heads₀ nexts₀ run₀ turns₀ input out figures counts balances numbers amounts senders receivers kinds ledgers
+    verdicts heads nexts run turns =
     turns
 
 -- the state is ready
-ready-at : (c : tie.After-slice-known14 Inv-loop μ-loop) → Ready (lent (c .before .before .before .before .before .before .before .before .before .before .before .before .before .before .before .args .supply) (c .before .before .before .before .before .before .before .before .before .before .before .before .before .before .before .args .accounts .now) (c .before .before .before .before .before .before .before .before .before .before .before .before .before .before .before .args .counts .now) (c .before .before .before .before .before .before .before .before .before .before .before .before .before .before .before .args .balances .now) (c .before .before .before .before .before .before .before .before .before .before .before .before .before .before .before .args .numbers .now) (c .before .before .before .before .before .before .before .before .before .before .before .before .before .before .before .args .amounts .now) (c .before .before .before .before .before .before .before .before .before .before .before .before .before .before .before .args .senders .now) (c .before .before .before .before .before .before .before .before .before .before .before .before .before .before .before .args .receivers .now) (c .before .before .before .before .before .before .before .before .before .before .before .before .before .before .before .args .kinds .now) (c .before .before .before .before .before .before .before .before .before .before .before .before .before .before .before .args .ledgers .now) (c .before .before .before .before .before .before .before .before .before .before .before .before .before .before .before .args .verdicts .now)) (c .before .before .before .before .before .before .before .before .before .before .before .before .before .before .before .args .figures .now) (c .before .before .before .before .before .before .before .before .before .before .before .before .before .before .before .args .heads .now) (c .before .before .before .before .before .before .before .before .before .before .before .before .before .before .before .args .nexts .now)
+ready-at : (c : tie.After-slice-known14 Inv-loop μ-loop) → Ready (lent (c .before .before .before .before .before .before .before
+    .before .before .before .before .before .before .before .before .args .supply) (c .before .before .before .before .before
+    .before .before .before .before .before .before .before .before .before .before .args .accounts .now) (c .before .before
+    .before .before .before .before .before .before .before .before .before .before .before .before .before .args .counts .now) (c
+    .before .before .before .before .before .before .before .before .before .before .before .before .before .before .before .args
+    .balances .now) (c .before .before .before .before .before .before .before .before .before .before .before .before .before
+    .before .before .args .numbers .now) (c .before .before .before .before .before .before .before .before .before .before .before
+    .before .before .before .before .args .amounts .now) (c .before .before .before .before .before .before .before .before .before
+    .before .before .before .before .before .before .args .senders .now) (c .before .before .before .before .before .before .before
+    .before .before .before .before .before .before .before .before .args .receivers .now) (c .before .before .before .before
+    .before .before .before .before .before .before .before .before .before .before .before .args .kinds .now) (c .before .before
+    .before .before .before .before .before .before .before .before .before .before .before .before .before .args .ledgers .now) (c
+    .before .before .before .before .before .before .before .before .before .before .before .before .before .before .before .args
+    .verdicts .now)) (c .before .before .before .before .before .before .before .before .before .before .before .before .before
+    .before .before .args .figures .now) (c .before .before .before .before .before .before .before .before .before .before .before
+    .before .before .before .before .args .heads .now) (c .before .before .before .before .before .before .before .before .before
+    .before .before .before .before .before .before .args .nexts .now)
 ready-at c =
     let c15 = c .before .before .before .before .before .before .before .before .before .before .before .before .before .before .before in
     c15 .pre .5
@@ -32,13 +53,15 @@ loop-holds c =
 same-length : tie.Need-same-length Inv-loop μ-loop
 same-length c =
     let c3 = c .before .before .before in
-    let c19 = c3 .before .before .before .before .before .before .before .before .before .before .before .before .before .before .before .before in
+    let c19 = c3 .before .before .before .before .before .before .before .before .before .before .before .before .before .before
+    .before .before in
     c3 .loop .inv .2 ∙ sym (c19 .pre .2)
 
 same-length-2 : tie.Need-same-length-2 Inv-loop μ-loop
 same-length-2 c =
     let c3 = c .before .before .before in
-    let c19 = c3 .before .before .before .before .before .before .before .before .before .before .before .before .before .before .before .before in
+    let c19 = c3 .before .before .before .before .before .before .before .before .before .before .before .before .before .before
+    .before .before in
     c3 .loop .inv .3 ∙ sym (c19 .pre .3)
 
 same-length-3 : tie.Need-same-length-3 Inv-loop μ-loop
@@ -118,37 +141,47 @@ returns c = search needs
 
 turn-requires : tie.Need-turn-requires Inv-loop μ-loop
 turn-requires c κs =
-    let c17 = c .before .before .before .before .before .before .before .before .before .before .before .before .before .before .before .before .before in
-    let c33 = c17 .before .before .before .before .before .before .before .before .before .before .before .before .before .before .before .before in
+    let c17 = c .before .before .before .before .before .before .before .before .before .before .before .before .before .before
+    .before .before .before in
+    let c33 = c17 .before .before .before .before .before .before .before .before .before .before .before .before .before .before
+    .before .before in
     (c17 .loop .inv .0, c17 .loop .inv .1, c17 .loop .inv .2, c17 .loop .inv .3, c33 .pre .4, c17 .loop .inv .4)
 
 sub-turns : tie.Need-sub-turns Inv-loop μ-loop
 sub-turns c =
-    let c45 = c .before .before .before .before .before .before .before .before .before .before .before .before .before .before .before .before .before .before .before .before .before .before .before .before .before .before .before .before .before .before .before .before .before .before .before .before .before .before .before .before .before .before .before .before .before in
+    let c45 = c .before .before .before .before .before .before .before .before .before .before .before .before .before .before
+    .before .before .before .before .before .before .before .before .before .before .before .before .before .before .before .before
+    .before .before .before .before .before .before .before .before .before .before .before .before .before .before .before in
     omega (arith, c45 .loop-test .taken)
 
 loop-less : tie.Need-loop-less Inv-loop μ-loop
 loop-less c =
-    let c45 = c .before .before .before .before .before .before .before .before .before .before .before .before .before .before .before .before .before .before .before .before .before .before .before .before .before .before .before .before .before .before .before .before .before .before .before .before .before .before .before .before .before .before .before .before .before in
+    let c45 = c .before .before .before .before .before .before .before .before .before .before .before .before .before .before
+    .before .before .before .before .before .before .before .before .before .before .before .before .before .before .before .before
+    .before .before .before .before .before .before .before .before .before .before .before .before .before .before .before in
     omega (arith, c45 .loop-test .taken)
 
 loop-again : tie.Need-loop-again Inv-loop μ-loop
 loop-again c =
-    let c25 = c .before .before .before .before .before .before .before .before .before .before .before .before .before .before .before .before .before .before .before .before .before .before .before .before .before in
+    let c25 = c .before .before .before .before .before .before .before .before .before .before .before .before .before .before
+    .before .before .before .before .before .before .before .before .before .before .before in
     let c27 = c25 .before .before in
     let c28 = c27 .before in
-    let c46 = c28 .before .before .before .before .before .before .before .before .before .before .before .before .before .before .before .before .before .before in
+    let c46 = c28 .before .before .before .before .before .before .before .before .before .before .before .before .before .before
+    .before .before .before .before in
     let e = c28 .turn .ensures in
-    (e .0, e .1, c27 .input .given ∙ c46 .loop .inv .2, c25 .out .given ∙ c46 .loop .inv .3, e .2)
+    (e .0 .0, e .0 .1, c27 .input .given ∙ c46 .loop .inv .2, c25 .out .given ∙ c46 .loop .inv .3, e .0 .2)
 
 same-length-15 : tie.Need-same-length-15 Inv-loop μ-loop
 same-length-15 c =
-    let c17 = c .before .before .before .before .before .before .before .before .before .before .before .before .before .before .before .before .before in
+    let c17 = c .before .before .before .before .before .before .before .before .before .before .before .before .before .before
+    .before .before .before in
     c .before .loop .inv .2 ∙ sym (c17 .pre .2)
 
 same-length-16 : tie.Need-same-length-16 Inv-loop μ-loop
 same-length-16 c =
-    let c17 = c .before .before .before .before .before .before .before .before .before .before .before .before .before .before .before .before .before in
+    let c17 = c .before .before .before .before .before .before .before .before .before .before .before .before .before .before
+    .before .before .before in
     c .before .loop .inv .3 ∙ sym (c17 .pre .3)
 
 same-length-17 : tie.Need-same-length-17 Inv-loop μ-loop

@@ -16,7 +16,12 @@ sub-figures c = search needs
 
 add-figures : tie.Need-add-figures
 add-figures c =
-    omega (arith, moved-total (c .before .args .figures .now) (c .before .args .l) (c .before .args .supply) (c .before .args .taken) (c .before .args .given) (c .before .pre .1) (c .before .pre .2) (c .before .pre .3), c .before .fits .supply)
+    omega (
+      arith,
+      moved-total (c .before .args .figures .now) (c .before .args .l) (c .before .args .supply) (c .before .args
+          .taken) (c .before .args .given) (c .before .pre .1) (c .before .pre .2) (c .before .pre .3),
+      c .before .fits .supply,
+    )
 
 mul-figures : tie.Need-mul-figures
 mul-figures c = search needs
@@ -33,12 +38,20 @@ slice-read-far c = search needs
 sub-figures-2 : tie.Need-sub-figures-2
 sub-figures-2 c =
     let c3 = c .before .before .before in
-    omega (arith, moved-totals (c3 .args .figures .now) (c3 .args .l) (c3 .args .supply) (c3 .args .taken) (c3 .args .given) (c3 .pre .0) (c3 .pre .1) (c3 .pre .2) (c3 .pre .3))
+    omega (
+      arith,
+      moved-totals (c3 .args .figures .now) (c3 .args .l) (c3 .args .supply) (c3 .args .taken) (c3 .args .given) (c3
+          .pre .0) (c3 .pre .1) (c3 .pre .2) (c3 .pre .3),
+    )
 
 sub-figures-3 : tie.Need-sub-figures-3
 sub-figures-3 c =
     let c3 = c .before .before .before in
-    omega (arith, moved-totals (c3 .args .figures .now) (c3 .args .l) (c3 .args .supply) (c3 .args .taken) (c3 .args .given) (c3 .pre .0) (c3 .pre .1) (c3 .pre .2) (c3 .pre .3))
+    omega (
+      arith,
+      moved-totals (c3 .args .figures .now) (c3 .args .l) (c3 .args .supply) (c3 .args .taken) (c3 .args .given) (c3
+          .pre .0) (c3 .pre .1) (c3 .pre .2) (c3 .pre .3),
+    )
 
 slice-write-figures-2 : tie.Need-slice-write-figures-2
 slice-write-figures-2 c = search needs

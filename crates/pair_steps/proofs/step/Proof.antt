@@ -4,7 +4,8 @@ use native.Mathlib.Omega.{arith}
 use borrow.Author.Needs.{needs}
 use Rattle.ledgers.specs.Ledgers.{ledgerByte, ledgerOf}
 use Rattle.pair_steps.proofs.Figures.{FiguresMove}
-use Rattle.pair_steps.proofs.Stepping.{figures-stored, heads-room, ready-same, ready-sound, ready-stored, step-passed, step-refused, stored-lent}
+use Rattle.pair_steps.proofs.Stepping.{figures-stored, heads-room, ready-same, ready-sound, ready-stored, step-passed}
+use Rattle.pair_steps.proofs.Stepping.{step-refused, stored-lent}
 use Rattle.pair_steps.specs.Steps.{Ready, figuresIn, lent}
 use Rattle.pair_validator.proofs.Stepping.{Judged, Writes, fits-of, judged-of, storedState, writes-of}
 use Rattle.pair_validator.specs.State.{tablesOf, viewOfState}
@@ -12,15 +13,44 @@ use Rattle.pair_steps.proofs.step.Statement.{statement}
 use Rattle.pair_steps.proofs.step.Tie as tie
 
 -- what the caller hands in
-ready-at : (c : tie.After-judge-bytes-arg9) → Ready (lent (c .before .before .before .before .before .before .before .before .before .before .before .before .before .before .before .before .before .before .before .before .before .before .before .args .supply) (c .before .before .before .before .before .before .before .before .before .before .before .before .before .before .before .before .before .before .before .before .before .before .before .args .accounts .now) (c .before .before .before .before .before .before .before .before .before .before .before .before .before .before .before .before .before .before .before .before .before .before .before .args .counts .now) (c .before .before .before .before .before .before .before .before .before .before .before .before .before .before .before .before .before .before .before .before .before .before .before .args .balances .now) (c .before .before .before .before .before .before .before .before .before .before .before .before .before .before .before .before .before .before .before .before .before .before .before .args .numbers .now) (c .before .before .before .before .before .before .before .before .before .before .before .before .before .before .before .before .before .before .before .before .before .before .before .args .amounts .now) (c .before .before .before .before .before .before .before .before .before .before .before .before .before .before .before .before .before .before .before .before .before .before .before .args .senders .now) (c .before .before .before .before .before .before .before .before .before .before .before .before .before .before .before .before .before .before .before .before .before .before .before .args .receivers .now) (c .before .before .before .before .before .before .before .before .before .before .before .before .before .before .before .before .before .before .before .before .before .before .before .args .kinds .now) (c .before .before .before .before .before .before .before .before .before .before .before .before .before .before .before .before .before .before .before .before .before .before .before .args .ledgers .now) (c .before .before .before .before .before .before .before .before .before .before .before .before .before .before .before .before .before .before .before .before .before .before .before .args .verdicts .now)) (c .before .before .before .before .before .before .before .before .before .before .before .before .before .before .before .before .before .before .before .before .before .before .before .args .figures .now) (c .before .before .before .before .before .before .before .before .before .before .before .before .before .before .before .before .before .before .before .before .before .before .before .args .heads .now) (c .before .before .before .before .before .before .before .before .before .before .before .before .before .before .before .before .before .before .before .before .before .before .before .args .nexts .now)
+ready-at : (c : tie.After-judge-bytes-arg9) → Ready (lent (c .before .before .before .before .before .before .before .before
+    .before .before .before .before .before .before .before .before .before .before .before .before .before .before .before .args
+    .supply) (c .before .before .before .before .before .before .before .before .before .before .before .before .before .before
+    .before .before .before .before .before .before .before .before .before .args .accounts .now) (c .before .before .before
+    .before .before .before .before .before .before .before .before .before .before .before .before .before .before .before .before
+    .before .before .before .before .args .counts .now) (c .before .before .before .before .before .before .before .before .before
+    .before .before .before .before .before .before .before .before .before .before .before .before .before .before .args .balances
+    .now) (c .before .before .before .before .before .before .before .before .before .before .before .before .before .before
+    .before .before .before .before .before .before .before .before .before .args .numbers .now) (c .before .before .before .before
+    .before .before .before .before .before .before .before .before .before .before .before .before .before .before .before .before
+    .before .before .before .args .amounts .now) (c .before .before .before .before .before .before .before .before .before .before
+    .before .before .before .before .before .before .before .before .before .before .before .before .before .args .senders .now) (c
+    .before .before .before .before .before .before .before .before .before .before .before .before .before .before .before .before
+    .before .before .before .before .before .before .before .args .receivers .now) (c .before .before .before .before .before
+    .before .before .before .before .before .before .before .before .before .before .before .before .before .before .before .before
+    .before .before .args .kinds .now) (c .before .before .before .before .before .before .before .before .before .before .before
+    .before .before .before .before .before .before .before .before .before .before .before .before .args .ledgers .now) (c .before
+    .before .before .before .before .before .before .before .before .before .before .before .before .before .before .before .before
+    .before .before .before .before .before .before .args .verdicts .now)) (c .before .before .before .before .before .before
+    .before .before .before .before .before .before .before .before .before .before .before .before .before .before .before .before
+    .before .args .figures .now) (c .before .before .before .before .before .before .before .before .before .before .before .before
+    .before .before .before .before .before .before .before .before .before .before .before .args .heads .now) (c .before .before
+    .before .before .before .before .before .before .before .before .before .before .before .before .before .before .before .before
+    .before .before .before .before .before .args .nexts .now)
 ready-at c =
-    let c23 = c .before .before .before .before .before .before .before .before .before .before .before .before .before .before .before .before .before .before .before .before .before .before .before in
+    let c23 = c .before .before .before .before .before .before .before .before .before .before .before .before .before .before
+    .before .before .before .before .before .before .before .before .before in
     c23 .pre
 
 judge-bytes-requires : tie.Need-judge-bytes-requires
 judge-bytes-requires c κs =
-    let c23 = c .before .before .before .before .before .before .before .before .before .before .before .before .before .before .before .before .before .before .before .before .before .before .before in
-    (fits-of (tablesOf (lent (c23 .args .supply) (c23 .args .accounts .now) (c23 .args .counts .now) (c23 .args .balances .now) (c23 .args .numbers .now) (c23 .args .amounts .now) (c23 .args .senders .now) (c23 .args .receivers .now) (c23 .args .kinds .now) (c23 .args .ledgers .now) (c23 .args .verdicts .now))) (ready-sound (ready-at c)), ready-at c .indexes)
+    let c23 = c .before .before .before .before .before .before .before .before .before .before .before .before .before .before
+    .before .before .before .before .before .before .before .before .before in (
+      fits-of (tablesOf (lent (c23 .args .supply) (c23 .args .accounts .now) (c23 .args .counts .now) (c23 .args .balances .now)
+          (c23 .args .numbers .now) (c23 .args .amounts .now) (c23 .args .senders .now) (c23 .args .receivers .now) (c23 .args .kinds
+          .now) (c23 .args .ledgers .now) (c23 .args .verdicts .now))) (ready-sound (ready-at c)),
+      ready-at c .indexes,
+    )
 
 same-length : tie.Need-same-length
 same-length c = search needs
@@ -52,12 +82,38 @@ same-length-9 c = search needs
 returns : tie.Need-returns
 returns c =
     let c3 = c .before .before .before in
-    let c26 = c3 .before .before .before .before .before .before .before .before .before .before .before .before .before .before .before .before .before .before .before .before .before .before .before in
-    let u = step-refused (lent (c26 .args .supply) (c26 .args .accounts .now) (c26 .args .counts .now) (c26 .args .balances .now) (c26 .args .numbers .now) (c26 .args .amounts .now) (c26 .args .senders .now) (c26 .args .receivers .now) (c26 .args .kinds .now) (c26 .args .ledgers .now) (c26 .args .verdicts .now)) (ready-at c3) (c26 .args .bytes .now) _ (c .before .before .judge-bytes .ensures .refusal-is) (c .if1 .taken) in
+    let c26 = c3 .before .before .before .before .before .before .before .before .before .before .before .before .before .before
+    .before .before .before .before .before .before .before .before .before in
+    let u = step-refused (lent (c26 .args .supply) (c26 .args .accounts .now) (c26 .args .counts .now) (c26 .args .balances .now)
+    (c26 .args .numbers .now) (c26 .args .amounts .now) (c26 .args .senders .now) (c26 .args .receivers .now) (c26 .args .kinds
+    .now) (c26 .args .ledgers .now) (c26 .args .verdicts .now)) (ready-at c3) (c26 .args .bytes .now) _ (c .before .before
+    .judge-bytes .ensures .refusal-is) (c .if1 .taken) in
     (u .0, (u .1, (ready-at c3)))
 
 -- the record passes
-judged-at : (c : tie.Else1) → Judged (lent (c .before .before .before .before .before .before .before .before .before .before .before .before .before .before .before .before .before .before .before .before .before .before .before .before .before .before .args .supply) (c .before .before .before .before .before .before .before .before .before .before .before .before .before .before .before .before .before .before .before .before .before .before .before .before .before .before .args .accounts .now) (c .before .before .before .before .before .before .before .before .before .before .before .before .before .before .before .before .before .before .before .before .before .before .before .before .before .before .args .counts .now) (c .before .before .before .before .before .before .before .before .before .before .before .before .before .before .before .before .before .before .before .before .before .before .before .before .before .before .args .balances .now) (c .before .before .before .before .before .before .before .before .before .before .before .before .before .before .before .before .before .before .before .before .before .before .before .before .before .before .args .numbers .now) (c .before .before .before .before .before .before .before .before .before .before .before .before .before .before .before .before .before .before .before .before .before .before .before .before .before .before .args .amounts .now) (c .before .before .before .before .before .before .before .before .before .before .before .before .before .before .before .before .before .before .before .before .before .before .before .before .before .before .args .senders .now) (c .before .before .before .before .before .before .before .before .before .before .before .before .before .before .before .before .before .before .before .before .before .before .before .before .before .before .args .receivers .now) (c .before .before .before .before .before .before .before .before .before .before .before .before .before .before .before .before .before .before .before .before .before .before .before .before .before .before .args .kinds .now) (c .before .before .before .before .before .before .before .before .before .before .before .before .before .before .before .before .before .before .before .before .before .before .before .before .before .before .args .ledgers .now) (c .before .before .before .before .before .before .before .before .before .before .before .before .before .before .before .before .before .before .before .before .before .before .before .before .before .before .args .verdicts .now)) (c .before .before .before .before .before .before .before .before .before .before .before .before .before .before .before .before .before .before .before .before .before .before .before .before .before .before .args .bytes .now) (c .before .before .judge-bytes .result .read)
+judged-at : (c : tie.Else1) → Judged (lent (c .before .before .before .before .before .before .before .before .before .before
+    .before .before .before .before .before .before .before .before .before .before .before .before .before .before .before .before
+    .args .supply) (c .before .before .before .before .before .before .before .before .before .before .before .before .before
+    .before .before .before .before .before .before .before .before .before .before .before .before .before .args .accounts .now)
+    (c .before .before .before .before .before .before .before .before .before .before .before .before .before .before .before
+    .before .before .before .before .before .before .before .before .before .before .before .args .counts .now) (c .before .before
+    .before .before .before .before .before .before .before .before .before .before .before .before .before .before .before .before
+    .before .before .before .before .before .before .before .before .args .balances .now) (c .before .before .before .before
+    .before .before .before .before .before .before .before .before .before .before .before .before .before .before .before .before
+    .before .before .before .before .before .before .args .numbers .now) (c .before .before .before .before .before .before .before
+    .before .before .before .before .before .before .before .before .before .before .before .before .before .before .before .before
+    .before .before .before .args .amounts .now) (c .before .before .before .before .before .before .before .before .before .before
+    .before .before .before .before .before .before .before .before .before .before .before .before .before .before .before .before
+    .args .senders .now) (c .before .before .before .before .before .before .before .before .before .before .before .before .before
+    .before .before .before .before .before .before .before .before .before .before .before .before .before .args .receivers .now)
+    (c .before .before .before .before .before .before .before .before .before .before .before .before .before .before .before
+    .before .before .before .before .before .before .before .before .before .before .before .args .kinds .now) (c .before .before
+    .before .before .before .before .before .before .before .before .before .before .before .before .before .before .before .before
+    .before .before .before .before .before .before .before .before .args .ledgers .now) (c .before .before .before .before .before
+    .before .before .before .before .before .before .before .before .before .before .before .before .before .before .before .before
+    .before .before .before .before .before .args .verdicts .now)) (c .before .before .before .before .before .before .before
+    .before .before .before .before .before .before .before .before .before .before .before .before .before .before .before .before
+    .before .before .before .args .bytes .now) (c .before .before .judge-bytes .result .read)
 judged-at c =
     let c3 = c .before .before .before in
     let f = c .before .before .judge-bytes .ensures in
@@ -77,18 +133,71 @@ entry-of-requires : tie.Need-entry-of-requires
 entry-of-requires c κs = search needs
 
 -- the index of its ledger
-ledger-at : (c : tie.After-entry-of) → c .before .index .result ≡ ledgerByte (ledgerOf (c .before .before .before .before .before .before .judge-bytes .result .read .kind))
+ledger-at : (c : tie.After-entry-of) → c .before .index .result ≡ ledgerByte (ledgerOf (c .before .before .before .before .before
+    .before .judge-bytes .result .read .kind))
 ledger-at c =
     c .before .index .ensures .0 ∙ ap ledgerByte (c .before .before .ledger .ensures)
 
 -- what the stores need
-writes-at : (c : tie.After-entry-of) → Writes (lent (c .before .before .before .before .before .before .before .before .before .before .before .before .before .before .before .before .before .before .before .before .before .before .before .before .before .before .before .before .before .before .args .supply) (c .before .before .before .before .before .before .before .before .before .before .before .before .before .before .before .before .before .before .before .before .before .before .before .before .before .before .before .before .before .before .args .accounts .now) (c .before .before .before .before .before .before .before .before .before .before .before .before .before .before .before .before .before .before .before .before .before .before .before .before .before .before .before .before .before .before .args .counts .now) (c .before .before .before .before .before .before .before .before .before .before .before .before .before .before .before .before .before .before .before .before .before .before .before .before .before .before .before .before .before .before .args .balances .now) (c .before .before .before .before .before .before .before .before .before .before .before .before .before .before .before .before .before .before .before .before .before .before .before .before .before .before .before .before .before .before .args .numbers .now) (c .before .before .before .before .before .before .before .before .before .before .before .before .before .before .before .before .before .before .before .before .before .before .before .before .before .before .before .before .before .before .args .amounts .now) (c .before .before .before .before .before .before .before .before .before .before .before .before .before .before .before .before .before .before .before .before .before .before .before .before .before .before .before .before .before .before .args .senders .now) (c .before .before .before .before .before .before .before .before .before .before .before .before .before .before .before .before .before .before .before .before .before .before .before .before .before .before .before .before .before .before .args .receivers .now) (c .before .before .before .before .before .before .before .before .before .before .before .before .before .before .before .before .before .before .before .before .before .before .before .before .before .before .before .before .before .before .args .kinds .now) (c .before .before .before .before .before .before .before .before .before .before .before .before .before .before .before .before .before .before .before .before .before .before .before .before .before .before .before .before .before .before .args .ledgers .now) (c .before .before .before .before .before .before .before .before .before .before .before .before .before .before .before .before .before .before .before .before .before .before .before .before .before .before .before .before .before .before .args .verdicts .now)) (c .before .index .result) (c .entry-of .result)
+writes-at : (c : tie.After-entry-of) → Writes (lent (c .before .before .before .before .before .before .before .before .before
+    .before .before .before .before .before .before .before .before .before .before .before .before .before .before .before .before
+    .before .before .before .before .before .args .supply) (c .before .before .before .before .before .before .before .before
+    .before .before .before .before .before .before .before .before .before .before .before .before .before .before .before .before
+    .before .before .before .before .before .before .args .accounts .now) (c .before .before .before .before .before .before
+    .before .before .before .before .before .before .before .before .before .before .before .before .before .before .before .before
+    .before .before .before .before .before .before .before .before .args .counts .now) (c .before .before .before .before .before
+    .before .before .before .before .before .before .before .before .before .before .before .before .before .before .before .before
+    .before .before .before .before .before .before .before .before .before .args .balances .now) (c .before .before .before
+    .before .before .before .before .before .before .before .before .before .before .before .before .before .before .before .before
+    .before .before .before .before .before .before .before .before .before .before .before .args .numbers .now) (c .before .before
+    .before .before .before .before .before .before .before .before .before .before .before .before .before .before .before .before
+    .before .before .before .before .before .before .before .before .before .before .before .before .args .amounts .now) (c .before
+    .before .before .before .before .before .before .before .before .before .before .before .before .before .before .before .before
+    .before .before .before .before .before .before .before .before .before .before .before .before .before .args .senders .now) (c
+    .before .before .before .before .before .before .before .before .before .before .before .before .before .before .before .before
+    .before .before .before .before .before .before .before .before .before .before .before .before .before .before .args
+    .receivers .now) (c .before .before .before .before .before .before .before .before .before .before .before .before .before
+    .before .before .before .before .before .before .before .before .before .before .before .before .before .before .before .before
+    .before .args .kinds .now) (c .before .before .before .before .before .before .before .before .before .before .before .before
+    .before .before .before .before .before .before .before .before .before .before .before .before .before .before .before .before
+    .before .before .args .ledgers .now) (c .before .before .before .before .before .before .before .before .before .before .before
+    .before .before .before .before .before .before .before .before .before .before .before .before .before .before .before .before
+    .before .before .before .args .verdicts .now)) (c .before .index .result) (c .entry-of .result)
 writes-at c =
     let c4 = c .before .before .before .before in
     writes-of _ _ _ (judged-at c4) _ _ (ledger-at c) (c .entry-of .ensures)
 
 -- what the figures need
-figures-at : (c : tie.After-entry-of) → FiguresMove (c .before .before .before .before .before .before .before .before .before .before .before .before .before .before .before .before .before .before .before .before .before .before .before .before .before .before .before .before .before .before .args .supply) (c .before .before .before .before .before .before .before .before .before .before .before .before .before .before .before .before .before .before .before .before .before .before .before .before .before .before .before .before .before .before .args .figures .now) (c .before .index .result) (c .entry-of .result .taken) (c .entry-of .result .given) (figuresIn (viewOfState (storedState (lent (c .before .before .before .before .before .before .before .before .before .before .before .before .before .before .before .before .before .before .before .before .before .before .before .before .before .before .before .before .before .before .args .supply) (c .before .before .before .before .before .before .before .before .before .before .before .before .before .before .before .before .before .before .before .before .before .before .before .before .before .before .before .before .before .before .args .accounts .now) (c .before .before .before .before .before .before .before .before .before .before .before .before .before .before .before .before .before .before .before .before .before .before .before .before .before .before .before .before .before .before .args .counts .now) (c .before .before .before .before .before .before .before .before .before .before .before .before .before .before .before .before .before .before .before .before .before .before .before .before .before .before .before .before .before .before .args .balances .now) (c .before .before .before .before .before .before .before .before .before .before .before .before .before .before .before .before .before .before .before .before .before .before .before .before .before .before .before .before .before .before .args .numbers .now) (c .before .before .before .before .before .before .before .before .before .before .before .before .before .before .before .before .before .before .before .before .before .before .before .before .before .before .before .before .before .before .args .amounts .now) (c .before .before .before .before .before .before .before .before .before .before .before .before .before .before .before .before .before .before .before .before .before .before .before .before .before .before .before .before .before .before .args .senders .now) (c .before .before .before .before .before .before .before .before .before .before .before .before .before .before .before .before .before .before .before .before .before .before .before .before .before .before .before .before .before .before .args .receivers .now) (c .before .before .before .before .before .before .before .before .before .before .before .before .before .before .before .before .before .before .before .before .before .before .before .before .before .before .before .before .before .before .args .kinds .now) (c .before .before .before .before .before .before .before .before .before .before .before .before .before .before .before .before .before .before .before .before .before .before .before .before .before .before .before .before .before .before .args .ledgers .now) (c .before .before .before .before .before .before .before .before .before .before .before .before .before .before .before .before .before .before .before .before .before .before .before .before .before .before .before .before .before .before .args .verdicts .now)) (c .before .before .before .before .before .before .judge-bytes .result .read) (c .before .index .result) (c .entry-of .result))))
+figures-at : (c : tie.After-entry-of) → FiguresMove (c .before .before .before .before .before .before .before .before .before
+    .before .before .before .before .before .before .before .before .before .before .before .before .before .before .before .before
+    .before .before .before .before .before .args .supply) (c .before .before .before .before .before .before .before .before
+    .before .before .before .before .before .before .before .before .before .before .before .before .before .before .before .before
+    .before .before .before .before .before .before .args .figures .now) (c .before .index .result) (c .entry-of .result .taken) (c
+    .entry-of .result .given) (figuresIn (viewOfState (storedState (lent (c .before .before .before .before .before .before .before
+    .before .before .before .before .before .before .before .before .before .before .before .before .before .before .before .before
+    .before .before .before .before .before .before .before .args .supply) (c .before .before .before .before .before .before
+    .before .before .before .before .before .before .before .before .before .before .before .before .before .before .before .before
+    .before .before .before .before .before .before .before .before .args .accounts .now) (c .before .before .before .before
+    .before .before .before .before .before .before .before .before .before .before .before .before .before .before .before .before
+    .before .before .before .before .before .before .before .before .before .before .args .counts .now) (c .before .before .before
+    .before .before .before .before .before .before .before .before .before .before .before .before .before .before .before .before
+    .before .before .before .before .before .before .before .before .before .before .before .args .balances .now) (c .before
+    .before .before .before .before .before .before .before .before .before .before .before .before .before .before .before .before
+    .before .before .before .before .before .before .before .before .before .before .before .before .before .args .numbers .now) (c
+    .before .before .before .before .before .before .before .before .before .before .before .before .before .before .before .before
+    .before .before .before .before .before .before .before .before .before .before .before .before .before .before .args .amounts
+    .now) (c .before .before .before .before .before .before .before .before .before .before .before .before .before .before
+    .before .before .before .before .before .before .before .before .before .before .before .before .before .before .before .before
+    .args .senders .now) (c .before .before .before .before .before .before .before .before .before .before .before .before .before
+    .before .before .before .before .before .before .before .before .before .before .before .before .before .before .before .before
+    .before .args .receivers .now) (c .before .before .before .before .before .before .before .before .before .before .before
+    .before .before .before .before .before .before .before .before .before .before .before .before .before .before .before .before
+    .before .before .before .args .kinds .now) (c .before .before .before .before .before .before .before .before .before .before
+    .before .before .before .before .before .before .before .before .before .before .before .before .before .before .before .before
+    .before .before .before .before .args .ledgers .now) (c .before .before .before .before .before .before .before .before .before
+    .before .before .before .before .before .before .before .before .before .before .before .before .before .before .before .before
+    .before .before .before .before .before .args .verdicts .now)) (c .before .before .before .before .before .before .judge-bytes
+    .result .read) (c .before .index .result) (c .entry-of .result))))
 figures-at c =
     let c4 = c .before .before .before .before in
     let c7 = c4 .before .before .before in
@@ -112,8 +221,13 @@ add-place c =
 move-balances-requires : tie.Need-move-balances-requires
 move-balances-requires c κs =
     let c9 = c .before .before .before .before .before .before .before .before .before in
-    let w = writes-at (c .before .before) in
-    (rw ((ready-at c9) .sized .balances-are) (w .from-fits), rw ((ready-at c9) .sized .balances-are) (w .to-fits), w .pays, omega (arith, w .paid-fits))
+    let w = writes-at (c .before .before) in (
+      rw ((ready-at c9) .sized .balances-are) (w .from-fits),
+      rw ((ready-at c9) .sized .balances-are) (w .to-fits),
+      w .pays,
+      omega
+          (arith, w .paid-fits),
+    )
 
 move-figures-requires : tie.Need-move-figures-requires
 move-figures-requires c κs =
@@ -123,15 +237,26 @@ move-figures-requires c κs =
 
 write-row-requires : tie.Need-write-row-requires
 write-row-requires c κs =
-    let c16 = c .before .before .before .before .before .before .before .before .before .before .before .before .before .before .before .before in
+    let c16 = c .before .before .before .before .before .before .before .before .before .before .before .before .before .before
+    .before .before in
     let c23 = c16 .before .before .before .before .before .before .before in
     let p = writes-at c16 .place-fits in
-    let z = (ready-at c23) .sized in
-    (rw (z .numbers-are) p, rw (z .amounts-are) p, rw (z .senders-are) p, rw (z .receivers-are) p, rw (z .kinds-are) p, rw (z .ledgers-are) p, rw (z .verdicts-are) p)
+    let z = (ready-at c23) .sized in (
+      rw (z .numbers-are) p,
+      rw (z .amounts-are) p,
+      rw (z .senders-are) p,
+      rw (z .receivers-are) p,
+      rw (z .kinds-are) p,
+      rw (z
+          .ledgers-are) p,
+      rw (z .verdicts-are) p,
+    )
 
 add-counts : tie.Need-add-counts
 add-counts c =
-    let c31 = c .before .before .before .before .before .before .before .before .before .before .before .before .before .before .before .before .before .before .before .before .before .before .before .before .before .before .before .before .before .before .before in
+    let c31 = c .before .before .before .before .before .before .before .before .before .before .before .before .before .before
+    .before .before .before .before .before .before .before .before .before .before .before .before .before .before .before .before
+    .before in
     omega (arith, writes-at c31 .count-fits)
 
 mul-counts : tie.Need-mul-counts
@@ -139,7 +264,9 @@ mul-counts c = search needs
 
 slice-write-counts : tie.Need-slice-write-counts
 slice-write-counts c =
-    let c31 = c .before .before .before .before .before .before .before .before .before .before .before .before .before .before .before .before .before .before .before .before .before .before .before .before .before .before .before .before .before .before .before in
+    let c31 = c .before .before .before .before .before .before .before .before .before .before .before .before .before .before
+    .before .before .before .before .before .before .before .before .before .before .before .before .before .before .before .before
+    .before in
     let c38 = c31 .before .before .before .before .before .before .before in
     omega (arith, writes-at c31 .ledger, (ready-at c38) .sized .counts-are)
 
@@ -151,10 +278,13 @@ mul-add-2 c = search needs
 
 add-requires : tie.Need-add-requires
 add-requires c κs =
-    let c33 = c .before .before .before .before .before .before .before .before .before .before .before .before .before .before .before .before .before .before .before .before .before .before .before .before .before .before .before .before .before .before .before .before .before in
+    let c33 = c .before .before .before .before .before .before .before .before .before .before .before .before .before .before
+    .before .before .before .before .before .before .before .before .before .before .before .before .before .before .before .before
+    .before .before .before in
     let c34 = c33 .before in
     let c40 = c34 .before .before .before .before .before .before in
-    let c63 = c40 .before .before .before .before .before .before .before .before .before .before .before .before .before .before .before .before .before .before .before .before .before .before .before in
+    let c63 = c40 .before .before .before .before .before .before .before .before .before .before .before .before .before .before
+    .before .before .before .before .before .before .before .before .before in
     let w = writes-at c33 in
     let i = (ready-at c40) .indexes in
     (heads-room (c34 .index .result) (c63 .args .heads .now) (w .ledger) (i .heads-are), rw (i .nexts-are) (w .place-fits), w .count-fits)
@@ -198,7 +328,8 @@ same-length-21 c = search needs
 returns-2 : tie.Need-returns-2
 returns-2 c =
     let c4 = c .before .before .before .before in
-    let c21 = c4 .before .before .before .before .before .before .before .before .before .before .before .before .before .before .before .before .before in
+    let c21 = c4 .before .before .before .before .before .before .before .before .before .before .before .before .before .before
+    .before .before .before in
     let c31 = c21 .before .before .before .before .before .before .before .before .before .before in
     let c35 = c31 .before .before .before .before in
     let c38 = c35 .before .before .before in
@@ -206,12 +337,16 @@ returns-2 c =
     let c42 = c39 .before .before .before in
     let c44 = c42 .before .before in
     let c45 = c44 .before in
-    let c68 = c45 .before .before .before .before .before .before .before .before .before .before .before .before .before .before .before .before .before .before .before .before .before .before .before in
+    let c68 = c45 .before .before .before .before .before .before .before .before .before .before .before .before .before .before
+    .before .before .before .before .before .before .before .before .before in
     let j = judged-at c42 in
     let l = ledger-at c38 in
     let x = c38 .entry-of .ensures in
     let w = c21 .write-row .ensures in
-    let e = stored-lent (lent (c68 .args .supply) (c68 .args .accounts .now) (c68 .args .counts .now) (c68 .args .balances .now) (c68 .args .numbers .now) (c68 .args .amounts .now) (c68 .args .senders .now) (c68 .args .receivers .now) (c68 .args .kinds .now) (c68 .args .ledgers .now) (c68 .args .verdicts .now)) (c44 .judge-bytes .result .read) (c39 .index .result) (c38 .entry-of .result) refl (c35 .move-balances .ensures) (w .0) (w .1) (w .2) (w .3) (w .4) (w .5) (w .6) in
+    let e = stored-lent (lent (c68 .args .supply) (c68 .args .accounts .now) (c68 .args .counts .now) (c68 .args .balances .now)
+    (c68 .args .numbers .now) (c68 .args .amounts .now) (c68 .args .senders .now) (c68 .args .receivers .now) (c68 .args .kinds
+    .now) (c68 .args .ledgers .now) (c68 .args .verdicts .now)) (c44 .judge-bytes .result .read) (c39 .index .result) (c38
+    .entry-of .result) refl (c35 .move-balances .ensures) (w .0) (w .1) (w .2) (w .3) (w .4) (w .5) (w .6) in
     let p = step-passed _ (ready-at c45) _ _ j _ _ l x in
     let a = ready-stored _ (ready-at c45) _ _ j _ _ l x in
     (p .0, (e ∙ p .1, ready-same e (c31 .move-figures .ensures) (c4 .add .ensures .0) (c4 .add .ensures .1) a))

@@ -1,0 +1,3 @@
+-- A turn of the program's loop. Assumes nothing.
+
+pub mod Turns

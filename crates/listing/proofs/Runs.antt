@@ -1,0 +1,63 @@
+-- The claim that a listing's lines are those of a run: the listing calls the pair validator with one record after another.
+-- Assumes nothing.
+use Prim.Native.Nat.{_+_, ℕ}
+use mathlib.Core.Bool.{true}
+use mathlib.Core.List.{List, [], _++_, _∷_}
+use mathlib.Core.Path.{_∙_, _≡_, ap, refl, sym}
+use Rattle.answers.proofs.Answers.{tells}
+use Rattle.answers.specs.Answers.{Tells, numberOf}
+use Rattle.ledgers.specs.Limits.{capacity}
+use Rattle.listing.specs.Listing.{stateListed}
+use Rattle.listing.specs.Runs.{ListedAsRun, listed, oneByOne}
+use Rattle.rules.proofs.PairAccepted.{pair-keeps-accepted}
+use Rattle.rules.proofs.PairConserved.{conserved, pair-opened-accepted}
+use Rattle.rules.specs.Calls.{Checker, KeepsAccepted, Result, call, callOne, one, run}
+use Rattle.rules.specs.Lists.{total}
+use Rattle.rules.specs.PairValidator.{Conserved, ConservedAfter, PairKeepsAccepted, PairView, pairOpened, pairValidator}
+use Rattle.rules.specs.Rules.{inFlight}
+
+module _ {S : Type 0} (c : Checker S) where
+  -- a call with one record in an accepted state is the listing's step
+  pub one-accepted : (s : S) (b : List ℕ) → c .accepts s ≡ true → call c s (one b) ≡ callOne c s b
+  unfolding call
+  one-accepted s b a = rw a
+
+  -- the answer of such a call has the number that the validator says
+  pub one-number : (s : S) (b : List ℕ) → c .accepts s ≡ true → c .judge s b ≡ numberOf (call c s (one b) .answer)
+  unfolding callOne Tells
+  one-number s b a =
+      sym (tells (c .judge s b) 0 .0) ∙ ap (λ (r : Result S). numberOf (r .answer)) (sym (one-accepted s b a))
+
+  -- from an accepted state the state after records is the one that the run of a call with each reaches
+  pub listed-run : KeepsAccepted c → (s : S) → c .accepts s ≡ true → (bs : List (List ℕ)) → stateListed c s bs ≡ run c s (oneByOne bs)
+  unfolding KeepsAccepted stateListed run oneByOne
+  listed-run k s a [] = refl
+  listed-run k s a (b ∷ bs) =
+      ap (λ (r : Result S). stateListed c (r .state) bs) (sym (one-accepted s b a))
+      ∙ listed-run k (call c s (one b) .state) (k s a (one b)) bs
+
+-- the claim: each line of a listing after an accepted opening has the answer and the figures of the run
+pub listed-as-run : ListedAsRun
+unfolding ListedAsRun Conserved PairKeepsAccepted
+listed-as-run homes fars h bs b =
+    record {
+      answer-is = ap (λ (v : PairView). pairValidator capacity .judge v b) (same bs)
+          ∙ one-number (pairValidator capacity) _ b (conserved capacity homes fars h (oneByOne bs) .accepted);
+      state-is = same (bs ++ b ∷ []);
+      flight-is = ap (λ (v : PairView). inFlight (v .pair)) (same (bs ++ b ∷ [])) ∙ kept .figure;
+      conserved = ap (λ (v : PairView). total (v .pair .home .balances) + total (v .pair .far .balances) + inFlight (v .pair))
+          (same (bs ++ b ∷ []))
+          ∙ ap (λ (n : ℕ). total (reached .pair .home .balances) + total (reached .pair .far .balances) + n) (kept .figure)
+          ∙ kept .conserved;
+    }
+  where
+    same : (xs : List (List ℕ)) → listed homes fars xs ≡ run (pairValidator capacity) (pairOpened homes fars) (oneByOne xs)
+    same =
+        listed-run (pairValidator capacity) (pair-keeps-accepted capacity) (pairOpened homes fars)
+        (pair-opened-accepted capacity homes fars h)
+
+    kept : ConservedAfter capacity homes fars (oneByOne (bs ++ b ∷ []))
+    kept = conserved capacity homes fars h (oneByOne (bs ++ b ∷ []))
+
+    reached : PairView
+    reached = run (pairValidator capacity) (pairOpened homes fars) (oneByOne (bs ++ b ∷ []))
