@@ -1,5 +1,5 @@
--- The answers and figures of a listing are those of a run of the pair validator (document 01, The runs of demand 3), so that the
--- printed figures are worked out from the passed records. Assumes nothing.
+-- For every list of records, the answers and figures that a listing folds over it are those of a run of the pair validator
+-- (document 01, The runs of demand 3). A listing folds block by block; that this is one list is not stated here. Assumes nothing.
 use Prim.Native.Nat.{ℕ, _+_}
 use mathlib.Core.List.{List, [], _∷_, _++_}
 use mathlib.Core.Path.{_≡_}
