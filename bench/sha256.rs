@@ -9,12 +9,12 @@ pub struct Digest {
 }
 
 extern "C" {
-    fn bench_sha256(message: *const u8, length: usize) -> Digest;
+    fn moatbetony_sha256(message: *const u8, length: usize) -> Digest;
 }
 
 // The proved function: its slice is a pointer and a length.
 fn ours(message: &[u8]) -> [u8; 32] {
-    unsafe { bench_sha256(message.as_ptr(), message.len()) }.bytes
+    unsafe { moatbetony_sha256(message.as_ptr(), message.len()) }.bytes
 }
 
 const K: [u32; 64] = [

@@ -76,16 +76,16 @@ pub struct HomeFigures {
 
 // A slice is a pointer and a length.
 extern "C" {
-    fn pair_open(homes: *const u64, h: usize, fars: *const u64, f: usize) -> Told<Pair>;
-    fn pair_one(state: Pair, bytes: *const u8, n: usize) -> Told<Pair>;
-    fn pair_list(state: Pair, bytes: *const u8, n: usize) -> Told<Pair>;
-    fn pair_figures(state: Pair) -> PairFigures;
-    fn pair_echo(state: Pair) -> Told<Pair>;
-    fn home_open(balances: *const u64, h: usize, fars: usize, far_total: u64) -> Told<Home>;
-    fn home_one(state: Home, bytes: *const u8, n: usize) -> Told<Home>;
-    fn home_list(state: Home, bytes: *const u8, n: usize) -> Told<Home>;
-    fn home_figures(state: Home) -> HomeFigures;
-    fn home_echo(state: Home) -> Told<Home>;
+    fn moatbetony_pair_open(homes: *const u64, h: usize, fars: *const u64, f: usize) -> Told<Pair>;
+    fn moatbetony_pair_check_record(state: Pair, bytes: *const u8, n: usize) -> Told<Pair>;
+    fn moatbetony_pair_check_list(state: Pair, bytes: *const u8, n: usize) -> Told<Pair>;
+    fn moatbetony_pair_figures(state: Pair) -> PairFigures;
+    fn bench_pair_echo(state: Pair) -> Told<Pair>;
+    fn moatbetony_home_open(balances: *const u64, h: usize, fars: usize, far_total: u64) -> Told<Home>;
+    fn moatbetony_home_check_record(state: Home, bytes: *const u8, n: usize) -> Told<Home>;
+    fn moatbetony_home_check_list(state: Home, bytes: *const u8, n: usize) -> Told<Home>;
+    fn moatbetony_home_figures(state: Home) -> HomeFigures;
+    fn bench_home_echo(state: Home) -> Told<Home>;
 }
 
 trait Validator: Copy {
@@ -108,23 +108,23 @@ impl Validator for Pair {
     const NAME: &'static str = "pair";
     fn open() -> Told<Pair> {
         let balances = [BALANCE; ACCOUNTS];
-        unsafe { pair_open(balances.as_ptr(), ACCOUNTS, balances.as_ptr(), ACCOUNTS) }
+        unsafe { moatbetony_pair_open(balances.as_ptr(), ACCOUNTS, balances.as_ptr(), ACCOUNTS) }
     }
     #[inline(always)]
     fn one(&self, bytes: &[u8]) -> Told<Pair> {
-        unsafe { pair_one(*self, bytes.as_ptr(), bytes.len()) }
+        unsafe { moatbetony_pair_check_record(*self, bytes.as_ptr(), bytes.len()) }
     }
     #[inline(always)]
     fn list(&self, bytes: &[u8]) -> Told<Pair> {
-        unsafe { pair_list(*self, bytes.as_ptr(), bytes.len()) }
+        unsafe { moatbetony_pair_check_list(*self, bytes.as_ptr(), bytes.len()) }
     }
     #[inline(always)]
     fn echo(&self) -> Told<Pair> {
-        unsafe { pair_echo(*self) }
+        unsafe { bench_pair_echo(*self) }
     }
     #[inline(always)]
     fn figures(&self) -> (u64, u32) {
-        let f = unsafe { pair_figures(*self) };
+        let f = unsafe { moatbetony_pair_figures(*self) };
         (f.home + f.far + f.flight + f.place, f.number)
     }
     fn sees(_: &Record) -> bool {
@@ -160,23 +160,23 @@ impl Validator for Home {
     const NAME: &'static str = "home";
     fn open() -> Told<Home> {
         let balances = [BALANCE; ACCOUNTS];
-        unsafe { home_open(balances.as_ptr(), ACCOUNTS, ACCOUNTS, ACCOUNTS as u64 * BALANCE) }
+        unsafe { moatbetony_home_open(balances.as_ptr(), ACCOUNTS, ACCOUNTS, ACCOUNTS as u64 * BALANCE) }
     }
     #[inline(always)]
     fn one(&self, bytes: &[u8]) -> Told<Home> {
-        unsafe { home_one(*self, bytes.as_ptr(), bytes.len()) }
+        unsafe { moatbetony_home_check_record(*self, bytes.as_ptr(), bytes.len()) }
     }
     #[inline(always)]
     fn list(&self, bytes: &[u8]) -> Told<Home> {
-        unsafe { home_list(*self, bytes.as_ptr(), bytes.len()) }
+        unsafe { moatbetony_home_check_list(*self, bytes.as_ptr(), bytes.len()) }
     }
     #[inline(always)]
     fn echo(&self) -> Told<Home> {
-        unsafe { home_echo(*self) }
+        unsafe { bench_home_echo(*self) }
     }
     #[inline(always)]
     fn figures(&self) -> (u64, u32) {
-        let f = unsafe { home_figures(*self) };
+        let f = unsafe { moatbetony_home_figures(*self) };
         (f.home + f.pool + f.place, f.number)
     }
     fn sees(record: &Record) -> bool {

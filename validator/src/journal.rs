@@ -18,6 +18,9 @@ pub const FULL: usize = 14;
 /// Length of a stake in bytes.
 pub const STAKE: usize = 8;
 
+/// The stakes of a block, zeros after them.
+pub type Balances = [u64; MAX_ACCOUNTS];
+
 /// The kinds of blocks.
 pub const HOME_STAKES: u8 = 1;
 pub const FAR_STAKES: u8 = 2;
@@ -117,13 +120,52 @@ pub fn judge_place(block: &[u8], number: u64, before: u64, place: u64) -> Answer
     Answer::at(outside.then_some(refusal::MAKER_BLOCK), number)
 }
 
+/// Judges a block and a place, and gives the start and the length of the
+/// record within the block; 0 and 0 beside a refusal.
+pub fn block_record(block: &[u8], number: u64, before: u64, place: u64) -> (Answer, [usize; 2]) {
+    let answer = judge_place(block, number, before, place);
+    if !answer.passed() {
+        return (answer, [0, 0]);
+    }
+    (answer, [ITEMS + place as usize * RECORD, RECORD])
+}
+
 /// The record's part of the lent block; empty where `judge_place` refuses.
 pub fn part(block: &[u8], number: u64, before: u64, place: u64) -> &[u8] {
-    if !judge_place(block, number, before, place).passed() {
-        return &[];
+    let (_, [start, length]) = block_record(block, number, before, place);
+    &block[start..start + length]
+}
+
+/// Judges a block and gives its count of items; 0 beside a refusal.
+pub fn block_count(block: &[u8], number: u64, before: u64) -> (Answer, u64) {
+    let answer = judge_block(block, number, before);
+    if !answer.passed() {
+        return (answer, 0);
     }
-    let start = ITEMS + place as usize * RECORD;
-    &block[start..start + RECORD]
+    (answer, count(block) as u64)
+}
+
+/// Judges a block and gives the count of its stakes and the stakes, zeros
+/// after them: 4 in a block of records, after 11 to 14. Zeros beside a
+/// refusal.
+pub fn block_balances(block: &[u8], number: u64, before: u64) -> (Answer, (u64, Balances)) {
+    let answer = judge_balances(block, number, before);
+    let mut balances = [0; MAX_ACCOUNTS];
+    if !answer.passed() {
+        return (answer, (0, balances));
+    }
+    let stakes = stakes(block);
+    balances[..stakes.len()].copy_from_slice(&stakes);
+    (answer, (stakes.len() as u64, balances))
+}
+
+fn judge_balances(block: &[u8], number: u64, before: u64) -> Answer {
+    let block_answer = judge_block(block, number, before);
+    if !block_answer.passed() {
+        return block_answer;
+    }
+    let records = kind_of(number) == RECORDS;
+    Answer::at(records.then_some(refusal::MAKER_BLOCK), number)
 }
 
 /// Writes a block. The items are stakes or records as bytes, copied unjudged;

@@ -2,7 +2,8 @@
 //! book, the guard of the home ledger, the journal and its listing.
 //!
 //! The modules follow the parts of paper 01. `runner` is not part of the paper:
-//! it makes journals and holds another program's listings to the ones made here.
+//! it makes journals and calls, and holds another program's listings and another
+//! part's answers to the ones made here.
 
 pub mod answer;
 pub mod guard;
@@ -15,3 +16,4 @@ pub mod runner;
 pub mod running;
 pub mod sha256;
 pub mod side;
+pub mod states;

@@ -1,4 +1,4 @@
-//! The command line: `list`, `compare`, `full` and `store`.
+//! The command line: `list`, `compare`, `calls`, `full` and `store`.
 
 use std::io::{self, BufWriter, Write};
 use std::path::PathBuf;
@@ -6,6 +6,7 @@ use std::process::ExitCode;
 use std::time::{Duration, SystemTime, UNIX_EPOCH};
 
 use second_validator::listing;
+use second_validator::runner::calls::{self, Oracle};
 use second_validator::runner::compare::{compare, Options};
 use second_validator::runner::families::Plan;
 use second_validator::runner::full::{self, Fill, MOST_BLOCKS};
@@ -17,6 +18,8 @@ usage: second-validator list
        second-validator compare --crosslist PATH [--seed N|random] [--journals N]
                                 [--keep DIR] [--limit SECONDS] [--long]
            holds the listings of the program PATH to the library's
+       second-validator calls [--seed N|random] [--calls N]
+           counts the calls that a comparison of calls makes, by answer
        second-validator full --fill early|late [--seed N|random]
            a full journal on standard output
        second-validator store DIR
@@ -25,6 +28,7 @@ usage: second-validator list
 
 const SEED: u64 = 20_240_607;
 const JOURNALS: usize = 3_000;
+const CALLS: u64 = 20_000;
 const LIMIT_SECONDS: u64 = 20;
 
 /// Why a command did not do its work.
@@ -61,6 +65,7 @@ fn run(arguments: &[String]) -> Result<ExitCode, Failure> {
     match command.as_str() {
         "list" => run_list(rest),
         "compare" => run_compare(rest),
+        "calls" => run_calls(rest),
         "full" => run_full(rest),
         "store" => run_store(rest),
         other => Err(wrong(format!("no such command: {other}"))),
@@ -114,6 +119,24 @@ fn run_compare(rest: &[String]) -> Result<ExitCode, Failure> {
     };
     let tally = compare(&options, &mut io::stdout().lock())?;
     Ok(ExitCode::from(u8::from(tally.differ > 0)))
+}
+
+/// The library is compared with itself: another part is linked with the
+/// library and handed to `calls::compare`.
+fn run_calls(rest: &[String]) -> Result<ExitCode, Failure> {
+    let mut seed = SEED;
+    let mut count = CALLS;
+    let mut words = rest.iter();
+    while let Some(word) = words.next() {
+        match word.as_str() {
+            "--seed" => seed = seed_value(value(word, &mut words)?)?,
+            "--calls" => count = number(value(word, &mut words)?)?,
+            other => return Err(wrong(format!("not known: {other}"))),
+        }
+    }
+    let report = calls::compare(&mut Oracle, seed, count, u64::MAX);
+    write!(io::stdout().lock(), "{report}")?;
+    Ok(ExitCode::from(u8::from(report.differences > 0)))
 }
 
 fn run_full(rest: &[String]) -> Result<ExitCode, Failure> {

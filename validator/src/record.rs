@@ -1,6 +1,8 @@
 //! Paper 01, "The record": 32 bytes, numbers big-endian, and refusal 21 for
 //! whatever does not read as a record.
 
+use crate::answer::{refusal, Answer};
+
 /// Length of a record in bytes.
 pub const RECORD: usize = 32;
 
@@ -183,6 +185,16 @@ pub struct Held {
 }
 
 impl Held {
+    pub const ZERO: Held = Held {
+        kind: 0,
+        ledger: 0,
+        sender: 0,
+        receiver: 0,
+        number: 0,
+        amount: 0,
+        verdict: 0,
+    };
+
     pub fn of(record: &Record) -> Held {
         Held {
             kind: record.kind.byte(),
@@ -211,6 +223,27 @@ impl Held {
             good: self.verdict == 1,
         })
     }
+}
+
+/// Reads a record into its plain fields: 21. Zeros beside a refusal.
+pub fn record_read(bytes: &[u8]) -> (Answer, Held) {
+    match Record::read(bytes) {
+        Some(record) => (Answer::Passed, Held::of(&record)),
+        None => (form_refused(), Held::ZERO),
+    }
+}
+
+/// Writes the bytes of plain fields: 21 where they would not read as a
+/// record. Zeros beside a refusal.
+pub fn record_encode(fields: &Held) -> (Answer, [u8; RECORD]) {
+    match fields.read() {
+        Some(record) => (Answer::Passed, record.bytes()),
+        None => (form_refused(), [0; RECORD]),
+    }
+}
+
+fn form_refused() -> Answer {
+    Answer::at(Some(refusal::RECORD_FORM), 0)
 }
 
 /// Bytes 6-7 and 25-31 of a record.

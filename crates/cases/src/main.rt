@@ -19,7 +19,8 @@ fn print(n: u64) {
 // The line of a call of the pair validator: case, number, home, far and in flight.
 fn pair_line(case: u64, o: PairOutcome) {
     let answer = o.answer;
-    let figures = o.state.figures();
+    let state = o.state;
+    let figures = pair_figures::figures(state);
     io::write_all(STDOUT_FILENO, b"pair");
     print(case);
     print(answer.number() as u64);
@@ -32,7 +33,8 @@ fn pair_line(case: u64, o: PairOutcome) {
 // The line of a call of the home validator: case, number, home and far pool.
 fn home_line(case: u64, o: HomeOutcome) {
     let answer = o.answer;
-    let figures = o.state.figures();
+    let state = o.state;
+    let figures = home_figures::figures(state);
     io::write_all(STDOUT_FILENO, b"home");
     print(case);
     print(answer.number() as u64);

@@ -7,8 +7,9 @@ use mathlib.Core.Logic.{_↔_}
 use mathlib.Core.Path.{_≡_}
 use lib.ListN.{length}
 use Rattle.answers.specs.declared.Answer.the-variants.{Passed, Refused}
+use Rattle.home_figures.specs.Figures.{homeFiguresOf}
 use Rattle.home_tables.specs.Tables.{HomeSized, acceptsHome, homeIn}
-use Rattle.home_validator.specs.State.{homeChecker, homeFiguresOf, homeOpenedState, homeTablesOf, homeViewOfState, homeZeroState}
+use Rattle.home_validator.specs.State.{homeChecker, homeOpenedState, homeTablesOf, homeViewOfState, homeZeroState}
 use Rattle.home_validator.specs.declared.HomeValidator.{HomeValidator}
 use Rattle.ledgers.specs.Limits.{capacity}
 use Rattle.ledgers.specs.declared.Kind.the-variants.{Receiving}

@@ -1,4 +1,4 @@
--- Laws of an opening of the home validator, of the all-zero state beside a refused one, and of the figures. Assumes nothing.
+-- Laws of an opening of the home validator, and of the all-zero state beside a refused one. Assumes nothing.
 use Prim.Native.Nat.{_+_, _-_, _≤_, ℕ}
 use mathlib.Core.Bool.{false, true}
 use mathlib.Core.List.{List, _++_}
@@ -8,14 +8,12 @@ use lib.Dec.{eqb}
 use lib.ListN.{drop, getD, length, length-replicate, replicate, take}
 use lib.Seq.{take-append-seam}
 use borrow.Author.Tests.{eq-eqb, leb-true}
-use Rattle.answers.specs.declared.Answer.the-variants.{Passed}
 use Rattle.home_tables.proofs.Bounds.{HomeBounds}
-use Rattle.home_laws.proofs.Passing.{HomeSound, home-sound-accepts}
-use Rattle.home_tables.specs.Tables.{HomeSized, HomeTables, acceptsHome, homeBounds, homeIn, homeOpenedTables, homeViewOf, homeZeroTables}
-use Rattle.home_validator.specs.State.{homeFiguresOf, homeOpenedState, homeStateWith}
-use Rattle.home_validator.specs.declared.HomeFigures.{HomeFigures}
+use Rattle.home_laws.proofs.Passing.{HomeSound}
+use Rattle.home_tables.specs.Tables.{HomeSized, acceptsHome, homeBounds, homeIn, homeOpenedTables, homeViewOf, homeZeroTables}
+use Rattle.home_validator.specs.State.{homeOpenedState, homeStateWith}
 use Rattle.ledgers.specs.Limits.{accountLimit, capacity, maxAmount}
-use Rattle.rules.proofs.HomeAccepted.{home-accepts-facts, home-opened-accepted}
+use Rattle.rules.proofs.HomeAccepted.{home-opened-accepted}
 use Rattle.rules.proofs.PairConserved.{opening-none}
 use Rattle.rules.specs.HomeValidator.{homeAccepts, homeOpened, homeOpeningRefusal}
 use Rattle.rules.specs.Lists.{total}
@@ -123,17 +121,3 @@ module _ (homes : List ℕ) (fars farTotal : ℕ) (n : homeOpeningRefusal homes 
 pub home-zero-refused : acceptsHome homeZeroTables ≡ false
 unfolding acceptsHome homeZeroTables homeBounds countAllowed
 home-zero-refused = every-not 0 _ (every-not 0 _ (every-not 0 _ refl))
-
--- ## The figures
-
-module _ (t : HomeTables) (s : HomeSound t) where
-  -- balances and the pool are the supply
-  pub home-supply-shared : total (homeIn t .balances) + t .pool ≡ t .supply
-  home-supply-shared = home-accepts-facts capacity (homeViewOf t) (s .accepted) .sums
-
-  -- the figures of accepted tables
-  pub home-figures-passed : _≡_ {A = HomeFigures} (record { answer = Passed; home = t .supply - t .pool; pool = t .pool })
-      (homeFiguresOf (acceptsHome t) t)
-  home-figures-passed =
-      let e : t .supply - t .pool ≡ total (homeIn t .balances) = omega (arith, home-supply-shared) in
-      rw (home-sound-accepts t s) (λ i. record { answer = Passed; home = e i; pool = t .pool })

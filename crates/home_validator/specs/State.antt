@@ -1,17 +1,13 @@
 -- The state of the home validator (document 01: guard) and its calls: the rules' judgement of the state seen as theirs.
 -- Assumes nothing.
 use Prim.Native.Nat.{ℕ}
-use mathlib.Core.Bool.{Bool, false, true}
 use mathlib.Core.List.{List}
-use Rattle.answers.specs.declared.Answer.the-variants.{Passed, Refused}
-use Rattle.home_tables.specs.Tables.{HomeTables, acceptsHome, homeAfterRead, homeIn, homeOpenedTables, homeViewOf, homeZeroTables}
-use Rattle.home_validator.specs.declared.HomeFigures.{HomeFigures}
+use Rattle.home_tables.specs.Tables.{HomeTables, acceptsHome, homeAfterRead, homeOpenedTables, homeViewOf, homeZeroTables}
 use Rattle.home_validator.specs.declared.HomeValidator.{HomeValidator}
 use Rattle.ledgers.specs.Limits.{capacity}
 use Rattle.records.specs.Records.{reading}
 use Rattle.rules.specs.Calls.{Checker}
 use Rattle.rules.specs.HomeValidator.{HomeView, homeJudge}
-use Rattle.rules.specs.Lists.{total}
 
 -- ## The state
 
@@ -79,10 +75,3 @@ homeOpenedState homes fars farTotal = homeStateWith (homeOpenedTables homes fars
 -- the state beside a refused opening: all zero, which 3 refuses
 abbrev pub homeZeroState : HomeValidator
 homeZeroState = homeStateWith homeZeroTables
-
--- ## The figures
-
--- the home total and the far pool, of tables that are accepted or not
-abbrev pub homeFiguresOf : Bool → HomeTables → HomeFigures
-homeFiguresOf true t = record { answer = Passed; home = total (homeIn t .balances); pool = t .pool }
-homeFiguresOf false t = record { answer = Refused 3 0; home = 0; pool = 0 }

@@ -4,8 +4,7 @@
 // anything of the state or of the bytes that it is given.
 ghost use mathlib.Core.Path.{_≡_};
 ghost use Rattle.answers.specs.Answers.{answer, unlessRefused};
-ghost use Rattle.home_tables.specs.Tables.{acceptsHome};
-ghost use Rattle.home_validator.specs.State.{homeTablesOf, homeChecker, homeOpenedState, homeZeroState, homeFiguresOf};
+ghost use Rattle.home_validator.specs.State.{homeChecker, homeOpenedState, homeZeroState};
 ghost use Rattle.rules.specs.Calls.{call, one, list};
 ghost use Rattle.rules.specs.HomeValidator.{homeOpeningRefusal};
 use answers::Answer;
@@ -49,13 +48,6 @@ pub struct HomeValidator {
 pub struct HomeOutcome {
     pub answer: Answer,
     pub state: HomeValidator,
-}
-
-// The home total and the far pool, beside the answer.
-pub struct HomeFigures {
-    pub answer: Answer,
-    pub home: u64,
-    pub pool: u64,
 }
 
 impl HomeValidator {
@@ -241,45 +233,6 @@ impl HomeValidator {
         HomeOutcome {
             answer: Answer::Passed,
             state: self,
-        }
-    }
-
-    // The home total and the far pool. Refusal 3 comes with zeros.
-    pub fn figures(self) -> HomeFigures
-        ensures { λ r. ⌜ r ≡ homeFiguresOf (acceptsHome (homeTablesOf self)) (homeTablesOf self) ⌝ }
-    {
-        let mut heads = [0u16; CHAINS];
-        let mut nexts = [0u16; Ledger::CAPACITY];
-        if !is_accepted(
-            self.supply,
-            self.pool,
-            self.homes,
-            self.fars,
-            self.count,
-            &self.balances,
-            &self.kinds,
-            &self.ledgers,
-            &self.senders,
-            &self.receivers,
-            &self.numbers,
-            &self.amounts,
-            &self.verdicts,
-            &mut heads,
-            &mut nexts,
-        ) {
-            return HomeFigures {
-                answer: Answer::Refused {
-                    number: 3,
-                    place: 0,
-                },
-                home: 0,
-                pool: 0,
-            };
-        }
-        HomeFigures {
-            answer: Answer::Passed,
-            home: self.supply - self.pool,
-            pool: self.pool,
         }
     }
 }

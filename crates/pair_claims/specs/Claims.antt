@@ -10,8 +10,9 @@ use Rattle.answers.specs.declared.Answer.the-variants.{Passed, Refused}
 use Rattle.ledgers.specs.Ledgers.{ledgerByte, ledgerOf}
 use Rattle.ledgers.specs.Limits.{capacity}
 use Rattle.ledgers.specs.declared.Ledger.{Ledger}
+use Rattle.pair_figures.specs.Figures.{figuresOf}
 use Rattle.pair_tables.specs.Tables.{Sized, accepts, balancesOf, heldOf}
-use Rattle.pair_validator.specs.State.{figuresOf, openedState, pairChecker, tablesOf, viewOfState, zeroState}
+use Rattle.pair_validator.specs.State.{openedState, pairChecker, tablesOf, viewOfState, zeroState}
 use Rattle.pair_validator.specs.declared.PairValidator.{PairValidator}
 use Rattle.records.specs.Records.{reading}
 use Rattle.records.specs.declared.Reading.the-variants.{Read, Unreadable}

@@ -1,4 +1,4 @@
--- Laws of an opening of the pair validator, of the all-zero state beside a refused one, and of the figures. Assumes nothing.
+-- Laws of an opening of the pair validator, and of the all-zero state beside a refused one. Assumes nothing.
 use Prim.Native.Nat.{_*_, _+_, _-_, _≤_, ℕ}
 use mathlib.Core.Bool.{false, true}
 use mathlib.Core.List.{List, [], _++_, _∷_, append-assoc}
@@ -8,26 +8,18 @@ use lib.Dec.{eqb}
 use lib.ListN.{List·getD-append, drop, getD, length, length-append, length-replicate, replicate, replicate-append-replicate, take}
 use lib.Seq.{drop-at, drop-drop, getD-append-add, take-append-le, take-append-seam, take-at}
 use borrow.Author.Tests.{eq-eqb, le-leb}
-use Rattle.answers.specs.declared.Answer.the-variants.{Passed}
 use Rattle.ledgers.specs.Limits.{accountLimit, capacity}
-use Rattle.pair_laws.proofs.Passing.{Sound, sound-accepts, sound-of}
-use Rattle.pair_tables.specs.Tables.{PairTables, Sized, accepts, accountsAt, balancesOf, countAt, formedOn, heldOf, inBounds}
+use Rattle.pair_laws.proofs.Passing.{Sound, sound-of}
+use Rattle.pair_tables.specs.Tables.{PairTables, Sized, accepts, balancesOf, countAt, formedOn, heldOf, inBounds}
 use Rattle.pair_tables.specs.Tables.{openedTables, pairViewOf, zeroBeyond, zeroTables}
-use Rattle.pair_validator.specs.State.{figuresOf, openedState, stateWith}
-use Rattle.pair_validator.specs.declared.PairFigures.{PairFigures}
-use Rattle.rules.proofs.PairAccepted.{accepts-facts}
+use Rattle.pair_validator.specs.State.{openedState, stateWith}
 use Rattle.rules.proofs.PairConserved.{opening-none, pair-opened-accepted}
 use Rattle.rules.specs.Lists.{total}
 use Rattle.rules.specs.PairValidator.{countAllowed, pairAccepts, pairOpened, pairOpeningRefusal}
-use Rattle.rules.specs.Rules.{inFlight}
-use Rattle.table_laws.proofs.Allowed.{balances-sum}
-use Rattle.table_laws.proofs.Openings.{count-facts, fewer-zeros, low-is-wide, padded-length, zero-after}
-use Rattle.exact_sums.proofs.Sums.{added-value}
-use Rattle.exact_sums.specs.Sums.{Added}
-use Rattle.exact_sums.specs.declared.Wide.{Wide}
+use Rattle.table_laws.proofs.Openings.{count-facts, fewer-zeros, padded-length, zero-after}
 use Rattle.tables.proofs.Places.{all-of}
 use Rattle.tables.specs.Columns.{formedRows, padded, rows, zeroColumns, zerosAt}
-use Rattle.tables.specs.Places.{allAt, listAt, sumAt}
+use Rattle.tables.specs.Places.{allAt, listAt}
 use Rattle.wire.proofs.Lists.{every-both, every-none, every-not}
 
 -- ## Zeros beyond the accounts
@@ -188,35 +180,3 @@ opened-sound homes fars n = sound-of (openedTables homes fars) (opened-sized hom
 pub zero-refused : accepts zeroTables ≡ false
 unfolding accepts zeroTables inBounds countAllowed
 zero-refused = every-not 0 _ (every-not 0 _ (every-not 0 _ refl))
-
--- ## The figures
-
-module _ (t : PairTables) (s : Sound t) where
-  -- balances and in flight are the supply
-  pub supply-shared : total (balancesOf t 0) + total (balancesOf t 1) + inFlight (pairViewOf t .pair) ≡ t .supply
-  supply-shared = accepts-facts capacity (pairViewOf t) (s .accepted) .sums
-
-  -- the total of home's balances is what their sum has in its low limb
-  pub home-total : {w : Wide} {n : ℕ}
-      → Added (record { high = 0; low = 0 }) (sumAt (λ (i : ℕ). getD (t .balances) i 0) 0 (accountsAt t 0)) n w
-      → w .low ≡ total (balancesOf t 0)
-  unfolding balancesOf
-  home-total {w} a =
-      let e = balances-sum (t .balances) 0 (accountsAt t 0) (omega (arith, s .sized .balances-are, s .bounds .home-fits)) in
-      low-is-wide w (omega (arith, added-value a, e, supply-shared, s .bounds .supply-fits)) ∙ added-value a ∙ sym e
-
-  -- and so is the total of far's
-  pub far-total : {w : Wide} {n : ℕ}
-      → Added (record { high = 0; low = 0 }) (sumAt (λ (i : ℕ). getD (t .balances) i 0) accountLimit (accountsAt t 1)) n w
-      → w .low ≡ total (balancesOf t 1)
-  unfolding balancesOf
-  far-total {w} a =
-      let e = balances-sum (t .balances) accountLimit (accountsAt t 1) (omega (arith, s .sized .balances-are, s .bounds .far-fits)) in
-      low-is-wide w (omega (arith, added-value a, e, supply-shared, s .bounds .supply-fits)) ∙ added-value a ∙ sym e
-
--- the figures of accepted tables, by both totals
-pub figures-passed : (t : PairTables) → Sound t → (home far : ℕ) → home ≡ total (balancesOf t 0) → far ≡ total (balancesOf t 1)
-    → _≡_ {A = PairFigures} (record { answer = Passed; home = home; far = far; flight = t .supply - home - far }) (figuresOf (accepts t) t)
-figures-passed t s home far h f =
-    let e : t .supply - home - far ≡ inFlight (pairViewOf t .pair) = omega (arith, supply-shared t s) in
-    rw (sound-accepts t s) (λ i. record { answer = Passed; home = h i; far = f i; flight = e i })

@@ -1,18 +1,13 @@
 -- The state of the pair validator (document 01: pair book) and its calls: the rules' judgement of the state seen as theirs.
 -- Assumes nothing.
 use Prim.Native.Nat.{ℕ}
-use mathlib.Core.Bool.{Bool, false, true}
 use mathlib.Core.List.{List}
-use Rattle.answers.specs.declared.Answer.the-variants.{Passed, Refused}
 use Rattle.ledgers.specs.Limits.{capacity}
-use Rattle.pair_tables.specs.Tables.{PairTables, accepts, afterRead, balancesOf, openedTables, pairViewOf, zeroTables}
-use Rattle.pair_validator.specs.declared.PairFigures.{PairFigures}
+use Rattle.pair_tables.specs.Tables.{PairTables, accepts, afterRead, openedTables, pairViewOf, zeroTables}
 use Rattle.pair_validator.specs.declared.PairValidator.{PairValidator}
 use Rattle.records.specs.Records.{reading}
 use Rattle.rules.specs.Calls.{Checker}
-use Rattle.rules.specs.Lists.{total}
 use Rattle.rules.specs.PairValidator.{PairView, pairJudge}
-use Rattle.rules.specs.Rules.{inFlight}
 
 -- ## The state
 
@@ -76,11 +71,3 @@ openedState homes fars = stateWith (openedTables homes fars)
 -- the state beside a refused opening: all zero, which 3 refuses
 abbrev pub zeroState : PairValidator
 zeroState = stateWith zeroTables
-
--- ## The figures
-
--- the totals of both ledgers and in flight, of tables that are accepted or not
-abbrev pub figuresOf : Bool → PairTables → PairFigures
-figuresOf true t =
-    record { answer = Passed; home = total (balancesOf t 0); far = total (balancesOf t 1); flight = inFlight (pairViewOf t .pair) }
-figuresOf false t = record { answer = Refused 3 0; home = 0; far = 0; flight = 0 }

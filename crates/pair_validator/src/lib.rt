@@ -4,15 +4,12 @@
 // it is given.
 ghost use mathlib.Core.Path.{_≡_};
 ghost use Rattle.answers.specs.Answers.{answer, unlessRefused};
-ghost use Rattle.pair_tables.specs.Tables.{accepts};
-ghost use Rattle.pair_validator.specs.State.{tablesOf, pairChecker, openedState, zeroState, figuresOf};
+ghost use Rattle.pair_validator.specs.State.{pairChecker, openedState, zeroState};
 ghost use Rattle.rules.specs.Calls.{call, one, list};
 ghost use Rattle.rules.specs.PairValidator.{pairOpeningRefusal};
 use answers::Answer;
 use entries::copy_numbers;
 use entries::entry_of;
-use exact_sums::Wide;
-use exact_sums::add_balances;
 use inputs::part_end;
 use ledgers::Ledger;
 use number_index::CHAINS;
@@ -52,14 +49,6 @@ pub struct PairValidator {
 pub struct PairOutcome {
     pub answer: Answer,
     pub state: PairValidator,
-}
-
-// The totals of both ledgers and what is in flight, beside the answer.
-pub struct PairFigures {
-    pub answer: Answer,
-    pub home: u64,
-    pub far: u64,
-    pub flight: u64,
 }
 
 impl PairValidator {
@@ -251,50 +240,6 @@ impl PairValidator {
         PairOutcome {
             answer: Answer::Passed,
             state: self,
-        }
-    }
-
-    // The totals of both ledgers and what is in flight. Refusal 3 comes with zeros.
-    pub fn figures(self) -> PairFigures
-        ensures { λ r. ⌜ r ≡ figuresOf (accepts (tablesOf self)) (tablesOf self) ⌝ }
-    {
-        let mut heads = [0u16; HEADS];
-        let mut nexts = [0u16; PLACES];
-        if !is_accepted(
-            self.supply,
-            &self.accounts,
-            &self.counts,
-            &self.balances,
-            &self.kinds,
-            &self.ledgers,
-            &self.senders,
-            &self.receivers,
-            &self.numbers,
-            &self.amounts,
-            &self.verdicts,
-            &mut heads,
-            &mut nexts,
-        ) {
-            return PairFigures {
-                answer: Answer::Refused {
-                    number: 3,
-                    place: 0,
-                },
-                home: 0,
-                far: 0,
-                flight: 0,
-            };
-        }
-        let homes = self.accounts[0];
-        let fars = self.accounts[1];
-        let zero = Wide { high: 0, low: 0 };
-        let home = add_balances(&self.balances, 0, homes, zero);
-        let far = add_balances(&self.balances, Ledger::ACCOUNTS, fars, zero);
-        PairFigures {
-            answer: Answer::Passed,
-            home: home.low,
-            far: far.low,
-            flight: self.supply - home.low - far.low,
         }
     }
 }

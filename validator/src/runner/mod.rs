@@ -1,7 +1,9 @@
-//! Not part of paper 01: journals made from a seed, the comparison of another
-//! program's listings with the library's, and stored and full journals.
+//! Not part of paper 01: journals and calls made from a seed, the comparison of
+//! another program's listings and of another part's answers with the library's,
+//! and stored and full journals.
 
 pub mod build;
+pub mod calls;
 pub mod compare;
 pub mod families;
 pub mod full;

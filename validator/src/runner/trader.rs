@@ -53,6 +53,7 @@ impl Numbers {
     }
 }
 
+#[derive(Clone)]
 pub struct Trader {
     pub rng: Rng,
     pub opening: Opening,

@@ -1,0 +1,3 @@
+-- Laws of the balance of one account. Assumes nothing.
+
+mod Among

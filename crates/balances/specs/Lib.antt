@@ -1,0 +1,3 @@
+-- The balance of one account. Assumes nothing.
+
+pub mod Balances

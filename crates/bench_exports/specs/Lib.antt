@@ -1,3 +1,0 @@
--- What the exports for the measurements hand back. Assumes nothing.
-
-pub mod Told

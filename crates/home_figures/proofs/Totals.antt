@@ -1,0 +1,38 @@
+-- Laws of the figures of accepted tables. Assumes nothing.
+use Prim.Native.Nat.{_+_, _-_, _≤_, ℕ}
+use mathlib.Core.Path.{_≡_}
+use native.Mathlib.Omega.{arith}
+use lib.ListN.{length, take}
+use Rattle.answers.specs.declared.Answer.the-variants.{Passed}
+use Rattle.balances.specs.Balances.{balanceAmong}
+use Rattle.home_figures.specs.Figures.{homeBalanceOf, homeFiguresOf}
+use Rattle.home_figures.specs.declared.HomeFigures.{HomeFigures}
+use Rattle.home_laws.proofs.Passing.{HomeSound, home-sound-accepts}
+use Rattle.home_tables.specs.Tables.{HomeTables, acceptsHome, homeIn, homeViewOf}
+use Rattle.ledgers.specs.Limits.{capacity}
+use Rattle.rules.proofs.HomeAccepted.{home-accepts-facts}
+use Rattle.rules.specs.Lists.{total}
+
+module _ (t : HomeTables) (s : HomeSound t) where
+  -- balances and the pool are the supply
+  pub home-supply-shared : total (homeIn t .balances) + t .pool ≡ t .supply
+  home-supply-shared = home-accepts-facts capacity (homeViewOf t) (s .accepted) .sums
+
+  -- the figures of accepted tables
+  pub home-figures-passed : _≡_ {A = HomeFigures} (record { answer = Passed; home = t .supply - t .pool; pool = t .pool })
+      (homeFiguresOf (acceptsHome t) t)
+  home-figures-passed =
+      let e : t .supply - t .pool ≡ total (homeIn t .balances) = omega (arith, home-supply-shared) in
+      rw (home-sound-accepts t s) (λ i. record { answer = Passed; home = e i; pool = t .pool })
+
+-- ## The balance of one account
+
+module _ (t : HomeTables) (s : HomeSound t) where
+  -- the accounts are within the balances
+  pub home-on-ledger : 0 + t .homes ≤ length (t .balances)
+  home-on-ledger = omega (arith, s .sized .balances-are, s .bounds .home-fits)
+
+  -- the balance among those of the ledger, of accepted tables
+  pub home-balance-passed : (a : ℕ) → balanceAmong (take (t .homes) (t .balances)) a ≡ homeBalanceOf (acceptsHome t) t a
+  unfolding homeIn
+  home-balance-passed a = rw (home-sound-accepts t s)

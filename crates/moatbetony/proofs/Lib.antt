@@ -1,0 +1,3 @@
+-- Laws of what the exports hand back. Assumes nothing.
+
+mod Telling

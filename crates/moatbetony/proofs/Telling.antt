@@ -1,0 +1,66 @@
+-- What is told of a part of a block and of a record, by the answer or the reading that came back. Assumes nothing.
+use Prim.Native.Nat.{_*_, _+_, ℕ}
+use mathlib.Core.List.{List, []}
+use mathlib.Core.Path.{_∙_, _≡_, ap, sym}
+use lib.ListN.{drop, replicate, take}
+use Rattle.answers.proofs.Answers.{refused-instead}
+use Rattle.answers.specs.Answers.{answer, unlessRefused}
+use Rattle.answers.specs.declared.Answer.{Answer}
+use Rattle.answers.specs.declared.Answer.the-variants.{Refused}
+use Rattle.block_format.specs.Blocks.{recordPart}
+use Rattle.journal_reader.specs.Judged.{partOf, recordRefusal}
+use Rattle.moatbetony.specs.Told.{encodedTold, partTold, told}
+use Rattle.moatbetony.specs.declared.EncodedTold.{EncodedTold}
+use Rattle.moatbetony.specs.declared.PartTold.{PartTold}
+use Rattle.moatbetony.specs.declared.Told.{Told}
+use Rattle.records.specs.Records.{reading}
+use Rattle.records.specs.declared.Reading.{Reading}
+use Rattle.records.specs.declared.Reading.the-variants.{Read, Unreadable}
+use Rattle.records.specs.declared.Record.{Record}
+
+module _ {a : Answer} {t : Told} (b : List ℕ) (k before place : ℕ) (tells : t ≡ told a)
+    (judged : a ≡ answer (recordRefusal b k before place) k) where
+  -- nothing of a block or a place that is refused
+  pub part-refused : {m q : ℕ} → a ≡ Refused m q
+      → (_≡_ {A = PartTold} (record { answer = t; start = 0; length = 0 }) (partTold (recordRefusal b k before place) k place))
+      × (_≡_ {A = List ℕ} [] (partOf b k before place))
+  unfolding partOf
+  part-refused {m} {q} e =
+      let n : ℕ = recordRefusal b k before place in
+      let f : answer n k ≡ Refused m q = sym judged ∙ e in (
+        λ i.
+            record {
+              answer = (tells ∙ ap told judged) i;
+              start = sym (refused-instead n k m q (32 + 32 * place) 0 f) i;
+              length = sym (refused-instead n k m q 32 0 f) i;
+            },
+        sym (refused-instead n k m q (recordPart b place) [] f),
+      )
+
+  -- the record's part where nothing is
+  pub part-passed : recordRefusal b k before place ≡ 0
+      → (_≡_ {A = PartTold} (record { answer = t; start = 32 + 32 * place; length = 32 })
+      (partTold (recordRefusal b k before place) k place))
+      × (take 32 (drop (32 + 32 * place) b) ≡ partOf b k before place)
+  unfolding partOf recordPart
+  part-passed z = (
+    λ i.
+        record {
+          answer = (tells ∙ ap told judged) i;
+          start = ap (λ (n : ℕ). unlessRefused n (32 + 32 * place) 0) (sym z) i;
+          length = ap (λ (n : ℕ). unlessRefused n 32 0) (sym z) i;
+        },
+    ap (λ (n : ℕ). unlessRefused n (take 32 (drop (32 + 32 * place) b)) []) (sym z),
+  )
+
+module _ {b f : List ℕ} {r : Reading} (same : b ≡ f) (reads : r ≡ reading b) where
+  -- bytes that do not read
+  pub encoded-unread : r ≡ Unreadable
+      → _≡_ {A = EncodedTold} (record { answer = record { number = 21; place = 0 }; bytes = replicate 32 0 }) (encodedTold (reading f) f)
+  encoded-unread e = ap (λ (x : Reading). encodedTold x f) (sym e ∙ reads ∙ ap reading same)
+
+  -- bytes that read
+  pub encoded-read : {x : Record} → r ≡ Read x
+      → _≡_ {A = EncodedTold} (record { answer = record { number = 0; place = 0 }; bytes = b }) (encodedTold (reading f) f)
+  encoded-read {x} e =
+      ap (encodedTold (Read x)) same ∙ ap (λ (y : Reading). encodedTold y f) (sym e ∙ reads ∙ ap reading same)

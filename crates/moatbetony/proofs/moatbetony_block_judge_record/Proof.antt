@@ -1,0 +1,19 @@
+-- `moatbetony::moatbetony_block_judge_record` meets its contract. Assumes nothing.
+use mathlib.Core.Path.{_∙_, ap}
+use borrow.Author.Needs.{needs}
+use Rattle.moatbetony.specs.Told.{told}
+use Rattle.moatbetony.proofs.moatbetony_block_judge_record.Statement.{statement}
+use Rattle.moatbetony.proofs.moatbetony_block_judge_record.Tie as tie
+
+judge-record-requires : tie.Need-judge-record-requires
+judge-record-requires c κs = search needs
+
+tell-requires : tie.Need-tell-requires
+tell-requires c κs = search needs
+
+returns : tie.Need-returns
+returns c = c .tell .ensures ∙ ap told (c .before .judge-record .ensures)
+
+pub moatbetony-block-judge-record-spec : {M : Type 1} → statement M
+moatbetony-block-judge-record-spec =
+    tie.close (tie.spec judge-record-requires tell-requires returns)

@@ -1,0 +1,23 @@
+-- `moatbetony::moatbetony_block_write` meets its contract. Assumes nothing.
+use mathlib.Core.Path.{_∙_, ap}
+use borrow.Author.Needs.{needs}
+use Rattle.moatbetony.specs.Told.{told}
+use Rattle.moatbetony.proofs.moatbetony_block_write.Statement.{statement}
+use Rattle.moatbetony.proofs.moatbetony_block_write.Tie as tie
+
+write-requires : tie.Need-write-requires
+write-requires c κs = search needs
+
+tell-requires : tie.Need-tell-requires
+tell-requires c κs = search needs
+
+same-length : tie.Need-same-length
+same-length c = search needs
+
+returns : tie.Need-returns
+returns c =
+    let e = c .before .before .before .write .ensures in
+    (c .tell .ensures ∙ ap told (e .0), e .1)
+
+pub moatbetony-block-write-spec : {M : Type 1} → statement M
+moatbetony-block-write-spec = tie.close (tie.spec write-requires tell-requires same-length returns)

@@ -1,0 +1,29 @@
+-- `moatbetony::moatbetony_record_read` meets its contract. Assumes nothing.
+use mathlib.Core.Path.{_∙_, ap, sym}
+use borrow.Author.Needs.{needs}
+use Rattle.moatbetony.specs.Told.{recordTold}
+use Rattle.moatbetony.proofs.moatbetony_record_read.Statement.{statement}
+use Rattle.moatbetony.proofs.moatbetony_record_read.Tie as tie
+
+read-requires : tie.Need-read-requires
+read-requires c κs = search needs
+
+enum-known-r : tie.Need-enum-known-r
+enum-known-r c = search needs
+
+enum-told : tie.Need-enum-told
+enum-told c = search needs
+
+returns : tie.Need-returns
+returns c = ap recordTold (sym (sym (c .before .before .read .ensures) ∙ c .enum-told .given .1))
+
+tell-record-requires : tie.Need-tell-record-requires
+tell-record-requires c κs = search needs
+
+returns-2 : tie.Need-returns-2
+returns-2 c = c .tell-record .ensures ∙ ap recordTold (sym (sym (c .before .before .before .before .read .ensures) ∙ c .before .before .r .given .1))
+
+pub moatbetony-record-read-spec : {M : Type 1} → statement M
+moatbetony-record-read-spec =
+    tie.close
+    (tie.spec read-requires enum-known-r enum-told returns tell-record-requires returns-2)

@@ -1,0 +1,38 @@
+-- `moatbetony::tell_record` meets its contract. Assumes nothing.
+use mathlib.Core.Path.{_∙_, ap}
+use borrow.Author.Needs.{needs}
+use Rattle.ledgers.specs.Ledgers.{ledgerByte}
+use Rattle.moatbetony.proofs.tell_record.Statement.{statement}
+use Rattle.moatbetony.proofs.tell_record.Tie as tie
+
+byte-requires : tie.Need-byte-requires
+byte-requires c κs = search needs
+
+ledger-requires : tie.Need-ledger-requires
+ledger-requires c κs = search needs
+
+byte-requires-2 : tie.Need-byte-requires-2
+byte-requires-2 c κs = search needs
+
+verdict-byte-requires : tie.Need-verdict-byte-requires
+verdict-byte-requires c κs = search needs
+
+returns : tie.Need-returns
+returns c =
+    let r = c .before .before .before .before .args .r in
+    λ i.
+    record {
+      answer = record { number = 0; place = 0 };
+      kind = c .before .before .before .byte .ensures i;
+      ledger = (c .before .byte2 .ensures ∙ ap ledgerByte (c .before .before .ledger .ensures)) i;
+      sender = r .sender;
+      receiver = r .receiver;
+      number = r .number;
+      amount = r .amount;
+      verdict = c .verdict-byte .ensures i;
+    }
+
+pub tell-record-spec : {M : Type 1} → statement M
+tell-record-spec =
+    tie.close
+    (tie.spec byte-requires ledger-requires byte-requires-2 verdict-byte-requires returns)

@@ -1,0 +1,3 @@
+-- What the library's exports hand back. Assumes nothing.
+
+pub mod Told

@@ -1,0 +1,129 @@
+-- What the library's exports hand back: answers as numbers and places, beside what a call hands out. Assumes nothing.
+use Prim.Native.Nat.{_*_, _+_, ℕ}
+use mathlib.Core.Bool.{cond}
+use mathlib.Core.List.{List, _++_, _∷_}
+use lib.ListN.{replicate}
+use Rattle.answers.specs.Answers.{answer, numberOf, placeOf, unlessRefused}
+use Rattle.answers.specs.declared.Answer.{Answer}
+use Rattle.balances.specs.declared.Balance.{Balance}
+use Rattle.home_figures.specs.declared.HomeFigures.{HomeFigures}
+use Rattle.home_validator.specs.declared.HomeValidator.{HomeValidator}
+use Rattle.journal_reader.specs.declared.Balances.{Balances}
+use Rattle.journal_reader.specs.declared.Counted.{Counted}
+use Rattle.ledgers.specs.Ledgers.{kindByte, ledgerByte, ledgerOf}
+use Rattle.moatbetony.specs.declared.BalanceTold.{BalanceTold}
+use Rattle.moatbetony.specs.declared.BalancesTold.{BalancesTold}
+use Rattle.moatbetony.specs.declared.CountTold.{CountTold}
+use Rattle.moatbetony.specs.declared.EncodedTold.{EncodedTold}
+use Rattle.moatbetony.specs.declared.HomeFiguresTold.{HomeFiguresTold}
+use Rattle.moatbetony.specs.declared.HomeTold.{HomeTold}
+use Rattle.moatbetony.specs.declared.PairFiguresTold.{PairFiguresTold}
+use Rattle.moatbetony.specs.declared.PairTold.{PairTold}
+use Rattle.moatbetony.specs.declared.PartTold.{PartTold}
+use Rattle.moatbetony.specs.declared.RecordTold.{RecordTold}
+use Rattle.moatbetony.specs.declared.Told.{Told}
+use Rattle.pair_figures.specs.declared.PairFigures.{PairFigures}
+use Rattle.pair_validator.specs.declared.PairValidator.{PairValidator}
+use Rattle.records.specs.declared.Reading.{Reading}
+use Rattle.records.specs.declared.Reading.the-variants.{Read, Unreadable}
+use Rattle.wire.specs.BigEndian.{bytesOf}
+
+-- ## Versions
+
+-- 0.1.0: major times 10,000, minor times 100 and patch
+abbrev pub libraryVersion : ℕ
+libraryVersion = 100
+
+-- the layout of both states
+abbrev pub stateVersion : ℕ
+stateVersion = 1
+
+-- ## Answers
+
+-- document 01's number and place
+abbrev pub told : Answer → Told
+told a = record { number = numberOf a; place = placeOf a }
+
+-- ## The validators
+
+-- an outcome of the pair validator
+abbrev pub pairTold : Answer → PairValidator → PairTold
+pairTold a s = record { answer = told a; state = s }
+
+-- its figures
+abbrev pub pairFiguresTold : PairFigures → PairFiguresTold
+pairFiguresTold f = record { answer = told (f .answer); home = f .home; far = f .far; flight = f .flight }
+
+-- an outcome of the home validator
+abbrev pub homeTold : Answer → HomeValidator → HomeTold
+homeTold a s = record { answer = told a; state = s }
+
+-- its figures
+abbrev pub homeFiguresTold : HomeFigures → HomeFiguresTold
+homeFiguresTold f = record { answer = told (f .answer); home = f .home; pool = f .pool }
+
+-- the balance of an account
+abbrev pub balanceTold : Balance → BalanceTold
+balanceTold b = record { answer = told (b .answer); balance = b .balance }
+
+-- ## Records
+
+-- the fields of what was read; 21 and zeros where it does not read
+abbrev pub recordTold : Reading → RecordTold
+recordTold (Read r) =
+    record {
+      answer = record { number = 0; place = 0 };
+      kind = kindByte (r .kind);
+      ledger = ledgerByte (ledgerOf (r .kind));
+      sender = r .sender;
+      receiver = r .receiver;
+      number = r .number;
+      amount = r .amount;
+      verdict = cond (r .verified) 1 0;
+    }
+recordTold Unreadable =
+    record {
+      answer = record { number = 21; place = 0 };
+      kind = 0;
+      ledger = 0;
+      sender = 0;
+      receiver = 0;
+      number = 0;
+      amount = 0;
+      verdict = 0;
+    }
+
+-- the 32 bytes with these fields, each in its place (document 01, "The record")
+unfoldable pub fieldBytes : ℕ → ℕ → ℕ → ℕ → ℕ → ℕ → ℕ → List ℕ
+fieldBytes kind ledger sender receiver number amount verdict =
+    kind
+    ∷ ledger
+    ∷ (bytesOf 2 sender
+    ++ (bytesOf 2 receiver
+    ++ (0 ∷ 0 ∷ (bytesOf 8 number
+    ++ (bytesOf 8 amount
+    ++ (verdict ∷ replicate 7 0))))))
+
+-- bytes that read as a record; 21 and zeros where they do not
+abbrev pub encodedTold : Reading → List ℕ → EncodedTold
+encodedTold (Read r) b = record { answer = record { number = 0; place = 0 }; bytes = b }
+encodedTold Unreadable b = record { answer = record { number = 21; place = 0 }; bytes = replicate 32 0 }
+
+-- ## The journal
+
+-- where the record at a place of block k stands, by the refusal of block and place
+abbrev pub partTold : ℕ → ℕ → ℕ → PartTold
+partTold refusal k place =
+    record {
+      answer = told (answer refusal k);
+      start = unlessRefused refusal (32 + 32 * place) 0;
+      length = unlessRefused refusal 32 0;
+    }
+
+-- a count
+abbrev pub countTold : Counted → CountTold
+countTold c = record { answer = told (c .answer); count = c .count }
+
+-- opening balances
+abbrev pub balancesTold : Balances → BalancesTold
+balancesTold o = record { answer = told (o .answer); count = o .count; balances = o .balances }

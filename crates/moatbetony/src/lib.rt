@@ -1,0 +1,539 @@
+// The library that makers link from C, Rust and what can call C: each published call under the C calling convention. Nothing is judged
+// here. An enum does not cross, so that an answer goes as its number and its place. include/moatbetony.h declares all of it.
+ghost use Prim.Native.Nat.{_+_, _*_};
+ghost use mathlib.Core.Bool.{cond};
+ghost use mathlib.Core.Path.{_≡_};
+ghost use lib.ListN.{drop, length, take};
+ghost use Rattle.answers.specs.Answers.{answer, unlessRefused};
+ghost use Rattle.home_figures.specs.Figures.{homeFiguresOf, homeBalanceOf};
+ghost use Rattle.home_tables.specs.Tables.{acceptsHome};
+ghost use Rattle.home_validator.specs.State.{homeTablesOf, homeChecker, homeOpenedState, homeZeroState};
+ghost use Rattle.journal_reader.specs.Judged.{blockRefusal, recordRefusal, partOf, countOf, openingOf};
+ghost use Rattle.journal_writer.specs.Written.{writeRefusal, written};
+ghost use Rattle.moatbetony.specs.Told.{libraryVersion, stateVersion, told, pairTold, pairFiguresTold, homeTold};
+ghost use Rattle.moatbetony.specs.Told.{homeFiguresTold, balanceTold, recordTold, fieldBytes, encodedTold, partTold};
+ghost use Rattle.moatbetony.specs.Told.{countTold, balancesTold};
+ghost use Rattle.pair_figures.specs.Figures.{figuresOf, balanceOf};
+ghost use Rattle.pair_tables.specs.Tables.{accepts};
+ghost use Rattle.pair_validator.specs.State.{tablesOf, pairChecker, openedState, zeroState};
+ghost use Rattle.records.specs.Records.{reading};
+ghost use Rattle.records.specs.declared.Reading.the-variants.{Read};
+ghost use Rattle.rules.specs.Calls.{call, one, list};
+ghost use Rattle.rules.specs.HomeValidator.{homeOpeningRefusal};
+ghost use Rattle.rules.specs.PairValidator.{pairOpeningRefusal};
+ghost use Rattle.sha256_core.specs.Sha256.{sha256};
+use answers::Answer;
+use home_validator::HomeValidator;
+use ledgers::Ledger;
+use pair_validator::PairValidator;
+use records::Reading;
+use records::Record;
+use wire::u16_bytes;
+use wire::u64_bytes;
+
+// ## Versions
+
+// The library's version: major times 10,000, minor times 100 and patch.
+#[no_mangle]
+pub extern "C" fn moatbetony_version() -> u32
+    ensures { λ r. ⌜ r ≡ libraryVersion ⌝ }
+{
+    100
+}
+
+// The version of the layout of both states. A stored state is taken up only under the version that it was stored with.
+#[no_mangle]
+pub extern "C" fn moatbetony_state_version() -> u32
+    ensures { λ r. ⌜ r ≡ stateVersion ⌝ }
+{
+    1
+}
+
+// ## Answers
+
+// An answer: 0 for passed or a refusal's number, and its place.
+#[repr(C)]
+pub struct Told {
+    pub number: u32,
+    pub place: u64,
+}
+
+// An answer as number and place.
+fn tell(a: Answer) -> Told
+    ensures { λ r. ⌜ r ≡ told a ⌝ }
+{
+    Told {
+        number: a.number(),
+        place: a.place(),
+    }
+}
+
+// ## The pair validator
+
+// An outcome.
+#[repr(C)]
+pub struct PairTold {
+    pub answer: Told,
+    pub state: PairValidator,
+}
+
+// Figures.
+#[repr(C)]
+pub struct PairFiguresTold {
+    pub answer: Told,
+    pub home: u64,
+    pub far: u64,
+    pub flight: u64,
+}
+
+// A balance.
+#[repr(C)]
+pub struct BalanceTold {
+    pub answer: Told,
+    pub balance: u64,
+}
+
+// An opening.
+#[no_mangle]
+pub extern "C" fn moatbetony_pair_open<'a>(homes: &'a [u64], fars: &'a [u64]) -> PairTold
+    ensures { λ r. ⌜ r ≡ pairTold (answer (pairOpeningRefusal (now (homes .entry)) (now (fars .entry))) 0)
+        (unlessRefused (pairOpeningRefusal (now (homes .entry)) (now (fars .entry))) (openedState (now (homes .entry)) (now (fars .entry)))
+        zeroState) ⌝ }
+{
+    let o = PairValidator::open(homes, fars);
+    let a = o.answer;
+    let state = o.state;
+    PairTold {
+        answer: tell(a),
+        state,
+    }
+}
+
+// A call with one record.
+#[no_mangle]
+pub extern "C" fn moatbetony_pair_check_record(state: PairValidator, bytes: &[u8]) -> PairTold
+    ensures { λ r. ⌜ r ≡ pairTold (call pairChecker state (one (now (bytes .entry))) .answer)
+        (call pairChecker state (one (now (bytes .entry))) .state) ⌝ }
+{
+    let o = state.check_record(bytes);
+    let a = o.answer;
+    let after = o.state;
+    PairTold {
+        answer: tell(a),
+        state: after,
+    }
+}
+
+// A call with a list.
+#[no_mangle]
+pub extern "C" fn moatbetony_pair_check_list(state: PairValidator, bytes: &[u8]) -> PairTold
+    ensures { λ r. ⌜ r ≡ pairTold (call pairChecker state (list (now (bytes .entry))) .answer)
+        (call pairChecker state (list (now (bytes .entry))) .state) ⌝ }
+{
+    let o = state.check_list(bytes);
+    let a = o.answer;
+    let after = o.state;
+    PairTold {
+        answer: tell(a),
+        state: after,
+    }
+}
+
+// The figures of a state.
+#[no_mangle]
+pub extern "C" fn moatbetony_pair_figures(state: PairValidator) -> PairFiguresTold
+    ensures { λ r. ⌜ r ≡ pairFiguresTold (figuresOf (accepts (tablesOf state)) (tablesOf state)) ⌝ }
+{
+    let f = pair_figures::figures(state);
+    let a = f.answer;
+    PairFiguresTold {
+        answer: tell(a),
+        home: f.home,
+        far: f.far,
+        flight: f.flight,
+    }
+}
+
+// The balance of an account of a ledger.
+#[no_mangle]
+pub extern "C" fn moatbetony_pair_balance(
+    state: PairValidator,
+    ledger: u8,
+    account: u16,
+) -> BalanceTold
+    ensures { λ r. ⌜ r ≡ balanceTold (balanceOf (accepts (tablesOf state)) (tablesOf state) ledger account) ⌝ }
+{
+    let b = pair_figures::balance(state, ledger, account);
+    let a = b.answer;
+    BalanceTold {
+        answer: tell(a),
+        balance: b.balance,
+    }
+}
+
+// ## The home validator
+
+// An outcome.
+#[repr(C)]
+pub struct HomeTold {
+    pub answer: Told,
+    pub state: HomeValidator,
+}
+
+// Figures.
+#[repr(C)]
+pub struct HomeFiguresTold {
+    pub answer: Told,
+    pub home: u64,
+    pub pool: u64,
+}
+
+// An opening.
+#[no_mangle]
+pub extern "C" fn moatbetony_home_open(homes: &[u64], fars: usize, far_total: u64) -> HomeTold
+    ensures { λ r. ⌜ r ≡ homeTold (answer (homeOpeningRefusal (now (homes .entry)) fars «far_total») 0)
+        (unlessRefused (homeOpeningRefusal (now (homes .entry)) fars «far_total»)
+        (homeOpenedState (now (homes .entry)) fars «far_total») homeZeroState) ⌝ }
+{
+    let o = HomeValidator::open(homes, fars, far_total);
+    let a = o.answer;
+    let state = o.state;
+    HomeTold {
+        answer: tell(a),
+        state,
+    }
+}
+
+// A call with one record.
+#[no_mangle]
+pub extern "C" fn moatbetony_home_check_record(state: HomeValidator, bytes: &[u8]) -> HomeTold
+    ensures { λ r. ⌜ r ≡ homeTold (call homeChecker state (one (now (bytes .entry))) .answer)
+        (call homeChecker state (one (now (bytes .entry))) .state) ⌝ }
+{
+    let o = state.check_record(bytes);
+    let a = o.answer;
+    let after = o.state;
+    HomeTold {
+        answer: tell(a),
+        state: after,
+    }
+}
+
+// A call with a list.
+#[no_mangle]
+pub extern "C" fn moatbetony_home_check_list(state: HomeValidator, bytes: &[u8]) -> HomeTold
+    ensures { λ r. ⌜ r ≡ homeTold (call homeChecker state (list (now (bytes .entry))) .answer)
+        (call homeChecker state (list (now (bytes .entry))) .state) ⌝ }
+{
+    let o = state.check_list(bytes);
+    let a = o.answer;
+    let after = o.state;
+    HomeTold {
+        answer: tell(a),
+        state: after,
+    }
+}
+
+// The figures of a state.
+#[no_mangle]
+pub extern "C" fn moatbetony_home_figures(state: HomeValidator) -> HomeFiguresTold
+    ensures { λ r. ⌜ r ≡ homeFiguresTold (homeFiguresOf (acceptsHome (homeTablesOf state)) (homeTablesOf state)) ⌝ }
+{
+    let f = home_figures::figures(state);
+    let a = f.answer;
+    HomeFiguresTold {
+        answer: tell(a),
+        home: f.home,
+        pool: f.pool,
+    }
+}
+
+// The balance of a home account.
+#[no_mangle]
+pub extern "C" fn moatbetony_home_balance(state: HomeValidator, account: u16) -> BalanceTold
+    ensures { λ r. ⌜ r ≡ balanceTold (homeBalanceOf (acceptsHome (homeTablesOf state)) (homeTablesOf state) account) ⌝ }
+{
+    let b = home_figures::balance(state, account);
+    let a = b.answer;
+    BalanceTold {
+        answer: tell(a),
+        balance: b.balance,
+    }
+}
+
+// ## Records
+
+// The fields of a record that was read, as numbers; zeros where it does not read.
+#[repr(C)]
+pub struct RecordTold {
+    pub answer: Told,
+    pub kind: u8,
+    pub ledger: u8,
+    pub sender: u16,
+    pub receiver: u16,
+    pub number: u64,
+    pub amount: u64,
+    pub verdict: u8,
+}
+
+// The 32 bytes of a record; zeros where they would not read.
+#[repr(C)]
+pub struct EncodedTold {
+    pub answer: Told,
+    pub bytes: [u8; 32],
+}
+
+fn verdict_byte(verified: bool) -> u8
+    ensures { λ r. ⌜ r ≡ cond verified 1 0 ⌝ }
+{
+    if verified { 1 } else { 0 }
+}
+
+// The fields of a record that was read.
+fn tell_record(r: Record) -> RecordTold
+    ensures { λ t. ⌜ t ≡ recordTold (Read r) ⌝ }
+{
+    let k = r.kind;
+    RecordTold {
+        answer: Told {
+            number: 0,
+            place: 0,
+        },
+        kind: k.byte(),
+        ledger: k.ledger().byte(),
+        sender: r.sender,
+        receiver: r.receiver,
+        number: r.number,
+        amount: r.amount,
+        verdict: verdict_byte(r.verified),
+    }
+}
+
+// The fields of a record: 21 where the bytes do not read.
+#[no_mangle]
+pub extern "C" fn moatbetony_record_read(bytes: &[u8]) -> RecordTold
+    ensures { λ r. ⌜ r ≡ recordTold (reading (now (bytes .entry))) ⌝ }
+{
+    let Reading::Read(r) = Record::read(bytes) else {
+        return RecordTold {
+            answer: Told {
+                number: 21,
+                place: 0,
+            },
+            kind: 0,
+            ledger: 0,
+            sender: 0,
+            receiver: 0,
+            number: 0,
+            amount: 0,
+            verdict: 0,
+        };
+    };
+    tell_record(r)
+}
+
+// The bytes with these fields, whether they read as a record or not.
+fn field_bytes(
+    kind: u8,
+    ledger: u8,
+    sender: u16,
+    receiver: u16,
+    number: u64,
+    amount: u64,
+    verdict: u8,
+) -> [u8; 32]
+    ensures { λ r. ⌜ r ≡ fieldBytes kind ledger sender receiver number amount verdict ⌝ }
+{
+    let s = u16_bytes(sender);
+    let r = u16_bytes(receiver);
+    let n = u64_bytes(number);
+    let a = u64_bytes(amount);
+    [
+        kind,
+        ledger,
+        s[0],
+        s[1],
+        r[0],
+        r[1],
+        0,
+        0,
+        n[0],
+        n[1],
+        n[2],
+        n[3],
+        n[4],
+        n[5],
+        n[6],
+        n[7],
+        a[0],
+        a[1],
+        a[2],
+        a[3],
+        a[4],
+        a[5],
+        a[6],
+        a[7],
+        verdict,
+        0,
+        0,
+        0,
+        0,
+        0,
+        0,
+        0,
+    ]
+}
+
+// The bytes of a record with these fields: 21 where they would not read.
+#[no_mangle]
+pub extern "C" fn moatbetony_record_encode(
+    kind: u8,
+    ledger: u8,
+    sender: u16,
+    receiver: u16,
+    number: u64,
+    amount: u64,
+    verdict: u8,
+) -> EncodedTold
+    ensures { λ r. ⌜ r ≡ encodedTold (reading (fieldBytes kind ledger sender receiver number amount verdict))
+        (fieldBytes kind ledger sender receiver number amount verdict) ⌝ }
+{
+    let bytes = field_bytes(kind, ledger, sender, receiver, number, amount, verdict);
+    let Reading::Read(_) = Record::read(&bytes) else {
+        return EncodedTold {
+            answer: Told {
+                number: 21,
+                place: 0,
+            },
+            bytes: [0; 32],
+        };
+    };
+    EncodedTold {
+        answer: Told {
+            number: 0,
+            place: 0,
+        },
+        bytes,
+    }
+}
+
+// ## The journal
+
+// Where a record stands in its block.
+#[repr(C)]
+pub struct PartTold {
+    pub answer: Told,
+    pub start: usize,
+    pub length: usize,
+}
+
+// The count of a block's items.
+#[repr(C)]
+pub struct CountTold {
+    pub answer: Told,
+    pub count: u64,
+}
+
+// The opening balances of a block, zeros after them.
+#[repr(C)]
+pub struct BalancesTold {
+    pub answer: Told,
+    pub count: u64,
+    pub balances: [u64; Ledger::ACCOUNTS],
+}
+
+// Judges a block.
+#[no_mangle]
+pub extern "C" fn moatbetony_block_judge(block: &[u8], k: u64, before: u64) -> Told
+    ensures { λ r. ⌜ r ≡ told (answer (blockRefusal (now (block .entry)) k before) k) ⌝ }
+{
+    tell(journal_reader::judge(block, k, before))
+}
+
+// Judges a block and a place.
+#[no_mangle]
+pub extern "C" fn moatbetony_block_judge_record(
+    block: &[u8],
+    k: u64,
+    before: u64,
+    place: u64,
+) -> Told
+    ensures { λ r. ⌜ r ≡ told (answer (recordRefusal (now (block .entry)) k before place) k) ⌝ }
+{
+    tell(journal_reader::judge_record(block, k, before, place))
+}
+
+// Where the record at a place stands in its block: the bytes there are the part that is handed out within the language.
+#[no_mangle]
+pub extern "C" fn moatbetony_block_record(block: &[u8], k: u64, before: u64, place: u64) -> PartTold
+    ensures stands { λ r. ⌜ r ≡ partTold (recordRefusal (now (block .entry)) k before place) k place ⌝ }
+    ensures holds { λ r. ⌜ take (r .length) (drop (r .start) (now (block .entry))) ≡ partOf (now (block .entry)) k before place ⌝ }
+{
+    let answer = journal_reader::judge_record(block, k, before, place);
+    let Answer::Passed = answer else {
+        return PartTold {
+            answer: tell(answer),
+            start: 0,
+            length: 0,
+        };
+    };
+    PartTold {
+        answer: tell(answer),
+        start: 32 + 32 * (place as usize),
+        length: 32,
+    }
+}
+
+// The count of a block's items.
+#[no_mangle]
+pub extern "C" fn moatbetony_block_count(block: &[u8], k: u64, before: u64) -> CountTold
+    ensures { λ r. ⌜ r ≡ countTold (countOf (now (block .entry)) k before) ⌝ }
+{
+    let c = journal_reader::item_count(block, k, before);
+    let a = c.answer;
+    CountTold {
+        answer: tell(a),
+        count: c.count,
+    }
+}
+
+// The opening balances of a block.
+#[no_mangle]
+pub extern "C" fn moatbetony_block_balances(block: &[u8], k: u64, before: u64) -> BalancesTold
+    ensures { λ r. ⌜ r ≡ balancesTold (openingOf (now (block .entry)) k before) ⌝ }
+{
+    let o = journal_reader::opening_balances(block, k, before);
+    let a = o.answer;
+    let balances = o.balances;
+    BalancesTold {
+        answer: tell(a),
+        count: o.count,
+        balances,
+    }
+}
+
+// Writes a block.
+#[no_mangle]
+pub extern "C" fn moatbetony_block_write(out: &mut [u8], k: u64, kind: u8, items: &[u8]) -> Told
+    ensures answers { λ r. ⌜ r ≡ told (answer (writeRefusal (length (now (out .entry))) k kind (length (now (items .entry)))) k) ⌝ }
+    ensures leaves { λ _. ⌜ now (out .exit) ≡ written (now (out .entry)) k kind (now (items .entry)) ⌝ }
+{
+    tell(journal_writer::write(out, k, kind, items))
+}
+
+// ## SHA-256
+
+// The 32 bytes of a digest.
+#[repr(C)]
+pub struct DigestTold {
+    pub bytes: [u8; 32],
+}
+
+// The digest of a message.
+#[no_mangle]
+pub extern "C" fn moatbetony_sha256(message: &[u8]) -> DigestTold
+    ensures { λ r. ⌜ r .bytes ≡ sha256 (now (message .entry)) ⌝ }
+{
+    let bytes = sha256::digest(message);
+    DigestTold { bytes }
+}

@@ -1,0 +1,3 @@
+-- Laws of the figures. Assumes nothing.
+
+mod Totals

@@ -1,0 +1,3 @@
+-- What a state of the pair validator is asked for. Assumes nothing.
+
+pub mod Figures

@@ -1,0 +1,279 @@
+//! The library, called over its C boundary, as a part that the second validator can compare with itself. An empty slice goes as a
+//! null pointer.
+
+use std::ptr;
+
+use second_validator::answer::Answer;
+use second_validator::journal::Balances;
+use second_validator::record::{Held, RECORD};
+use second_validator::runner::calls::Part;
+use second_validator::states::{HomeState, PairState};
+
+use crate::ffi::{self, HomeValidator, PairValidator};
+
+pub struct Library;
+
+/// An answer as it crosses. One that passed with a place is no answer of the papers, and differs from every one of theirs.
+fn answer(told: ffi::Told) -> Answer {
+    match told {
+        ffi::Told {
+            number: 0,
+            place: 0,
+        } => Answer::Passed,
+        ffi::Told { number, place } => Answer::Refused {
+            number: u8::try_from(number).unwrap_or(u8::MAX),
+            place,
+        },
+    }
+}
+
+fn start<T>(slice: &[T]) -> *const T {
+    if slice.is_empty() {
+        ptr::null()
+    } else {
+        slice.as_ptr()
+    }
+}
+
+fn start_mut(slice: &mut [u8]) -> *mut u8 {
+    if slice.is_empty() {
+        ptr::null_mut()
+    } else {
+        slice.as_mut_ptr()
+    }
+}
+
+/// The same fields in a state of another type.
+macro_rules! state {
+    ($from:expr, $to:ident { $($field:ident),* }) => {
+        $to { $($field: $from.$field),* }
+    };
+}
+
+fn pair_in(state: &PairState) -> PairValidator {
+    state!(
+        state,
+        PairValidator {
+            supply,
+            accounts,
+            counts,
+            balances,
+            numbers,
+            amounts,
+            senders,
+            receivers,
+            kinds,
+            ledgers,
+            verdicts
+        }
+    )
+}
+
+fn pair_out(told: ffi::PairTold) -> (Answer, Box<PairState>) {
+    let state = told.state;
+    (
+        answer(told.answer),
+        Box::new(state!(
+            state,
+            PairState {
+                supply,
+                accounts,
+                counts,
+                balances,
+                numbers,
+                amounts,
+                senders,
+                receivers,
+                kinds,
+                ledgers,
+                verdicts
+            }
+        )),
+    )
+}
+
+fn home_in(state: &HomeState) -> HomeValidator {
+    state!(
+        state,
+        HomeValidator {
+            supply,
+            pool,
+            homes,
+            fars,
+            count,
+            balances,
+            numbers,
+            amounts,
+            senders,
+            receivers,
+            kinds,
+            ledgers,
+            verdicts
+        }
+    )
+}
+
+fn home_out(told: ffi::HomeTold) -> (Answer, Box<HomeState>) {
+    let state = told.state;
+    (
+        answer(told.answer),
+        Box::new(state!(
+            state,
+            HomeState {
+                supply,
+                pool,
+                homes,
+                fars,
+                count,
+                balances,
+                numbers,
+                amounts,
+                senders,
+                receivers,
+                kinds,
+                ledgers,
+                verdicts
+            }
+        )),
+    )
+}
+
+// SAFETY of every call below: a pointer and its length are those of one slice, lent for the call; states and numbers go by value.
+impl Part for Library {
+    fn pair_open(&mut self, home: &[u64], far: &[u64]) -> (Answer, Box<PairState>) {
+        pair_out(unsafe {
+            ffi::moatbetony_pair_open(start(home), home.len(), start(far), far.len())
+        })
+    }
+
+    fn pair_check_record(&mut self, state: &PairState, bytes: &[u8]) -> (Answer, Box<PairState>) {
+        pair_out(unsafe {
+            ffi::moatbetony_pair_check_record(pair_in(state), start(bytes), bytes.len())
+        })
+    }
+
+    fn pair_check_list(&mut self, state: &PairState, bytes: &[u8]) -> (Answer, Box<PairState>) {
+        pair_out(unsafe {
+            ffi::moatbetony_pair_check_list(pair_in(state), start(bytes), bytes.len())
+        })
+    }
+
+    fn pair_figures(&mut self, state: &PairState) -> (Answer, [u64; 3]) {
+        let told = unsafe { ffi::moatbetony_pair_figures(pair_in(state)) };
+        (answer(told.answer), [told.home, told.far, told.flight])
+    }
+
+    fn pair_balance(&mut self, state: &PairState, ledger: u8, account: u16) -> (Answer, u64) {
+        let told = unsafe { ffi::moatbetony_pair_balance(pair_in(state), ledger, account) };
+        (answer(told.answer), told.balance)
+    }
+
+    fn home_open(&mut self, home: &[u64], fars: usize, far_total: u64) -> (Answer, Box<HomeState>) {
+        home_out(unsafe { ffi::moatbetony_home_open(start(home), home.len(), fars, far_total) })
+    }
+
+    fn home_check_record(&mut self, state: &HomeState, bytes: &[u8]) -> (Answer, Box<HomeState>) {
+        home_out(unsafe {
+            ffi::moatbetony_home_check_record(home_in(state), start(bytes), bytes.len())
+        })
+    }
+
+    fn home_check_list(&mut self, state: &HomeState, bytes: &[u8]) -> (Answer, Box<HomeState>) {
+        home_out(unsafe {
+            ffi::moatbetony_home_check_list(home_in(state), start(bytes), bytes.len())
+        })
+    }
+
+    fn home_figures(&mut self, state: &HomeState) -> (Answer, [u64; 2]) {
+        let told = unsafe { ffi::moatbetony_home_figures(home_in(state)) };
+        (answer(told.answer), [told.home, told.pool])
+    }
+
+    fn home_balance(&mut self, state: &HomeState, account: u16) -> (Answer, u64) {
+        let told = unsafe { ffi::moatbetony_home_balance(home_in(state), account) };
+        (answer(told.answer), told.balance)
+    }
+
+    fn record_read(&mut self, bytes: &[u8]) -> (Answer, Held) {
+        let told = unsafe { ffi::moatbetony_record_read(start(bytes), bytes.len()) };
+        let held = state!(
+            told,
+            Held {
+                kind,
+                ledger,
+                sender,
+                receiver,
+                number,
+                amount,
+                verdict
+            }
+        );
+        (answer(told.answer), held)
+    }
+
+    fn record_encode(&mut self, f: &Held) -> (Answer, [u8; RECORD]) {
+        let told = unsafe {
+            ffi::moatbetony_record_encode(
+                f.kind, f.ledger, f.sender, f.receiver, f.number, f.amount, f.verdict,
+            )
+        };
+        (answer(told.answer), told.bytes)
+    }
+
+    fn block_judge(&mut self, block: &[u8], number: u64, before: u64) -> Answer {
+        answer(unsafe { ffi::moatbetony_block_judge(start(block), block.len(), number, before) })
+    }
+
+    fn block_judge_record(&mut self, block: &[u8], number: u64, before: u64, place: u64) -> Answer {
+        answer(unsafe {
+            ffi::moatbetony_block_judge_record(start(block), block.len(), number, before, place)
+        })
+    }
+
+    fn block_record(
+        &mut self,
+        block: &[u8],
+        number: u64,
+        before: u64,
+        place: u64,
+    ) -> (Answer, [usize; 2]) {
+        let told = unsafe {
+            ffi::moatbetony_block_record(start(block), block.len(), number, before, place)
+        };
+        (answer(told.answer), [told.start, told.length])
+    }
+
+    fn block_count(&mut self, block: &[u8], number: u64, before: u64) -> (Answer, u64) {
+        let told =
+            unsafe { ffi::moatbetony_block_count(start(block), block.len(), number, before) };
+        (answer(told.answer), told.count)
+    }
+
+    fn block_balances(
+        &mut self,
+        block: &[u8],
+        number: u64,
+        before: u64,
+    ) -> (Answer, (u64, Balances)) {
+        let told =
+            unsafe { ffi::moatbetony_block_balances(start(block), block.len(), number, before) };
+        (answer(told.answer), (told.count, told.balances))
+    }
+
+    fn block_write(&mut self, output: &mut [u8], number: u64, kind: u8, items: &[u8]) -> Answer {
+        answer(unsafe {
+            ffi::moatbetony_block_write(
+                start_mut(output),
+                output.len(),
+                number,
+                kind,
+                start(items),
+                items.len(),
+            )
+        })
+    }
+
+    fn sha256(&mut self, bytes: &[u8]) -> [u8; 32] {
+        unsafe { ffi::moatbetony_sha256(start(bytes), bytes.len()) }.bytes
+    }
+}

@@ -1,0 +1,39 @@
+//! The families of calls that are compared. A family makes its calls by
+//! scenarios, each from its own generator.
+
+pub mod blocks;
+pub mod checker;
+pub mod forged;
+pub mod looks;
+pub mod plain;
+pub mod runs;
+
+use super::Both;
+use crate::runner::rng::Rng;
+use checker::{Home, Pair};
+
+pub struct Family {
+    pub name: &'static str,
+    /// Its share of the calls, in hundredths.
+    pub share: u64,
+    /// Makes the calls of one scenario.
+    pub run: fn(&mut Both, &mut Rng),
+}
+
+pub const FAMILIES: [Family; 11] = [
+    family("pair_runs", 22, runs::scenario::<Pair>),
+    family("home_runs", 18, runs::scenario::<Home>),
+    family("pair_forged", 14, forged::scenario::<Pair>),
+    family("home_forged", 10, forged::scenario::<Home>),
+    family("pair_looks", 3, looks::scenario::<Pair>),
+    family("home_looks", 2, looks::scenario::<Home>),
+    family("blocks", 14, blocks::scenario),
+    family("writes", 7, plain::writes),
+    family("records_read", 4, plain::records_read),
+    family("records_encoded", 4, plain::records_encoded),
+    family("sha256", 2, plain::sha256),
+];
+
+const fn family(name: &'static str, share: u64, run: fn(&mut Both, &mut Rng)) -> Family {
+    Family { name, share, run }
+}

@@ -1,0 +1,113 @@
+//! The library as a part.
+
+use super::Part;
+use crate::answer::Answer;
+use crate::journal::{self, Balances};
+use crate::record::{self, Held, RECORD};
+use crate::sha256;
+use crate::states::{HomeState, PairState};
+
+/// The calls as this library answers them.
+#[derive(Clone, Copy, Debug, Default)]
+pub struct Oracle;
+
+fn pair_copy(state: &PairState) -> Box<PairState> {
+    Box::new(state.clone())
+}
+
+fn home_copy(state: &HomeState) -> Box<HomeState> {
+    Box::new(state.clone())
+}
+
+impl Part for Oracle {
+    fn pair_open(&mut self, home: &[u64], far: &[u64]) -> (Answer, Box<PairState>) {
+        PairState::open(home, far)
+    }
+
+    fn pair_check_record(&mut self, state: &PairState, bytes: &[u8]) -> (Answer, Box<PairState>) {
+        let mut state = pair_copy(state);
+        (state.check_record(bytes), state)
+    }
+
+    fn pair_check_list(&mut self, state: &PairState, bytes: &[u8]) -> (Answer, Box<PairState>) {
+        let mut state = pair_copy(state);
+        (state.check_list(bytes), state)
+    }
+
+    fn pair_figures(&mut self, state: &PairState) -> (Answer, [u64; 3]) {
+        state.figures()
+    }
+
+    fn pair_balance(&mut self, state: &PairState, ledger: u8, account: u16) -> (Answer, u64) {
+        state.balance(ledger, account)
+    }
+
+    fn home_open(&mut self, home: &[u64], fars: usize, far_total: u64) -> (Answer, Box<HomeState>) {
+        HomeState::open(home, fars, far_total)
+    }
+
+    fn home_check_record(&mut self, state: &HomeState, bytes: &[u8]) -> (Answer, Box<HomeState>) {
+        let mut state = home_copy(state);
+        (state.check_record(bytes), state)
+    }
+
+    fn home_check_list(&mut self, state: &HomeState, bytes: &[u8]) -> (Answer, Box<HomeState>) {
+        let mut state = home_copy(state);
+        (state.check_list(bytes), state)
+    }
+
+    fn home_figures(&mut self, state: &HomeState) -> (Answer, [u64; 2]) {
+        state.figures()
+    }
+
+    fn home_balance(&mut self, state: &HomeState, account: u16) -> (Answer, u64) {
+        state.balance(account)
+    }
+
+    fn record_read(&mut self, bytes: &[u8]) -> (Answer, Held) {
+        record::record_read(bytes)
+    }
+
+    fn record_encode(&mut self, fields: &Held) -> (Answer, [u8; RECORD]) {
+        record::record_encode(fields)
+    }
+
+    fn block_judge(&mut self, block: &[u8], number: u64, before: u64) -> Answer {
+        journal::judge_block(block, number, before)
+    }
+
+    fn block_judge_record(&mut self, block: &[u8], number: u64, before: u64, place: u64) -> Answer {
+        journal::judge_place(block, number, before, place)
+    }
+
+    fn block_record(
+        &mut self,
+        block: &[u8],
+        number: u64,
+        before: u64,
+        place: u64,
+    ) -> (Answer, [usize; 2]) {
+        journal::block_record(block, number, before, place)
+    }
+
+    fn block_count(&mut self, block: &[u8], number: u64, before: u64) -> (Answer, u64) {
+        journal::block_count(block, number, before)
+    }
+
+    fn block_balances(
+        &mut self,
+        block: &[u8],
+        number: u64,
+        before: u64,
+    ) -> (Answer, (u64, Balances)) {
+        journal::block_balances(block, number, before)
+    }
+
+    fn block_write(&mut self, output: &mut [u8], number: u64, kind: u8, items: &[u8]) -> Answer {
+        journal::write_block(number, kind, items, output)
+    }
+
+    fn sha256(&mut self, bytes: &[u8]) -> [u8; 32] {
+        sha256::digest(bytes)
+    }
+}

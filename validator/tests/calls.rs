@@ -1,0 +1,675 @@
+//! The comparison of calls: the library against itself, and against parts that
+//! are wrong in one thing each.
+
+use second_validator::answer::Answer::{self, Passed, Refused};
+use second_validator::journal::Balances;
+use second_validator::record::{Held, Record, MAX_AMOUNT, RECORD};
+use second_validator::runner::calls::fields::{Field, Fields};
+use second_validator::runner::calls::{compare, Oracle, Part};
+use second_validator::states::{HomeState, PairState};
+
+const CALLS: u64 = 20_000;
+
+#[test]
+fn library_against_itself() {
+    let report = compare(&mut Oracle, 1, CALLS, u64::MAX);
+    assert_eq!((report.differences, report.kept.len()), (0, 0));
+    assert!(report.calls >= CALLS && report.calls < CALLS + 500);
+    let answers = report.answers();
+    let all = [
+        0, 1, 2, 3, 4, 11, 12, 13, 14, 21, 22, 23, 24, 25, 31, 32, 33, 41,
+    ];
+    for number in all {
+        assert!(answers.get(&number) > Some(&10), "{number} {answers:?}");
+    }
+    assert_eq!(answers.len(), all.len());
+    assert_eq!(answers.values().sum::<u64>(), report.calls);
+    for family in ["pair_runs", "home_runs"] {
+        let (calls, passed) = (report.family_calls(family), report.family_passed(family));
+        assert!(3 * passed > calls, "{family}: {passed} of {calls}");
+    }
+    assert_eq!(report.by_call.len(), 19);
+    assert_eq!(report.by_family.len(), 11);
+}
+
+#[test]
+fn forged_states_are_refused_and_accepted() {
+    let report = compare(&mut Oracle, 2, CALLS, u64::MAX);
+    for family in ["pair_forged", "home_forged"] {
+        let answers = &report.by_family[family];
+        let calls = report.family_calls(family);
+        assert!(5 * answers[&0] > calls, "{family} {answers:?}");
+        assert!(5 * answers[&3] > calls, "{family} {answers:?}");
+    }
+}
+
+/// Takes down the calls that are made, as a sum of them.
+#[derive(Default)]
+struct Listener {
+    sum: u64,
+}
+
+impl Listener {
+    fn note(&mut self, bytes: &[u8]) {
+        for &byte in bytes {
+            self.sum = (self.sum ^ u64::from(byte)).wrapping_mul(0x0100_0000_01b3);
+        }
+    }
+
+    fn note_state<S: Fields>(&mut self, state: &S) {
+        for field in [Field::Supply, Field::Counts, Field::Balances] {
+            for index in 0..S::length(field) {
+                self.note(&state.get(field, index).to_le_bytes());
+            }
+        }
+    }
+}
+
+/// What a part is wrong in.
+#[derive(Clone, Copy, Debug, PartialEq, Eq)]
+enum Fault {
+    None,
+    ArrivalByNumber,
+    KeepsWhatStoodBefore,
+    WritesBeyondTheCount,
+    ClearsBeyondTheCount,
+    FarRecordBeforeForm,
+    NumberZeroIsEmpty,
+    PlaceAlwaysZero,
+    PlaceOneTooHigh,
+    LowBitsOfNumbers(u32),
+    SelfTransferGives,
+    FullBeforeUsed,
+    FullBeforeCover,
+    FullAt511,
+    DueOneTooHigh,
+    DueReached,
+    WrappedSums,
+    BeyondAccounts,
+    HeldVerdict,
+    HeldNumberTwice,
+    HeldArrivalByNumber,
+    SupplyLimit,
+    EmptyListPasses,
+    FormBeforeState,
+    StateWithinList,
+    LongRecordCut,
+    RestNotSeen,
+    FiguresBesideRefusal,
+    LedgerTwoIsFar,
+    BalanceBeyondAccounts,
+    OpeningKept,
+    OpeningWraps,
+    OutputTouched,
+    LongOutput,
+    OutputTail,
+    CountBeforeBlock2,
+    ToldCountNotLookedAt,
+    PlaceBeforeBlock,
+    LowBitsOfPlace,
+    LowBitsOfBlockNumber,
+    Block65536,
+    BalancesOfRecords,
+    CountBesideRefusal,
+    ZeroBytesOfBlock,
+    ReservedByte,
+    EncodesAnyVerdict,
+    Padding,
+}
+
+const FAULTS: [Fault; 49] = [
+    Fault::ArrivalByNumber,
+    Fault::KeepsWhatStoodBefore,
+    Fault::WritesBeyondTheCount,
+    Fault::ClearsBeyondTheCount,
+    Fault::FarRecordBeforeForm,
+    Fault::NumberZeroIsEmpty,
+    Fault::PlaceAlwaysZero,
+    Fault::PlaceOneTooHigh,
+    Fault::LowBitsOfNumbers(11),
+    Fault::LowBitsOfNumbers(16),
+    Fault::LowBitsOfNumbers(32),
+    Fault::LowBitsOfNumbers(63),
+    Fault::SelfTransferGives,
+    Fault::FullBeforeUsed,
+    Fault::FullBeforeCover,
+    Fault::FullAt511,
+    Fault::DueOneTooHigh,
+    Fault::DueReached,
+    Fault::WrappedSums,
+    Fault::BeyondAccounts,
+    Fault::HeldVerdict,
+    Fault::HeldNumberTwice,
+    Fault::HeldArrivalByNumber,
+    Fault::SupplyLimit,
+    Fault::EmptyListPasses,
+    Fault::FormBeforeState,
+    Fault::StateWithinList,
+    Fault::LongRecordCut,
+    Fault::RestNotSeen,
+    Fault::FiguresBesideRefusal,
+    Fault::LedgerTwoIsFar,
+    Fault::BalanceBeyondAccounts,
+    Fault::OpeningKept,
+    Fault::OpeningWraps,
+    Fault::OutputTouched,
+    Fault::LongOutput,
+    Fault::OutputTail,
+    Fault::CountBeforeBlock2,
+    Fault::ToldCountNotLookedAt,
+    Fault::PlaceBeforeBlock,
+    Fault::LowBitsOfPlace,
+    Fault::LowBitsOfBlockNumber,
+    Fault::Block65536,
+    Fault::BalancesOfRecords,
+    Fault::CountBesideRefusal,
+    Fault::ZeroBytesOfBlock,
+    Fault::ReservedByte,
+    Fault::EncodesAnyVerdict,
+    Fault::Padding,
+];
+
+#[test]
+fn wrong_parts_are_found() {
+    for fault in FAULTS {
+        let mut part = Wrong::new(fault);
+        let report = compare(&mut part, 7, CALLS, 1);
+        assert!(report.differences > 0, "{fault:?} was not found");
+        assert!(!report.kept[0].found.is_empty(), "{fault:?}");
+        assert!(!report.kept[0].inputs.is_empty(), "{fault:?}");
+    }
+}
+
+#[test]
+fn right_parts_are_not_found_wrong() {
+    let report = compare(&mut Wrong::new(Fault::None), 7, 3_000, u64::MAX);
+    assert_eq!(report.differences, 0);
+}
+
+#[test]
+fn same_seed_same_calls() {
+    let sum = |seed, fault| {
+        let mut part = Wrong::new(fault);
+        compare(&mut part, seed, 2_000, u64::MAX);
+        part.listener.sum
+    };
+    let first = sum(3, Fault::None);
+    assert_eq!(first, sum(3, Fault::None));
+    assert_ne!(first, sum(4, Fault::None));
+    // What the part answers has no influence on the calls.
+    assert_eq!(first, sum(3, Fault::WritesBeyondTheCount));
+}
+
+#[test]
+fn differences_are_kept_and_shown() {
+    let mut part = Wrong::new(Fault::PlaceOneTooHigh);
+    let report = compare(&mut part, 5, 2_000, u64::MAX);
+    assert!(report.differences > 20);
+    assert_eq!(report.kept.len(), 20);
+    let kept = &report.kept[0];
+    assert!(kept.call.ends_with("check_list"));
+    assert!(kept.found[0].starts_with("answer: Refused"));
+    for word in ["Supply: ", "Balances: ", "Verdicts: ", " bytes: "] {
+        assert!(kept.inputs.contains(word), "{}", kept.inputs);
+    }
+    let text = report.to_string();
+    assert!(text.starts_with("seed 5\n"));
+    assert!(text.contains("family pair_runs: "));
+    assert!(text.contains("call block_write: "));
+    assert!(text.ends_with(&format!("{} differ\n", report.differences)));
+    // It ends early once there are enough.
+    let early = compare(&mut part, 5, 2_000, 2);
+    assert!(early.calls < report.calls && early.differences >= 2);
+}
+
+/// The library with one fault.
+struct Wrong {
+    fault: Fault,
+    right: Oracle,
+    listener: Listener,
+}
+
+impl Wrong {
+    fn new(fault: Fault) -> Wrong {
+        Wrong {
+            fault,
+            right: Oracle,
+            listener: Listener::default(),
+        }
+    }
+
+    fn is(&self, fault: Fault) -> bool {
+        self.fault == fault
+    }
+
+    /// A place in a list that is told wrong.
+    fn place(&self, answer: Answer) -> Answer {
+        match (answer, self.fault) {
+            (Refused { number, .. }, Fault::PlaceAlwaysZero) => Refused { number, place: 0 },
+            (Refused { number, place }, Fault::PlaceOneTooHigh) if number != 3 => Refused {
+                number,
+                place: place + 1,
+            },
+            _ => answer,
+        }
+    }
+
+    /// The bytes of one record as a part with a fault takes them.
+    fn record<'b>(&self, bytes: &'b [u8]) -> &'b [u8] {
+        if self.is(Fault::LongRecordCut) && bytes.len() > RECORD {
+            return &bytes[..RECORD];
+        }
+        bytes
+    }
+
+    /// The bytes of a list as a part with a fault takes them.
+    fn list<'b>(&self, bytes: &'b [u8]) -> &'b [u8] {
+        if self.is(Fault::RestNotSeen) {
+            return &bytes[..bytes.len() / RECORD * RECORD];
+        }
+        bytes
+    }
+
+    /// A refused state that a part with a fault takes for this one.
+    fn pair_repaired(&self, state: &PairState) -> Option<Box<PairState>> {
+        let mut state = Box::new(state.clone());
+        match self.fault {
+            Fault::WrappedSums => {
+                let book = state.book()?;
+                let flight = book.in_flight();
+                let total = book.home_total() + book.far_total() + flight;
+                if total as u64 != state.supply {
+                    return None;
+                }
+                state.balances.fill(0);
+                state.balances[0] = state.supply.checked_sub(u64::try_from(flight).ok()?)?;
+            }
+            Fault::BeyondAccounts => state.accounts = [56, 56],
+            Fault::HeldVerdict => state.verdicts.fill(1),
+            Fault::HeldNumberTwice => renumber_locals(&mut state),
+            Fault::HeldArrivalByNumber => fit_arrivals(&mut state),
+            Fault::SupplyLimit if state.supply > MAX_AMOUNT => {
+                let half = state.supply / 2 + 1;
+                let rich = state.balances.iter().position(|&b| b >= half)?;
+                state.supply -= half;
+                state.balances[rich] -= half;
+            }
+            _ => return None,
+        }
+        Some(state)
+    }
+
+    fn home_repaired(&self, state: &HomeState) -> Option<Box<HomeState>> {
+        let mut state = Box::new(state.clone());
+        match self.fault {
+            Fault::WrappedSums => {
+                let total = state
+                    .balances
+                    .iter()
+                    .fold(state.pool, |a, &b| a.wrapping_add(b));
+                if total != state.supply {
+                    return None;
+                }
+                state.balances.fill(0);
+                state.pool = state.supply;
+            }
+            Fault::BeyondAccounts => state.homes = 56,
+            Fault::HeldVerdict => state.verdicts.fill(1),
+            _ => return None,
+        }
+        Some(state)
+    }
+
+    /// The answers of one record that a part with a fault gives otherwise.
+    fn one_answer(&self, answer: Answer, bytes: &[u8], seen: &Seen) -> Answer {
+        let Some(record) = Record::read(bytes) else {
+            let far = bytes.len() == RECORD && bytes[1] == 1;
+            if self.is(Fault::FarRecordBeforeForm) && far && seen.guard {
+                return refused(33);
+            }
+            if self.is(Fault::FormBeforeState) {
+                return refused(21);
+            }
+            return answer;
+        };
+        let full = seen.count == 512;
+        match (self.fault, answer.number()) {
+            (Fault::ArrivalByNumber, 31) if seen.sent_under_number => Passed,
+            (Fault::NumberZeroIsEmpty, 24) if record.number == 0 => Passed,
+            (Fault::LowBitsOfNumbers(bits), 0) if seen.low_bits_used(record.number, bits) => {
+                refused(24)
+            }
+            (Fault::FullBeforeUsed, 24) if full => refused(41),
+            (Fault::FullBeforeCover, 25 | 31 | 32) if full => refused(41),
+            (Fault::FullAt511, 0) if seen.count == 511 => refused(41),
+            (Fault::DueOneTooHigh, 32) if record.amount == seen.due + 1 => Passed,
+            (Fault::DueReached, 0) if seen.arrival_of(&record) == Some(seen.due) => refused(32),
+            _ => answer,
+        }
+    }
+}
+
+/// The entries of a ledger's held records.
+fn held_entries(state: &PairState, ledger: usize) -> std::ops::Range<usize> {
+    512 * ledger..512 * ledger + state.counts[ledger].min(512)
+}
+
+/// Gives each local a number of its own.
+fn renumber_locals(state: &mut PairState) {
+    for ledger in 0..2 {
+        for entry in held_entries(state, ledger) {
+            if state.kinds[entry] == 1 {
+                state.numbers[entry] = 0x7e57_0000_0000_0000 + entry as u64;
+            }
+        }
+    }
+}
+
+/// Makes each arrival fit the sending of its number.
+fn fit_arrivals(state: &mut PairState) {
+    for ledger in 0..2 {
+        for entry in held_entries(state, ledger) {
+            let number = state.numbers[entry];
+            let sent = held_entries(state, 1 - ledger)
+                .find(|&other| state.kinds[other] == 2 && state.numbers[other] == number);
+            if let (3, Some(sent)) = (state.kinds[entry], sent) {
+                state.amounts[entry] = state.amounts[sent];
+                state.senders[entry] = state.senders[sent];
+                state.receivers[entry] = state.receivers[sent];
+            }
+        }
+    }
+}
+
+/// What a wrong part looks at.
+struct Seen {
+    guard: bool,
+    count: usize,
+    numbers: Vec<u64>,
+    sent_under_number: bool,
+    due: u64,
+}
+
+impl Seen {
+    fn of_pair(state: &PairState, bytes: &[u8]) -> Seen {
+        let record = Record::read(bytes);
+        let at = record.map_or(0, |record| record.ledger().index());
+        Seen {
+            guard: false,
+            count: state.counts[at],
+            numbers: state.numbers[512 * at..][..state.counts[at].min(512)].to_vec(),
+            sent_under_number: record.is_some_and(|record| {
+                let sent = |entry| state.kinds[entry] == 2 && state.numbers[entry] == record.number;
+                held_entries(state, 1 - at).any(sent)
+            }),
+            due: 0,
+        }
+    }
+
+    fn of_home(state: &HomeState) -> Seen {
+        Seen {
+            guard: true,
+            count: state.count,
+            numbers: state.numbers[..state.count.min(512)].to_vec(),
+            sent_under_number: false,
+            due: state.pool,
+        }
+    }
+
+    fn low_bits_used(&self, number: u64, bits: u32) -> bool {
+        let alike = |&used: &u64| (used ^ number) << (64 - bits) == 0;
+        self.numbers.iter().any(alike)
+    }
+
+    fn arrival_of(&self, record: &Record) -> Option<u64> {
+        (self.guard && !record.takes()).then_some(record.amount)
+    }
+}
+
+fn refused(number: u8) -> Answer {
+    Refused { number, place: 0 }
+}
+
+fn whole(bytes: &[u8]) -> bool {
+    bytes.len().is_multiple_of(RECORD)
+}
+
+fn is_local_to_itself(bytes: &[u8]) -> Option<Record> {
+    Record::read(bytes)
+        .filter(|record| record.takes() && record.gives() && record.sender == record.receiver)
+}
+
+impl Part for Wrong {
+    fn pair_open(&mut self, home: &[u64], far: &[u64]) -> (Answer, Box<PairState>) {
+        self.listener.note(&[home.len() as u8, far.len() as u8]);
+        let (answer, mut state) = self.right.pair_open(home, far);
+        if self.is(Fault::OpeningKept) && !answer.passed() {
+            state.accounts = [home.len(), far.len()];
+        }
+        if self.is(Fault::OpeningWraps) && answer.number() == 2 {
+            let total = home
+                .iter()
+                .chain(far)
+                .fold(0, |a: u64, &b| a.wrapping_add(b));
+            if total < 1 << 63 {
+                return (Passed, state);
+            }
+        }
+        (answer, state)
+    }
+
+    fn pair_check_record(&mut self, state: &PairState, bytes: &[u8]) -> (Answer, Box<PairState>) {
+        self.listener.note(bytes);
+        self.listener.note_state(state);
+        let bytes = self.record(bytes);
+        let (mut answer, mut next) = self.right.pair_check_record(state, bytes);
+        if answer.number() == 3 {
+            if let Some(repaired) = self.pair_repaired(state) {
+                answer = self.right.pair_check_record(&repaired, bytes).0;
+            }
+        }
+        answer = self.one_answer(answer, bytes, &Seen::of_pair(state, bytes));
+        if self.is(Fault::WritesBeyondTheCount) && !answer.passed() {
+            if let Some(record) = Record::read(bytes) {
+                let at = record.ledger().index();
+                if state.counts[at] < 512 {
+                    next.put_held(512 * at + state.counts[at], &Held::of(&record));
+                }
+            }
+        }
+        if self.is(Fault::ClearsBeyondTheCount) && answer.passed() {
+            next.put_held(511, &Held::ZERO);
+        }
+        if let (true, Some(record)) = (answer.passed(), is_local_to_itself(bytes)) {
+            if self.is(Fault::SelfTransferGives) {
+                next.balances[56 * record.ledger().index() + usize::from(record.sender)] +=
+                    record.amount;
+            }
+        }
+        (answer, next)
+    }
+
+    fn pair_check_list(&mut self, state: &PairState, bytes: &[u8]) -> (Answer, Box<PairState>) {
+        self.listener.note(bytes);
+        if self.is(Fault::EmptyListPasses) && bytes.is_empty() {
+            return (Passed, Box::new(state.clone()));
+        }
+        let bytes = self.list(bytes);
+        let (answer, next) = self.right.pair_check_list(state, bytes);
+        if let (Fault::KeepsWhatStoodBefore, Refused { place, .. }) = (self.fault, answer) {
+            let before = &bytes[..place as usize * RECORD];
+            return (answer, self.right.pair_check_list(state, before).1);
+        }
+        if self.is(Fault::StateWithinList) && answer.number() == 3 && !whole(bytes) {
+            return (refused(21), next);
+        }
+        (self.place(answer), next)
+    }
+
+    fn pair_figures(&mut self, state: &PairState) -> (Answer, [u64; 3]) {
+        let (answer, figures) = self.right.pair_figures(state);
+        if self.is(Fault::FiguresBesideRefusal) && !answer.passed() {
+            return (answer, [state.supply, 0, 0]);
+        }
+        (answer, figures)
+    }
+
+    fn pair_balance(&mut self, state: &PairState, ledger: u8, account: u16) -> (Answer, u64) {
+        if self.is(Fault::LedgerTwoIsFar) {
+            return self.right.pair_balance(state, ledger.min(1), account);
+        }
+        let (answer, balance) = self.right.pair_balance(state, ledger, account);
+        let account = usize::from(account);
+        if self.is(Fault::BalanceBeyondAccounts) && answer.number() == 22 && account < 56 {
+            return (Passed, state.balances[account]);
+        }
+        (answer, balance)
+    }
+
+    fn home_open(&mut self, home: &[u64], fars: usize, far_total: u64) -> (Answer, Box<HomeState>) {
+        self.right.home_open(home, fars, far_total)
+    }
+
+    fn home_check_record(&mut self, state: &HomeState, bytes: &[u8]) -> (Answer, Box<HomeState>) {
+        self.listener.note(bytes);
+        self.listener.note_state(state);
+        let bytes = self.record(bytes);
+        let (mut answer, next) = self.right.home_check_record(state, bytes);
+        if answer.number() == 3 {
+            if let Some(repaired) = self.home_repaired(state) {
+                answer = self.right.home_check_record(&repaired, bytes).0;
+            }
+        }
+        (self.one_answer(answer, bytes, &Seen::of_home(state)), next)
+    }
+
+    fn home_check_list(&mut self, state: &HomeState, bytes: &[u8]) -> (Answer, Box<HomeState>) {
+        self.listener.note(bytes);
+        let (answer, next) = self.right.home_check_list(state, self.list(bytes));
+        (self.place(answer), next)
+    }
+
+    fn home_figures(&mut self, state: &HomeState) -> (Answer, [u64; 2]) {
+        self.right.home_figures(state)
+    }
+
+    fn home_balance(&mut self, state: &HomeState, account: u16) -> (Answer, u64) {
+        self.right.home_balance(state, account)
+    }
+
+    fn record_read(&mut self, bytes: &[u8]) -> (Answer, Held) {
+        self.listener.note(bytes);
+        if self.is(Fault::ReservedByte) && bytes.len() == RECORD {
+            let mut bytes = bytes.to_vec();
+            bytes[31] = 0;
+            return self.right.record_read(&bytes);
+        }
+        self.right.record_read(bytes)
+    }
+
+    fn record_encode(&mut self, fields: &Held) -> (Answer, [u8; RECORD]) {
+        let (answer, bytes) = self.right.record_encode(fields);
+        if self.is(Fault::EncodesAnyVerdict) && !answer.passed() {
+            let verdict = 1;
+            return self.right.record_encode(&Held { verdict, ..*fields });
+        }
+        (answer, bytes)
+    }
+
+    fn block_judge(&mut self, block: &[u8], number: u64, before: u64) -> Answer {
+        self.listener.note(block);
+        let answer = self.right.block_judge(block, number, before);
+        match self.fault {
+            Fault::CountBeforeBlock2 if answer.passed() && number == 2 && before < 14 => Refused {
+                number: 14,
+                place: number,
+            },
+            Fault::ToldCountNotLookedAt => self.right.block_judge(block, number, 14),
+            Fault::LowBitsOfBlockNumber => {
+                let low = number & 0xffff_ffff;
+                match self.right.block_judge(block, low, before) {
+                    Passed => Passed,
+                    _ => answer,
+                }
+            }
+            Fault::Block65536 if number == 65_536 && block.len() == 512 => Refused {
+                number: 12,
+                place: number,
+            },
+            Fault::ZeroBytesOfBlock if answer.number() == 14 && block[31] != 0 => Passed,
+            _ => answer,
+        }
+    }
+
+    fn block_judge_record(&mut self, block: &[u8], number: u64, before: u64, place: u64) -> Answer {
+        if self.is(Fault::PlaceBeforeBlock) && place >= 14 {
+            return Refused {
+                number: 4,
+                place: number,
+            };
+        }
+        self.right.block_judge_record(block, number, before, place)
+    }
+
+    fn block_record(
+        &mut self,
+        block: &[u8],
+        number: u64,
+        before: u64,
+        place: u64,
+    ) -> (Answer, [usize; 2]) {
+        let place = match self.fault {
+            Fault::LowBitsOfPlace => place & 0xffff_ffff,
+            _ => place,
+        };
+        self.right.block_record(block, number, before, place)
+    }
+
+    fn block_count(&mut self, block: &[u8], number: u64, before: u64) -> (Answer, u64) {
+        let (answer, count) = self.right.block_count(block, number, before);
+        if self.is(Fault::CountBesideRefusal) && answer.number() == 14 {
+            return (answer, u64::from(block[5]));
+        }
+        (answer, count)
+    }
+
+    fn block_balances(
+        &mut self,
+        block: &[u8],
+        number: u64,
+        before: u64,
+    ) -> (Answer, (u64, Balances)) {
+        let (answer, handed) = self.right.block_balances(block, number, before);
+        if self.is(Fault::BalancesOfRecords) && answer.number() == 4 {
+            return (Passed, handed);
+        }
+        (answer, handed)
+    }
+
+    fn block_write(&mut self, output: &mut [u8], number: u64, kind: u8, items: &[u8]) -> Answer {
+        self.listener.note(output);
+        if self.is(Fault::LongOutput) && output.len() > 512 {
+            return self
+                .right
+                .block_write(&mut output[..512], number, kind, items);
+        }
+        let answer = self.right.block_write(output, number, kind, items);
+        if self.is(Fault::OutputTouched) && !answer.passed() {
+            if let Some(first) = output.first_mut() {
+                *first ^= 1;
+            }
+        }
+        if self.is(Fault::OutputTail) && !answer.passed() && output.len() > 512 {
+            output[512] = !output[512];
+        }
+        answer
+    }
+
+    fn sha256(&mut self, bytes: &[u8]) -> [u8; 32] {
+        let mut digest = self.right.sha256(bytes);
+        if self.is(Fault::Padding) && bytes.len() % 64 == 55 {
+            digest[31] ^= 1;
+        }
+        digest
+    }
+}
