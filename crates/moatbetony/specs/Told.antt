@@ -1,7 +1,7 @@
 -- What the library's exports hand back: answers as numbers and places, beside what a call hands out. Assumes nothing.
 use Prim.Native.Nat.{_*_, _+_, ℕ}
 use mathlib.Core.Bool.{cond}
-use mathlib.Core.List.{List, _++_, _∷_}
+use mathlib.Core.List.{List}
 use lib.ListN.{replicate}
 use Rattle.answers.specs.Answers.{answer, numberOf, placeOf, unlessRefused}
 use Rattle.answers.specs.declared.Answer.{Answer}
@@ -26,7 +26,6 @@ use Rattle.pair_figures.specs.declared.PairFigures.{PairFigures}
 use Rattle.pair_validator.specs.declared.PairValidator.{PairValidator}
 use Rattle.records.specs.declared.Reading.{Reading}
 use Rattle.records.specs.declared.Reading.the-variants.{Read, Unreadable}
-use Rattle.wire.specs.BigEndian.{bytesOf}
 
 -- ## Versions
 
@@ -92,17 +91,6 @@ recordTold Unreadable =
       amount = 0;
       verdict = 0;
     }
-
--- the 32 bytes with these fields, each in its place (document 01, "The record")
-unfoldable pub fieldBytes : ℕ → ℕ → ℕ → ℕ → ℕ → ℕ → ℕ → List ℕ
-fieldBytes kind ledger sender receiver number amount verdict =
-    kind
-    ∷ ledger
-    ∷ (bytesOf 2 sender
-    ++ (bytesOf 2 receiver
-    ++ (0 ∷ 0 ∷ (bytesOf 8 number
-    ++ (bytesOf 8 amount
-    ++ (verdict ∷ replicate 7 0))))))
 
 -- bytes that read as a record; 21 and zeros where they do not
 abbrev pub encodedTold : Reading → List ℕ → EncodedTold

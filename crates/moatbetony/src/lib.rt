@@ -1,7 +1,6 @@
 // The library that makers link from C, Rust and what can call C: each published call under the C calling convention. Nothing is judged
 // here. An enum does not cross, so that an answer goes as its number and its place. include/moatbetony.h declares all of it.
 ghost use Prim.Native.Nat.{_+_, _*_};
-ghost use mathlib.Core.Bool.{cond};
 ghost use mathlib.Core.Path.{_≡_};
 ghost use lib.ListN.{drop, length, take};
 ghost use Rattle.answers.specs.Answers.{answer, unlessRefused};
@@ -11,11 +10,12 @@ ghost use Rattle.home_validator.specs.State.{homeTablesOf, homeChecker, homeOpe
 ghost use Rattle.journal_reader.specs.Judged.{blockRefusal, recordRefusal, partOf, countOf, openingOf};
 ghost use Rattle.journal_writer.specs.Written.{writeRefusal, written};
 ghost use Rattle.moatbetony.specs.Told.{libraryVersion, stateVersion, told, pairTold, pairFiguresTold, homeTold};
-ghost use Rattle.moatbetony.specs.Told.{homeFiguresTold, balanceTold, recordTold, fieldBytes, encodedTold, partTold};
+ghost use Rattle.moatbetony.specs.Told.{homeFiguresTold, balanceTold, recordTold, encodedTold, partTold};
 ghost use Rattle.moatbetony.specs.Told.{countTold, balancesTold};
 ghost use Rattle.pair_figures.specs.Figures.{figuresOf, balanceOf};
 ghost use Rattle.pair_tables.specs.Tables.{accepts};
 ghost use Rattle.pair_validator.specs.State.{tablesOf, pairChecker, openedState, zeroState};
+ghost use Rattle.record_fields.specs.Fields.{fieldBytes};
 ghost use Rattle.records.specs.Records.{reading};
 ghost use Rattle.records.specs.declared.Reading.the-variants.{Read};
 ghost use Rattle.rules.specs.Calls.{call, one, list};
@@ -26,10 +26,10 @@ use answers::Answer;
 use home_validator::HomeValidator;
 use ledgers::Ledger;
 use pair_validator::PairValidator;
+use record_fields::field_bytes;
 use records::Reading;
 use records::Record;
-use wire::u16_bytes;
-use wire::u64_bytes;
+use records::verdict_byte;
 
 // ## Versions
 
@@ -117,10 +117,10 @@ pub extern "C" fn moatbetony_pair_check_record(state: PairValidator, bytes: &[u8
 {
     let o = state.check_record(bytes);
     let a = o.answer;
-    let after = o.state;
+    let pair_next = o.state;
     PairTold {
         answer: tell(a),
-        state: after,
+        state: pair_next,
     }
 }
 
@@ -132,10 +132,10 @@ pub extern "C" fn moatbetony_pair_check_list(state: PairValidator, bytes: &[u8])
 {
     let o = state.check_list(bytes);
     let a = o.answer;
-    let after = o.state;
+    let pair_last = o.state;
     PairTold {
         answer: tell(a),
-        state: after,
+        state: pair_last,
     }
 }
 
@@ -212,10 +212,10 @@ pub extern "C" fn moatbetony_home_check_record(state: HomeValidator, bytes: &[u8
 {
     let o = state.check_record(bytes);
     let a = o.answer;
-    let after = o.state;
+    let home_next = o.state;
     HomeTold {
         answer: tell(a),
-        state: after,
+        state: home_next,
     }
 }
 
@@ -227,10 +227,10 @@ pub extern "C" fn moatbetony_home_check_list(state: HomeValidator, bytes: &[u8])
 {
     let o = state.check_list(bytes);
     let a = o.answer;
-    let after = o.state;
+    let home_last = o.state;
     HomeTold {
         answer: tell(a),
-        state: after,
+        state: home_last,
     }
 }
 
@@ -283,12 +283,6 @@ pub struct EncodedTold {
     pub bytes: [u8; 32],
 }
 
-fn verdict_byte(verified: bool) -> u8
-    ensures { λ r. ⌜ r ≡ cond verified 1 0 ⌝ }
-{
-    if verified { 1 } else { 0 }
-}
-
 // The fields of a record that was read.
 fn tell_record(r: Record) -> RecordTold
     ensures { λ t. ⌜ t ≡ recordTold (Read r) ⌝ }
@@ -330,58 +324,6 @@ pub extern "C" fn moatbetony_record_read(bytes: &[u8]) -> RecordTold
         };
     };
     tell_record(r)
-}
-
-// The bytes with these fields, whether they read as a record or not.
-fn field_bytes(
-    kind: u8,
-    ledger: u8,
-    sender: u16,
-    receiver: u16,
-    number: u64,
-    amount: u64,
-    verdict: u8,
-) -> [u8; 32]
-    ensures { λ r. ⌜ r ≡ fieldBytes kind ledger sender receiver number amount verdict ⌝ }
-{
-    let s = u16_bytes(sender);
-    let r = u16_bytes(receiver);
-    let n = u64_bytes(number);
-    let a = u64_bytes(amount);
-    [
-        kind,
-        ledger,
-        s[0],
-        s[1],
-        r[0],
-        r[1],
-        0,
-        0,
-        n[0],
-        n[1],
-        n[2],
-        n[3],
-        n[4],
-        n[5],
-        n[6],
-        n[7],
-        a[0],
-        a[1],
-        a[2],
-        a[3],
-        a[4],
-        a[5],
-        a[6],
-        a[7],
-        verdict,
-        0,
-        0,
-        0,
-        0,
-        0,
-        0,
-        0,
-    ]
 }
 
 // The bytes of a record with these fields: 21 where they would not read.

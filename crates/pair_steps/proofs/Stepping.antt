@@ -13,12 +13,12 @@ use Rattle.number_index.specs.Index.{chainCount}
 use Rattle.pair_laws.proofs.Passing.{Sound, counts-fit, next-of, sound-accepts, sound-of}
 use Rattle.pair_steps.proofs.Figures.{FiguresMove, figures-move, movedFigures}
 use Rattle.pair_steps.specs.Steps.{Ready, figuresIn, lent}
-use Rattle.pair_validator.proofs.Opened.{supply-shared}
 use Rattle.pair_validator.proofs.Stepping.{Judged, bytes-judged, bytesRefusal, judged-passes, stored-after, stored-indexes}
 use Rattle.pair_validator.proofs.Stepping.{stored-is, stored-sound, storedState, writes-of}
 use Rattle.pair_validator.specs.State.{pairChecker, tablesOf, viewOfState}
 use Rattle.pair_validator.specs.declared.PairValidator.{PairValidator}
 use Rattle.records.specs.declared.Record.{Record}
+use Rattle.rules.proofs.PairAccepted.{accepts-facts}
 use Rattle.rules.specs.Calls.{callOne}
 use Rattle.rules.specs.PairValidator.{PairView}
 use Rattle.rules.specs.Lists.{total}
@@ -58,7 +58,7 @@ module _ (s : PairValidator) {f h n : List ℕ} (a : Ready s f h n) (b : List �
   figures-stored =
       let v = view-stored in
       let z = stored-sound s b r j l x q p in
-      let e = supply-shared (tablesOf (storedState s r l x)) z in
+      let e = accepts-facts capacity (viewOfState (storedState s r l x)) (z .accepted) .sums in
       let k = or-else-zero (judge (viewOfState s .pair) r) _ (judged-passes s b r j) .0 in
       let m = figures-move (viewOfState s .pair) r (s .supply) k (subst (sharesOut (s .supply)) v e) in
       subst (λ (w : PairView). FiguresMove (s .supply) f l (x .taken) (x .given) (figuresIn w)) (sym v) (rw (a .figures-are, p, q) m)

@@ -101,7 +101,8 @@ fn record_in(s: &[u8]) -> Record
     }
 }
 
-fn verdict_byte(verified: bool) -> u8
+// The byte of a verdict.
+pub fn verdict_byte(verified: bool) -> u8
     ensures { λ r. ⌜ r ≡ cond verified 1 0 ⌝ }
 {
     if verified { 1 } else { 0 }

@@ -1,11 +1,11 @@
--- `moatbetony::field_bytes` meets its contract. Assumes nothing.
+-- `record_fields::field_bytes` meets its contract. Assumes nothing.
 use mathlib.Core.List.{[], _∷_}
 use lib.ListN.{getD}
 use borrow.Author.Needs.{needs}
-use Rattle.moatbetony.specs.Told.{fieldBytes}
+use Rattle.record_fields.specs.Fields.{fieldBytes}
 use Rattle.wire.specs.BigEndian.{bytesOf}
-use Rattle.moatbetony.proofs.field_bytes.Statement.{statement}
-use Rattle.moatbetony.proofs.field_bytes.Tie as tie
+use Rattle.record_fields.proofs.field_bytes.Statement.{statement}
+use Rattle.record_fields.proofs.field_bytes.Tie as tie
 
 u16-bytes-requires : tie.Need-u16-bytes-requires
 u16-bytes-requires c κs = search needs

@@ -1,0 +1,149 @@
+//! The C calls with slices and references. The only module with `unsafe`.
+//!
+//! What holds of every call here. A slice lends its pointer and its length, so the library reads (for `out`: writes) within it, during
+//! the call alone; an empty slice's pointer is not followed. States and results cross by value and are plain integers, so any bits
+//! will do. The library takes every value, keeps nothing and has no global data.
+
+use crate::ffi;
+
+pub(crate) fn version() -> u32 {
+    // SAFETY: no argument.
+    unsafe { ffi::moatbetony_version() }
+}
+
+pub(crate) fn state_version() -> u32 {
+    // SAFETY: no argument.
+    unsafe { ffi::moatbetony_state_version() }
+}
+
+pub(crate) fn pair_open(homes: &[u64], fars: &[u64]) -> ffi::PairTold {
+    // SAFETY: both slices are lent with their lengths.
+    unsafe { ffi::moatbetony_pair_open(homes.as_ptr(), homes.len(), fars.as_ptr(), fars.len()) }
+}
+
+pub(crate) fn pair_check_record(state: &ffi::PairValidator, bytes: &[u8]) -> ffi::PairTold {
+    // SAFETY: the slice is lent with its length.
+    unsafe { ffi::moatbetony_pair_check_record(*state, bytes.as_ptr(), bytes.len()) }
+}
+
+pub(crate) fn pair_check_list(state: &ffi::PairValidator, bytes: &[u8]) -> ffi::PairTold {
+    // SAFETY: the slice is lent with its length.
+    unsafe { ffi::moatbetony_pair_check_list(*state, bytes.as_ptr(), bytes.len()) }
+}
+
+pub(crate) fn pair_figures(state: &ffi::PairValidator) -> ffi::PairFiguresTold {
+    // SAFETY: values alone.
+    unsafe { ffi::moatbetony_pair_figures(*state) }
+}
+
+pub(crate) fn pair_balance(state: &ffi::PairValidator, ledger: u8, account: u16) -> ffi::BalanceTold {
+    // SAFETY: values alone.
+    unsafe { ffi::moatbetony_pair_balance(*state, ledger, account) }
+}
+
+pub(crate) fn home_open(homes: &[u64], fars: usize, far_total: u64) -> ffi::HomeTold {
+    // SAFETY: the slice is lent with its length.
+    unsafe { ffi::moatbetony_home_open(homes.as_ptr(), homes.len(), fars, far_total) }
+}
+
+pub(crate) fn home_check_record(state: &ffi::HomeValidator, bytes: &[u8]) -> ffi::HomeTold {
+    // SAFETY: the slice is lent with its length.
+    unsafe { ffi::moatbetony_home_check_record(*state, bytes.as_ptr(), bytes.len()) }
+}
+
+pub(crate) fn home_check_list(state: &ffi::HomeValidator, bytes: &[u8]) -> ffi::HomeTold {
+    // SAFETY: the slice is lent with its length.
+    unsafe { ffi::moatbetony_home_check_list(*state, bytes.as_ptr(), bytes.len()) }
+}
+
+pub(crate) fn home_figures(state: &ffi::HomeValidator) -> ffi::HomeFiguresTold {
+    // SAFETY: values alone.
+    unsafe { ffi::moatbetony_home_figures(*state) }
+}
+
+pub(crate) fn home_balance(state: &ffi::HomeValidator, account: u16) -> ffi::BalanceTold {
+    // SAFETY: values alone.
+    unsafe { ffi::moatbetony_home_balance(*state, account) }
+}
+
+pub(crate) fn record_read(bytes: &[u8]) -> ffi::RecordTold {
+    // SAFETY: the slice is lent with its length.
+    unsafe { ffi::moatbetony_record_read(bytes.as_ptr(), bytes.len()) }
+}
+
+pub(crate) fn record_encode(
+    kind: u8,
+    ledger: u8,
+    sender: u16,
+    receiver: u16,
+    number: u64,
+    amount: u64,
+    verdict: u8,
+) -> ffi::EncodedTold {
+    // SAFETY: values alone.
+    unsafe { ffi::moatbetony_record_encode(kind, ledger, sender, receiver, number, amount, verdict) }
+}
+
+pub(crate) fn block_judge(block: &[u8], k: u64, before: u64) -> ffi::Told {
+    // SAFETY: the slice is lent with its length.
+    unsafe { ffi::moatbetony_block_judge(block.as_ptr(), block.len(), k, before) }
+}
+
+pub(crate) fn block_judge_record(block: &[u8], k: u64, before: u64, place: u64) -> ffi::Told {
+    // SAFETY: the slice is lent with its length.
+    unsafe { ffi::moatbetony_block_judge_record(block.as_ptr(), block.len(), k, before, place) }
+}
+
+pub(crate) fn block_record(block: &[u8], k: u64, before: u64, place: u64) -> ffi::PartTold {
+    // SAFETY: the slice is lent with its length.
+    unsafe { ffi::moatbetony_block_record(block.as_ptr(), block.len(), k, before, place) }
+}
+
+pub(crate) fn block_count(block: &[u8], k: u64, before: u64) -> ffi::CountTold {
+    // SAFETY: the slice is lent with its length.
+    unsafe { ffi::moatbetony_block_count(block.as_ptr(), block.len(), k, before) }
+}
+
+pub(crate) fn block_balances(block: &[u8], k: u64, before: u64) -> ffi::BalancesTold {
+    // SAFETY: the slice is lent with its length.
+    unsafe { ffi::moatbetony_block_balances(block.as_ptr(), block.len(), k, before) }
+}
+
+pub(crate) fn block_write(out: &mut [u8], k: u64, kind: u8, items: &[u8]) -> ffi::Told {
+    // SAFETY: both slices are lent with their lengths, the output for writing; being borrowed so, they do not overlap.
+    unsafe { ffi::moatbetony_block_write(out.as_mut_ptr(), out.len(), k, kind, items.as_ptr(), items.len()) }
+}
+
+pub(crate) fn sha256(message: &[u8]) -> ffi::DigestTold {
+    // SAFETY: the slice is lent with its length.
+    unsafe { ffi::moatbetony_sha256(message.as_ptr(), message.len()) }
+}
+
+/// A state: integers alone, in C's layout, with no padding, so that it is its bytes and every bytes of its length are one.
+///
+/// # Safety
+///
+/// Only for such types.
+pub(crate) unsafe trait Plain: Copy {}
+
+// SAFETY: repr(C) with integer fields alone; the sizes below are the sums of their fields.
+unsafe impl Plain for ffi::PairValidator {}
+// SAFETY: as above.
+unsafe impl Plain for ffi::HomeValidator {}
+const _: () = assert!(size_of::<ffi::PairValidator>() == 8 + 2 * 16 + 112 * 8 + 1024 * (8 + 8 + 2 + 2 + 1 + 1 + 1));
+const _: () = assert!(size_of::<ffi::HomeValidator>() == 5 * 8 + 56 * 8 + 512 * (8 + 8 + 2 + 2 + 1 + 1 + 1));
+
+/// The bytes of a state.
+pub(crate) fn bytes_of<T: Plain>(state: &T) -> &[u8] {
+    // SAFETY: the state is lent as long as the slice, and has no byte that is not a field's.
+    unsafe { std::slice::from_raw_parts(std::ptr::from_ref(state).cast(), size_of::<T>()) }
+}
+
+/// The state of these bytes, if they are as many as it has.
+pub(crate) fn from_bytes<T: Plain>(bytes: &[u8]) -> Option<Box<T>> {
+    if bytes.len() != size_of::<T>() {
+        return None;
+    }
+    // SAFETY: so many bytes can be read, which need not be aligned, and any of them are a state.
+    Some(Box::new(unsafe { bytes.as_ptr().cast::<T>().read_unaligned() }))
+}

@@ -1,0 +1,157 @@
+//! The library's C interface, as `include/moatbetony.h` has it. A slice crosses as pointer and length.
+
+#[repr(C)]
+#[derive(Clone, Copy)]
+pub(crate) struct Told {
+    pub(crate) number: u32,
+    pub(crate) place: u64,
+}
+
+#[repr(C)]
+#[derive(Clone, Copy)]
+pub(crate) struct PairValidator {
+    pub(crate) supply: u64,
+    pub(crate) accounts: [usize; 2],
+    pub(crate) counts: [usize; 2],
+    pub(crate) balances: [u64; 112],
+    pub(crate) numbers: [u64; 1024],
+    pub(crate) amounts: [u64; 1024],
+    pub(crate) senders: [u16; 1024],
+    pub(crate) receivers: [u16; 1024],
+    pub(crate) kinds: [u8; 1024],
+    pub(crate) ledgers: [u8; 1024],
+    pub(crate) verdicts: [u8; 1024],
+}
+
+#[repr(C)]
+#[derive(Clone, Copy)]
+pub(crate) struct HomeValidator {
+    pub(crate) supply: u64,
+    pub(crate) pool: u64,
+    pub(crate) homes: usize,
+    pub(crate) fars: usize,
+    pub(crate) count: usize,
+    pub(crate) balances: [u64; 56],
+    pub(crate) numbers: [u64; 512],
+    pub(crate) amounts: [u64; 512],
+    pub(crate) senders: [u16; 512],
+    pub(crate) receivers: [u16; 512],
+    pub(crate) kinds: [u8; 512],
+    pub(crate) ledgers: [u8; 512],
+    pub(crate) verdicts: [u8; 512],
+}
+
+#[repr(C)]
+pub(crate) struct PairTold {
+    pub(crate) answer: Told,
+    pub(crate) state: PairValidator,
+}
+
+#[repr(C)]
+pub(crate) struct PairFiguresTold {
+    pub(crate) answer: Told,
+    pub(crate) home: u64,
+    pub(crate) far: u64,
+    pub(crate) flight: u64,
+}
+
+#[repr(C)]
+pub(crate) struct HomeTold {
+    pub(crate) answer: Told,
+    pub(crate) state: HomeValidator,
+}
+
+#[repr(C)]
+pub(crate) struct HomeFiguresTold {
+    pub(crate) answer: Told,
+    pub(crate) home: u64,
+    pub(crate) pool: u64,
+}
+
+#[repr(C)]
+pub(crate) struct BalanceTold {
+    pub(crate) answer: Told,
+    pub(crate) balance: u64,
+}
+
+#[repr(C)]
+pub(crate) struct RecordTold {
+    pub(crate) answer: Told,
+    pub(crate) kind: u8,
+    pub(crate) ledger: u8,
+    pub(crate) sender: u16,
+    pub(crate) receiver: u16,
+    pub(crate) number: u64,
+    pub(crate) amount: u64,
+    pub(crate) verdict: u8,
+}
+
+#[repr(C)]
+pub(crate) struct EncodedTold {
+    pub(crate) answer: Told,
+    pub(crate) bytes: [u8; 32],
+}
+
+#[repr(C)]
+pub(crate) struct PartTold {
+    pub(crate) answer: Told,
+    pub(crate) start: usize,
+    pub(crate) length: usize,
+}
+
+#[repr(C)]
+pub(crate) struct CountTold {
+    pub(crate) answer: Told,
+    pub(crate) count: u64,
+}
+
+#[repr(C)]
+pub(crate) struct BalancesTold {
+    pub(crate) answer: Told,
+    pub(crate) count: u64,
+    pub(crate) balances: [u64; 56],
+}
+
+#[repr(C)]
+pub(crate) struct DigestTold {
+    pub(crate) bytes: [u8; 32],
+}
+
+extern "C" {
+    pub(crate) fn moatbetony_version() -> u32;
+    pub(crate) fn moatbetony_state_version() -> u32;
+    pub(crate) fn moatbetony_pair_open(homes: *const u64, homes_len: usize, fars: *const u64, fars_len: usize) -> PairTold;
+    pub(crate) fn moatbetony_pair_check_record(state: PairValidator, bytes: *const u8, bytes_len: usize) -> PairTold;
+    pub(crate) fn moatbetony_pair_check_list(state: PairValidator, bytes: *const u8, bytes_len: usize) -> PairTold;
+    pub(crate) fn moatbetony_pair_figures(state: PairValidator) -> PairFiguresTold;
+    pub(crate) fn moatbetony_pair_balance(state: PairValidator, ledger: u8, account: u16) -> BalanceTold;
+    pub(crate) fn moatbetony_home_open(homes: *const u64, homes_len: usize, fars: usize, far_total: u64) -> HomeTold;
+    pub(crate) fn moatbetony_home_check_record(state: HomeValidator, bytes: *const u8, bytes_len: usize) -> HomeTold;
+    pub(crate) fn moatbetony_home_check_list(state: HomeValidator, bytes: *const u8, bytes_len: usize) -> HomeTold;
+    pub(crate) fn moatbetony_home_figures(state: HomeValidator) -> HomeFiguresTold;
+    pub(crate) fn moatbetony_home_balance(state: HomeValidator, account: u16) -> BalanceTold;
+    pub(crate) fn moatbetony_record_read(bytes: *const u8, bytes_len: usize) -> RecordTold;
+    pub(crate) fn moatbetony_record_encode(
+        kind: u8,
+        ledger: u8,
+        sender: u16,
+        receiver: u16,
+        number: u64,
+        amount: u64,
+        verdict: u8,
+    ) -> EncodedTold;
+    pub(crate) fn moatbetony_block_judge(block: *const u8, block_len: usize, k: u64, before: u64) -> Told;
+    pub(crate) fn moatbetony_block_judge_record(block: *const u8, block_len: usize, k: u64, before: u64, place: u64) -> Told;
+    pub(crate) fn moatbetony_block_record(block: *const u8, block_len: usize, k: u64, before: u64, place: u64) -> PartTold;
+    pub(crate) fn moatbetony_block_count(block: *const u8, block_len: usize, k: u64, before: u64) -> CountTold;
+    pub(crate) fn moatbetony_block_balances(block: *const u8, block_len: usize, k: u64, before: u64) -> BalancesTold;
+    pub(crate) fn moatbetony_block_write(
+        out: *mut u8,
+        out_len: usize,
+        k: u64,
+        kind: u8,
+        items: *const u8,
+        items_len: usize,
+    ) -> Told;
+    pub(crate) fn moatbetony_sha256(message: *const u8, message_len: usize) -> DigestTold;
+}

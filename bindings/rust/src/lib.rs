@@ -1,0 +1,101 @@
+//! Moatbetony: a proved checker of two linked ledgers that trade one credit, a home ledger and a far ledger run by people nobody here
+//! has met. This crate is the safe Rust side of its C library.
+//!
+//! A desk that sees home alone opens a [`HomeValidator`], hands in each record of 32 bytes, and hands goods over on
+//! [`Answer::Passed`]:
+//!
+//! ```
+//! use moatbetony::{Answer, HomeValidator, Kind, Ledger, Record};
+//!
+//! // Home balances of two accounts; one far account, with 20.
+//! let mut desk = HomeValidator::open(&[100, 50], 1, 20)?;
+//!
+//! // A customer pays 30 from account 0 into the desk's account 1. The host has checked the signature.
+//! let payment = Record {
+//!     kind: Kind::Local, ledger: Ledger::Home, sender: 0, receiver: 1, number: 1, amount: 30, verified: true,
+//! };
+//! match desk.check_record(&payment.encode()?) {
+//!     Answer::Passed => println!("handed over"),
+//!     Answer::Refused { refusal, .. } => println!("not handed over: {refusal} ({})", refusal.number()),
+//! }
+//! assert_eq!(desk.balance(1)?, 80);
+//!
+//! // The same record once more is refused, and moves nothing.
+//! assert!(!desk.check_record(&payment.encode()?).is_passed());
+//! assert_eq!(desk.balance(1)?, 80);
+//! # Ok::<(), moatbetony::Refusal>(())
+//! ```
+//!
+//! A validator takes any bytes, always answers, and on a refusal is as it was. Its state can be stored and taken up again:
+//!
+//! ```
+//! use moatbetony::{sha256, HomeValidator, STATE_VERSION};
+//!
+//! let desk = HomeValidator::open(&[100, 50], 1, 20)?;
+//! let (version, stored, digest) = (STATE_VERSION, desk.as_bytes().to_vec(), sha256(desk.as_bytes()));
+//!
+//! // Only under the same layout, and only where the digest is the same.
+//! assert!(version == STATE_VERSION && sha256(&stored) == digest);
+//! let again = HomeValidator::from_bytes(&stored).expect("a state's length");
+//! assert_eq!(again, desk);
+//! # Ok::<(), moatbetony::Refusal>(())
+//! ```
+//!
+//! What is proved is the library's code, for every input. This crate, like every caller, is not covered by the proofs: it turns slices
+//! into pointers and lengths, and numbers into enums. A thread that calls needs 256 KB of stack for a [`PairValidator`] and 128 KB for a
+//! [`HomeValidator`]; Rust's own threads have 2 MB. Any number of threads may call at once, each with a validator of its own.
+//!
+//! The crate links `libmoatbetony.a` from the folder that `MOATBETONY_LIB_DIR` names at build time.
+
+#![deny(missing_docs)]
+#![deny(unsafe_code)]
+
+#[cfg(not(all(target_arch = "x86_64", target_os = "linux", target_pointer_width = "64")))]
+compile_error!("moatbetony is built for x86-64 Linux with 64-bit pointers");
+
+#[allow(unsafe_code)]
+mod calls;
+mod ffi;
+pub mod journal;
+mod record;
+mod refusal;
+mod validators;
+
+pub use record::{Kind, Ledger, Record};
+pub use refusal::{Answer, Refusal};
+pub use validators::{HomeFigures, HomeValidator, PairFigures, PairValidator};
+
+/// The library's version that this crate was written for: major * 10,000 + minor * 100 + patch.
+pub const VERSION: u32 = 100;
+/// The layout of the two states. Store it with a state, and take a state up only under its own.
+pub const STATE_VERSION: u32 = 1;
+/// The bytes of a record.
+pub const RECORD_SIZE: usize = 32;
+/// The most accounts of a ledger.
+pub const MAX_ACCOUNTS: usize = 56;
+/// The passed records that a validator holds of a ledger.
+pub const CAPACITY: usize = 512;
+/// The most credit that both ledgers hold, and the most that a record moves: 2^63-1.
+pub const MAX_SUPPLY: u64 = (1 << 63) - 1;
+
+/// The version of the library that is linked. Equal to [`VERSION`] if it and this crate belong together.
+#[must_use]
+pub fn version() -> u32 {
+    calls::version()
+}
+
+/// The linked library's layout of the two states.
+#[must_use]
+pub fn state_version() -> u32 {
+    calls::state_version()
+}
+
+/// The SHA-256 digest of a message (FIPS 180-4).
+///
+/// ```
+/// assert_eq!(moatbetony::sha256(b"abc")[..4], [0xba, 0x78, 0x16, 0xbf]);
+/// ```
+#[must_use]
+pub fn sha256(message: &[u8]) -> [u8; 32] {
+    calls::sha256(message).bytes
+}

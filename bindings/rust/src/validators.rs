@@ -1,0 +1,226 @@
+//! The two validators.
+
+use crate::refusal::{value, Answer, Refusal};
+use crate::{calls, ffi, Ledger};
+use std::fmt;
+
+/// The totals that a [`PairValidator`] gives. The three make the supply.
+#[derive(Clone, Copy, Debug, PartialEq, Eq, Hash)]
+pub struct PairFigures {
+    /// The balances of home.
+    pub home: u64,
+    /// The balances of far.
+    pub far: u64,
+    /// In flight: passed sendings whose arrival has not passed.
+    pub flight: u64,
+}
+
+/// The totals that a [`HomeValidator`] gives. The two make the supply.
+#[derive(Clone, Copy, Debug, PartialEq, Eq, Hash)]
+pub struct HomeFigures {
+    /// The balances of home.
+    pub home: u64,
+    /// The far pool (document 01: far due): the far opening total, plus what home has sent, less what has arrived.
+    pub pool: u64,
+}
+
+/// The checker that sees the records of both ledgers in one order (document 01: pair book).
+///
+/// ```
+/// use moatbetony::{Answer, Kind, Ledger, PairFigures, PairValidator, Record, Refusal};
+///
+/// let mut pair = PairValidator::open(&[100, 50], &[20])?;
+/// let sent = Record {
+///     kind: Kind::Sending, ledger: Ledger::Home, sender: 0, receiver: 0, number: 7, amount: 30, verified: true,
+/// };
+/// assert!(pair.check_record(&sent.encode()?).is_passed());
+/// assert_eq!(pair.figures()?, PairFigures { home: 120, far: 20, flight: 30 });
+///
+/// // An arrival of more than was sent has no matching sending.
+/// let more = Record { kind: Kind::Arrival, ledger: Ledger::Far, amount: 31, ..sent };
+/// assert_eq!(pair.check_record(&more.encode()?), Answer::Refused { refusal: Refusal::NoSending, place: 0 });
+/// # Ok::<(), Refusal>(())
+/// ```
+#[derive(Clone)]
+pub struct PairValidator {
+    state: Box<ffi::PairValidator>,
+}
+
+/// The checker that sees the home ledger's records alone (document 01: guard). However the far ledger is run, it never lets more arrive
+/// than the far opening total and what home has sent.
+///
+/// ```
+/// use moatbetony::{HomeFigures, HomeValidator, Kind, Ledger, Record, Refusal};
+///
+/// let mut home = HomeValidator::open(&[100, 50], 1, 20)?;
+/// let arrival = Record {
+///     kind: Kind::Arrival, ledger: Ledger::Home, sender: 0, receiver: 1, number: 9, amount: 21, verified: true,
+/// };
+/// assert_eq!(home.check_record(&arrival.encode()?).refusal(), Some(Refusal::AbovePool));
+/// let arrival = Record { amount: 20, ..arrival };
+/// assert!(home.check_record(&arrival.encode()?).is_passed());
+/// assert_eq!(home.figures()?, HomeFigures { home: 170, pool: 0 });
+/// assert_eq!(home.balance(1)?, 70);
+/// # Ok::<(), Refusal>(())
+/// ```
+#[derive(Clone)]
+pub struct HomeValidator {
+    state: Box<ffi::HomeValidator>,
+}
+
+// What both have: the calls with records, and the state as bytes.
+macro_rules! validator {
+    ($name:ident, $check_record:ident, $check_list:ident, $refusals:literal) => {
+        impl $name {
+            /// The bytes of a state.
+            pub const STATE_SIZE: usize = size_of::<ffi::$name>();
+
+            /// Checks one record, and moves its credit if it passes. A refusal alters nothing.
+            ///
+            #[doc = $refusals]
+            pub fn check_record(&mut self, record: &[u8]) -> Answer {
+                let told = calls::$check_record(&self.state, record);
+                *self.state = told.state;
+                Answer::of(told.answer)
+            }
+
+            /// Checks a list of records, 32 bytes each, all or none. The place of a refusal is the index of the first refused record,
+            /// and nothing of the list is kept. Bytes left over at the end are a record that is too short. An empty list passes.
+            ///
+            #[doc = $refusals]
+            pub fn check_list(&mut self, records: &[u8]) -> Answer {
+                let told = calls::$check_list(&self.state, records);
+                *self.state = told.state;
+                Answer::of(told.answer)
+            }
+
+            /// The state's bytes, to be stored. Store [`STATE_VERSION`](crate::STATE_VERSION) and a digest with them.
+            #[must_use]
+            pub fn as_bytes(&self) -> &[u8] {
+                calls::bytes_of(&*self.state)
+            }
+
+            /// Takes up stored bytes, whatever they hold; `None` if they are not [`STATE_SIZE`](Self::STATE_SIZE) long.
+            ///
+            /// Every call judges the state first and answers [`Refusal::State`] where its numbers do not fit together. What that does
+            /// not see, as two balances exchanged or an older state put back, is accepted: compare a digest before, and keep the latest
+            /// one where nobody else can write it.
+            #[must_use]
+            pub fn from_bytes(bytes: &[u8]) -> Option<Self> {
+                Some($name { state: calls::from_bytes(bytes)? })
+            }
+        }
+
+        /// Equal where all bytes of the states are.
+        impl PartialEq for $name {
+            fn eq(&self, other: &Self) -> bool {
+                self.as_bytes() == other.as_bytes()
+            }
+        }
+
+        impl Eq for $name {}
+    };
+}
+
+validator!(
+    PairValidator,
+    pair_check_record,
+    pair_check_list,
+    "Refusals, in order: 3, 21, 22, 23, 24, then 25 (local, sending) or 31 (arrival), then 41."
+);
+validator!(
+    HomeValidator,
+    home_check_record,
+    home_check_list,
+    "Refusals, in order: 3, 21, 33, 22, 23, 24, then 25 (local, sending) or 32 (arrival), then 41."
+);
+
+impl PairValidator {
+    /// Opens with the balances of each ledger, one for each account from 0.
+    ///
+    /// # Errors
+    ///
+    /// [`Refusal::AccountCount`], then [`Refusal::Supply`].
+    pub fn open(homes: &[u64], fars: &[u64]) -> Result<PairValidator, Refusal> {
+        let told = calls::pair_open(homes, fars);
+        value(told.answer, ())?;
+        Ok(PairValidator { state: Box::new(told.state) })
+    }
+
+    /// The totals of both ledgers, and what is in flight.
+    ///
+    /// # Errors
+    ///
+    /// [`Refusal::State`].
+    pub fn figures(&self) -> Result<PairFigures, Refusal> {
+        let told = calls::pair_figures(&self.state);
+        value(told.answer, PairFigures { home: told.home, far: told.far, flight: told.flight })
+    }
+
+    /// The balance of an account.
+    ///
+    /// # Errors
+    ///
+    /// [`Refusal::State`], then [`Refusal::Account`].
+    pub fn balance(&self, ledger: Ledger, account: u16) -> Result<u64, Refusal> {
+        let told = calls::pair_balance(&self.state, ledger.byte(), account);
+        value(told.answer, told.balance)
+    }
+}
+
+impl HomeValidator {
+    /// Opens with the home balances, one for each account from 0, the number of far accounts and their total.
+    ///
+    /// # Errors
+    ///
+    /// [`Refusal::AccountCount`], then [`Refusal::Supply`].
+    pub fn open(homes: &[u64], fars: usize, far_total: u64) -> Result<HomeValidator, Refusal> {
+        let told = calls::home_open(homes, fars, far_total);
+        value(told.answer, ())?;
+        Ok(HomeValidator { state: Box::new(told.state) })
+    }
+
+    /// The home total and the far pool.
+    ///
+    /// # Errors
+    ///
+    /// [`Refusal::State`].
+    pub fn figures(&self) -> Result<HomeFigures, Refusal> {
+        let told = calls::home_figures(&self.state);
+        value(told.answer, HomeFigures { home: told.home, pool: told.pool })
+    }
+
+    /// The balance of a home account.
+    ///
+    /// # Errors
+    ///
+    /// [`Refusal::State`], then [`Refusal::Account`].
+    pub fn balance(&self, account: u16) -> Result<u64, Refusal> {
+        let told = calls::home_balance(&self.state, account);
+        value(told.answer, told.balance)
+    }
+}
+
+/// The head of the state, without balances and records.
+impl fmt::Debug for PairValidator {
+    fn fmt(&self, f: &mut fmt::Formatter<'_>) -> fmt::Result {
+        f.debug_struct("PairValidator")
+            .field("supply", &self.state.supply)
+            .field("accounts", &self.state.accounts)
+            .field("counts", &self.state.counts)
+            .finish_non_exhaustive()
+    }
+}
+
+/// The head of the state, without balances and records.
+impl fmt::Debug for HomeValidator {
+    fn fmt(&self, f: &mut fmt::Formatter<'_>) -> fmt::Result {
+        f.debug_struct("HomeValidator")
+            .field("supply", &self.state.supply)
+            .field("pool", &self.state.pool)
+            .field("homes", &self.state.homes)
+            .field("fars", &self.state.fars)
+            .field("count", &self.state.count)
+            .finish_non_exhaustive()
+    }
+}

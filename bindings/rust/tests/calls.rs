@@ -1,0 +1,257 @@
+//! The crate's calls: the cases of document 01, states as bytes, journals.
+
+use moatbetony::journal::{self, BlockKind};
+use moatbetony::{
+    sha256, Answer, HomeFigures, HomeValidator, Kind, Ledger, PairFigures, PairValidator, Record, Refusal, MAX_SUPPLY,
+};
+
+fn record(kind: Kind, ledger: Ledger, sender: u16, receiver: u16, number: u64, amount: u64) -> [u8; 32] {
+    Record { kind, ledger, sender, receiver, number, amount, verified: true }.encode().expect("a record")
+}
+
+fn local(sender: u16, receiver: u16, number: u64, amount: u64) -> [u8; 32] {
+    record(Kind::Local, Ledger::Home, sender, receiver, number, amount)
+}
+
+fn refused(refusal: Refusal, place: u64) -> Answer {
+    Answer::Refused { refusal, place }
+}
+
+fn pair() -> PairValidator {
+    PairValidator::open(&[100, 50], &[20]).expect("an opening")
+}
+
+fn home() -> HomeValidator {
+    HomeValidator::open(&[100, 50], 1, 20).expect("an opening")
+}
+
+#[test]
+fn versions_agree() {
+    assert_eq!(moatbetony::version(), moatbetony::VERSION);
+    assert_eq!(moatbetony::state_version(), moatbetony::STATE_VERSION);
+    assert_eq!(PairValidator::STATE_SIZE, 24_488);
+    assert_eq!(HomeValidator::STATE_SIZE, 12_264);
+}
+
+#[test]
+fn refusals_have_their_numbers() {
+    let numbers: Vec<u32> = Refusal::ALL.iter().map(|refusal| refusal.number()).collect();
+    assert_eq!(numbers, [1, 2, 3, 4, 11, 12, 13, 14, 21, 22, 23, 24, 25, 31, 32, 33, 41]);
+    let error: Box<dyn std::error::Error> = Box::new(Refusal::AbovePool);
+    assert_eq!(error.to_string(), "arrival above the far pool");
+    assert_eq!(refused(Refusal::Balance, 3).to_string(), "refused with 25 at 3: balance too small");
+    assert_eq!(Answer::Passed.to_string(), "passed");
+    assert_eq!(refused(Refusal::Full, 0).into_result(), Err(Refusal::Full));
+}
+
+#[test]
+fn records_read_and_encode() {
+    for kind in [Kind::Local, Kind::Sending, Kind::Arrival] {
+        for ledger in [Ledger::Home, Ledger::Far] {
+            for verified in [false, true] {
+                let record =
+                    Record { kind, ledger, sender: 0x0102, receiver: 0x0304, number: u64::MAX - 1, amount: MAX_SUPPLY, verified };
+                let bytes = record.encode().expect("a record");
+                assert_eq!(Record::read(&bytes), Ok(record));
+                assert_eq!(bytes[..6], [kind.byte(), ledger.byte(), 1, 2, 3, 4]);
+                assert_eq!(Record::read(&bytes[..31]), Err(Refusal::RecordForm));
+            }
+        }
+    }
+    let record = Record { kind: Kind::Local, ledger: Ledger::Home, sender: 0, receiver: 0, number: 0, amount: 0, verified: true };
+    assert_eq!(record.encode(), Err(Refusal::RecordForm));
+    assert_eq!(Record { amount: MAX_SUPPLY + 1, ..record }.encode(), Err(Refusal::RecordForm));
+    assert_eq!(Record::read(&[]), Err(Refusal::RecordForm));
+    assert_eq!(Ledger::Home.counterpart(), Ledger::Far);
+}
+
+#[test]
+fn pair_validator_cases() {
+    let mut it = pair();
+    assert!(it.check_record(&record(Kind::Sending, Ledger::Home, 0, 0, 7, 30)).is_passed());
+    assert_eq!(it.figures(), Ok(PairFigures { home: 120, far: 20, flight: 30 }));
+    let more = record(Kind::Arrival, Ledger::Far, 0, 0, 7, 31);
+    assert_eq!(it.check_record(&more), refused(Refusal::NoSending, 0));
+    let arrival = record(Kind::Arrival, Ledger::Far, 0, 0, 7, 30);
+    assert!(it.check_record(&arrival).is_passed());
+    assert_eq!(it.figures(), Ok(PairFigures { home: 120, far: 50, flight: 0 }));
+    let before = it.clone();
+    assert_eq!(it.check_record(&arrival), refused(Refusal::NumberUsed, 0));
+    assert_eq!(it, before);
+    assert_eq!(it.balance(Ledger::Home, 0), Ok(70));
+    assert_eq!(it.balance(Ledger::Far, 0), Ok(50));
+    assert_eq!(it.balance(Ledger::Far, 1), Err(Refusal::Account));
+
+    let mut it = pair();
+    assert_eq!(it.check_record(&local(1, 0, 1, 51)), refused(Refusal::Balance, 0));
+    assert_eq!(it.check_record(&local(2, 0, 1, 1)), refused(Refusal::Account, 0));
+    assert_eq!(it.check_record(&local(0, 0, 1, MAX_SUPPLY)), refused(Refusal::Balance, 0));
+    assert_eq!(it, pair());
+    let list = [local(0, 1, 1, 100), local(1, 0, 2, 150), local(1, 0, 3, 1)].concat();
+    assert_eq!(it.check_list(&list), refused(Refusal::Balance, 2));
+    assert_eq!(it, pair());
+    assert_eq!(it.check_list(&list[..65]), refused(Refusal::RecordForm, 2));
+    assert_eq!(it, pair());
+    assert!(it.check_list(&list[..64]).is_passed());
+    assert_eq!(it.balance(Ledger::Home, 0), Ok(150));
+    assert!(it.check_list(&[]).is_passed());
+}
+
+#[test]
+fn openings() {
+    assert_eq!(PairValidator::open(&[1; 57], &[1]).err(), Some(Refusal::AccountCount));
+    assert_eq!(PairValidator::open(&[], &[1]).err(), Some(Refusal::AccountCount));
+    assert!(PairValidator::open(&[1; 56], &[1; 56]).is_ok());
+    assert!(PairValidator::open(&[MAX_SUPPLY], &[0]).is_ok());
+    assert_eq!(PairValidator::open(&[MAX_SUPPLY], &[1]).err(), Some(Refusal::Supply));
+    assert_eq!(HomeValidator::open(&[1], 57, 0).err(), Some(Refusal::AccountCount));
+    assert_eq!(HomeValidator::open(&[1], 1, MAX_SUPPLY).err(), Some(Refusal::Supply));
+}
+
+#[test]
+fn home_validator_cases() {
+    let arrival = |number, amount| record(Kind::Arrival, Ledger::Home, 0, 0, number, amount);
+    let mut it = home();
+    assert_eq!(it.check_record(&arrival(1, 21)), refused(Refusal::AbovePool, 0));
+    assert!(it.check_record(&arrival(1, 20)).is_passed());
+    let mut it = home();
+    assert!(it.check_record(&record(Kind::Sending, Ledger::Home, 0, 0, 1, 30)).is_passed());
+    assert_eq!(it.check_record(&arrival(2, 51)), refused(Refusal::AbovePool, 0));
+    assert_eq!(it.figures(), Ok(HomeFigures { home: 120, pool: 50 }));
+    assert!(it.check_record(&arrival(2, 50)).is_passed());
+    assert_eq!(it.figures(), Ok(HomeFigures { home: 170, pool: 0 }));
+    assert_eq!(it.balance(0), Ok(120));
+    assert_eq!(it.balance(2), Err(Refusal::Account));
+    let far = record(Kind::Local, Ledger::Far, 0, 0, 3, 1);
+    assert_eq!(it.check_list(&[local(0, 0, 3, 1), far].concat()), refused(Refusal::FarRecord, 1));
+}
+
+#[test]
+fn ledgers_fill_up() {
+    let mut it = home();
+    for number in 0..512 {
+        assert!(it.check_record(&local(0, 0, number, 1)).is_passed());
+    }
+    assert_eq!(it.check_record(&local(0, 0, 512, 1)), refused(Refusal::Full, 0));
+    assert_eq!(it.check_record(&local(0, 0, 511, 1)), refused(Refusal::NumberUsed, 0));
+}
+
+#[test]
+fn states_as_bytes() {
+    let mut it = home();
+    assert!(it.check_record(&local(0, 1, 1, 30)).is_passed());
+    assert_eq!(it.as_bytes().len(), HomeValidator::STATE_SIZE);
+    // Bytes need not be aligned.
+    let stored = [&[0], it.as_bytes()].concat();
+    assert_eq!(HomeValidator::from_bytes(&stored[1..]), Some(it.clone()));
+    assert!(HomeValidator::from_bytes(&stored).is_none());
+    assert!(HomeValidator::from_bytes(&[]).is_none());
+    assert!(PairValidator::from_bytes(it.as_bytes()).is_none());
+    assert!(PairValidator::from_bytes(pair().as_bytes()) == Some(pair()));
+
+    // A forged state is taken up, refused by every call, and stays as it is.
+    for bytes in [vec![0; HomeValidator::STATE_SIZE], vec![0xff; HomeValidator::STATE_SIZE]] {
+        let mut forged = HomeValidator::from_bytes(&bytes).expect("a state's length");
+        assert_eq!(forged.check_record(&local(0, 0, 9, 1)), refused(Refusal::State, 0));
+        assert_eq!(forged.check_list(&[]), refused(Refusal::State, 0));
+        assert_eq!(forged.figures(), Err(Refusal::State));
+        assert_eq!(forged.balance(0), Err(Refusal::State));
+        assert_eq!(forged.as_bytes(), bytes);
+    }
+    let mut forged = PairValidator::from_bytes(&[0xff; PairValidator::STATE_SIZE]).expect("a state's length");
+    assert_eq!(forged.check_record(&[]), refused(Refusal::State, 0));
+    assert_eq!(forged.check_list(&[]), refused(Refusal::State, 0));
+    assert_eq!(forged.figures(), Err(Refusal::State));
+    assert_eq!(forged.balance(Ledger::Far, 0), Err(Refusal::State));
+}
+
+#[test]
+fn states_print_short() {
+    assert_eq!(format!("{:?}", pair()), "PairValidator { supply: 170, accounts: [2, 1], counts: [0, 0], .. }");
+    assert_eq!(format!("{:?}", home()), "HomeValidator { supply: 170, pool: 20, homes: 2, fars: 1, count: 0, .. }");
+}
+
+#[test]
+fn threads_have_states_of_their_own() {
+    fn anywhere<T: Send + Sync + 'static>() {}
+    anywhere::<PairValidator>();
+    anywhere::<HomeValidator>();
+    let threads: Vec<_> = (0..8)
+        .map(|t| {
+            std::thread::spawn(move || {
+                let mut it = pair();
+                for number in 0..100 {
+                    assert!(it.check_record(&local(0, 1, number, 1)).is_passed());
+                    assert_eq!(it.check_record(&local(0, 1, number, 1 + t)), refused(Refusal::NumberUsed, 0));
+                }
+                it.figures()
+            })
+        })
+        .collect();
+    for thread in threads {
+        assert_eq!(thread.join().expect("a thread"), Ok(PairFigures { home: 150, far: 20, flight: 0 }));
+    }
+}
+
+// A call on a thread with so much stack, as the crate's front page says, at full tables. One that needs more ends the test by a signal.
+fn fits(stack: usize, calls: fn()) {
+    std::thread::Builder::new().stack_size(stack).spawn(calls).expect("a thread").join().expect("the calls pass");
+}
+
+#[test]
+fn calls_fit_their_stacks() {
+    fn list() -> Vec<u8> {
+        (0..512).flat_map(|number| local(0, 1, number << 16, 1)).collect()
+    }
+    fits(256 * 1024, || {
+        let mut it = PairValidator::open(&[1000; 56], &[0; 56]).expect("an opening");
+        let before = it.clone();
+        assert!(it.check_list(&list()).is_passed());
+        assert_eq!(it.check_record(&local(0, 1, 1, 1)), refused(Refusal::Full, 0));
+        assert_eq!(it.balance(Ledger::Home, 0), Ok(488));
+        assert!(it.figures().is_ok() && it != before && PairValidator::from_bytes(it.as_bytes()) == Some(it));
+    });
+    fits(128 * 1024, || {
+        let mut it = HomeValidator::open(&[1000; 56], 56, 0).expect("an opening");
+        let before = it.clone();
+        assert!(it.check_list(&list()).is_passed());
+        assert_eq!(it.check_record(&local(0, 1, 1, 1)), refused(Refusal::Full, 0));
+        assert_eq!(it.balance(0), Ok(488));
+        assert!(it.figures().is_ok() && it != before && HomeValidator::from_bytes(it.as_bytes()) == Some(it));
+    });
+}
+
+#[test]
+fn journal_blocks() {
+    let items: Vec<u8> = (0..14).flat_map(|n| local(0, 1, n, 1 + n)).collect();
+    let mut block = [0xee; journal::BLOCK_SIZE];
+    assert_eq!(journal::write_block(&mut block, 3, BlockKind::HomeBalances, &items), refused(Refusal::BlockRequest, 3));
+    assert_eq!(journal::write_block(&mut block[1..], 3, BlockKind::Records, &items), refused(Refusal::BlockRequest, 3));
+    assert_eq!(journal::write_block(&mut block, 3, BlockKind::Records, &[]), refused(Refusal::BlockRequest, 3));
+    assert_eq!(block, [0xee; journal::BLOCK_SIZE]);
+    assert!(journal::write_block(&mut block, 3, BlockKind::of(3), &items).is_passed());
+    assert_eq!(block[480..], sha256(&block[..480]));
+    assert!(journal::judge(&block, 3, 14).is_passed());
+    assert_eq!(journal::judge(&block, 3, 13), refused(Refusal::BlockForm, 3));
+    assert_eq!(journal::judge(&block, 4, 14), refused(Refusal::BlockNumber, 4));
+    assert_eq!(journal::judge(&[], 4, 14), refused(Refusal::BlockMissing, 4));
+    assert_eq!(journal::count(&block, 3, 14), Ok(14));
+    for place in 0..14 {
+        assert!(journal::judge_record(&block, 3, 14, place).is_passed());
+        let part = journal::record_part(&block, 3, 14, place).expect("a record");
+        assert_eq!(part, local(0, 1, place, 1 + place));
+        assert!(block.as_ptr_range().contains(&part.as_ptr()));
+    }
+    assert_eq!(journal::judge_record(&block, 3, 14, 14), refused(Refusal::BlockRequest, 3));
+    assert_eq!(journal::record_part(&block, 3, 14, 1 << 32), Err(Refusal::BlockRequest));
+    assert_eq!(journal::opening_balances(&block, 3, 14), Err(Refusal::BlockRequest));
+    block[100] ^= 1;
+    assert_eq!(journal::judge(&block, 3, 14), refused(Refusal::BlockCheck, 3));
+    assert_eq!(journal::record_part(&block, 3, 14, 0), Err(Refusal::BlockCheck));
+    assert_eq!(journal::count(&block, 3, 14), Err(Refusal::BlockCheck));
+
+    let balances: Vec<u8> = (1..=56u64).flat_map(u64::to_be_bytes).collect();
+    assert!(journal::write_block(&mut block, 1, BlockKind::FarBalances, &balances).is_passed());
+    assert_eq!(journal::opening_balances(&block, 1, 0), Ok((1..=56).collect()));
+    assert_eq!(journal::record_part(&block, 1, 0, 0), Err(Refusal::BlockRequest));
+}

@@ -1,0 +1,219 @@
+/* A paying desk that sees the home ledger alone. It takes records one by one, hands goods over on passed and says why not otherwise,
+   keeps its state in a file and takes it up again.
+
+       cc desk.c $(pkg-config --cflags --libs moatbetony) -o desk && ./desk STATE_FILE
+
+   The file has the layout's version in 4 bytes, the state, and the SHA-256 of both. What guards a stored state:
+   - The digest finds damage, and a change by anyone who cannot write the digest too.
+   - Refusal 3 finds a state whose numbers do not fit together, as one balance raised. It does not see two balances exchanged.
+   - Neither finds a forger who rewrites state and digest to fit, or who puts an older file back. Keep the latest digest where nobody
+     else can write it. */
+#define _POSIX_C_SOURCE 200809L
+#include <moatbetony.h>
+
+#include <stdio.h>
+#include <stdlib.h>
+#include <string.h>
+#include <unistd.h>
+
+enum { VERSION_SIZE = 4, STATE_SIZE = sizeof(moatbetony_home_t), SEALED_SIZE = VERSION_SIZE + STATE_SIZE };
+enum { FILE_SIZE = SEALED_SIZE + MOATBETONY_DIGEST_SIZE };
+
+static void must(int holds, const char *what)
+{
+    if (!holds) {
+        fprintf(stderr, "desk: %s\n", what);
+        exit(1);
+    }
+}
+
+/* ## The state's file */
+
+static void write_file(const char *path, const uint8_t *bytes)
+{
+    char *fresh = (char *)malloc(strlen(path) + 5);
+    FILE *file;
+    must(fresh != NULL, "no memory");
+    strcpy(fresh, path);
+    strcat(fresh, ".new");
+    file = fopen(fresh, "wb");
+    must(file != NULL && fwrite(bytes, 1, FILE_SIZE, file) == FILE_SIZE, "the state could not be written");
+    must(fflush(file) == 0 && fsync(fileno(file)) == 0 && fclose(file) == 0, "the state could not be written");
+    must(rename(fresh, path) == 0, "the state could not be put in its place"); /* the old one stays whole until then */
+    free(fresh);
+}
+
+static void read_file(const char *path, uint8_t *bytes)
+{
+    FILE *file = fopen(path, "rb");
+    must(file != NULL && fread(bytes, 1, FILE_SIZE, file) == FILE_SIZE && fgetc(file) == EOF, "the state could not be read");
+    fclose(file);
+}
+
+static void seal(uint8_t *bytes)
+{
+    moatbetony_digest_t digest = moatbetony_sha256(bytes, SEALED_SIZE);
+    memcpy(bytes + SEALED_SIZE, digest.bytes, MOATBETONY_DIGEST_SIZE);
+}
+
+static void store(const char *path, const moatbetony_home_t *state)
+{
+    static uint8_t bytes[FILE_SIZE];
+    uint32_t version = moatbetony_state_version();
+    int i;
+    for (i = 0; i < VERSION_SIZE; i++)
+        bytes[i] = (uint8_t)(version >> (24 - 8 * i));
+    memcpy(bytes + VERSION_SIZE, state, STATE_SIZE);
+    seal(bytes);
+    write_file(path, bytes);
+}
+
+/* Whether the stored state was taken up: its layout is the library's, and its digest agrees. */
+static int take_up(const char *path, moatbetony_home_t *state)
+{
+    static uint8_t bytes[FILE_SIZE];
+    moatbetony_digest_t digest;
+    uint32_t version = 0;
+    int i;
+    read_file(path, bytes);
+    for (i = 0; i < VERSION_SIZE; i++)
+        version = version << 8 | bytes[i];
+    digest = moatbetony_sha256(bytes, SEALED_SIZE);
+    if (version != moatbetony_state_version() || memcmp(digest.bytes, bytes + SEALED_SIZE, MOATBETONY_DIGEST_SIZE) != 0)
+        return 0;
+    memcpy(state, bytes + VERSION_SIZE, STATE_SIZE);
+    return 1;
+}
+
+static void raise_a_balance(moatbetony_home_t *state)
+{
+    state->balances[0] += 1000;
+}
+
+static void exchange_balances(moatbetony_home_t *state)
+{
+    uint64_t first = state->balances[0];
+    state->balances[0] = state->balances[1];
+    state->balances[1] = first;
+}
+
+/* ## The desk */
+
+static void print_figures(const char *label, const moatbetony_home_t *state)
+{
+    moatbetony_home_figures_t figures = moatbetony_home_figures(*state);
+    if (figures.answer.number == MOATBETONY_PASSED)
+        printf("%s: home %llu, far pool %llu\n", label, (unsigned long long)figures.home, (unsigned long long)figures.pool);
+    else
+        printf("%s: refused with %u, %s\n", label, (unsigned)figures.answer.number, moatbetony_refusal_text(figures.answer.number));
+}
+
+/* Takes a record as it came over the wire. The state is stored before goods are handed over, so that a desk that is started again
+   refuses the same record. */
+static void serve(const char *path, moatbetony_home_t *state, const char *label, const uint8_t *bytes, size_t length)
+{
+    moatbetony_answer_t answer = moatbetony_home_take(state, bytes, length);
+    if (answer.number != MOATBETONY_PASSED) {
+        printf("%s: refused with %u, %s\n", label, (unsigned)answer.number, moatbetony_refusal_text(answer.number));
+        return;
+    }
+    store(path, state);
+    printf("%s: passed, handed over\n", label);
+}
+
+/* A record that the far end encoded. */
+static const uint8_t *wire(
+    uint8_t kind, uint8_t ledger, uint16_t sender, uint16_t receiver, uint64_t number, uint64_t amount, uint8_t verdict)
+{
+    static moatbetony_encoded_t encoded;
+    encoded = moatbetony_record_encode(kind, ledger, sender, receiver, number, amount, verdict);
+    must(encoded.answer.number == MOATBETONY_PASSED, "not a record");
+    return encoded.bytes;
+}
+
+static void serve_customers(const char *path, moatbetony_home_t *state)
+{
+    enum { LOCAL = MOATBETONY_LOCAL, SENDING = MOATBETONY_SENDING, ARRIVAL = MOATBETONY_ARRIVAL };
+    enum { HOME = MOATBETONY_HOME, FAR_LEDGER = MOATBETONY_FAR };
+    uint8_t list[2 * MOATBETONY_RECORD_SIZE];
+    moatbetony_answer_t answer;
+
+    serve(path, state, "a payment of 30", wire(LOCAL, HOME, 0, 1, 1, 30, 1), 32);
+    serve(path, state, "the same record again", wire(LOCAL, HOME, 0, 1, 1, 30, 1), 32);
+    serve(path, state, "a payment of 500", wire(LOCAL, HOME, 0, 1, 2, 500, 1), 32);
+    serve(path, state, "a payment to account 9", wire(LOCAL, HOME, 0, 9, 2, 30, 1), 32);
+    serve(path, state, "a payment with a bad signature", wire(LOCAL, HOME, 0, 1, 2, 30, 0), 32);
+    serve(path, state, "a payment cut off after 31 bytes", wire(LOCAL, HOME, 0, 1, 2, 30, 1), 31);
+    serve(path, state, "a record of the far ledger", wire(LOCAL, FAR_LEDGER, 0, 0, 2, 30, 1), 32);
+    serve(path, state, "an arrival of 21, above the far pool of 20", wire(ARRIVAL, HOME, 0, 1, 2, 21, 1), 32);
+    serve(path, state, "a sending of 30", wire(SENDING, HOME, 1, 0, 3, 30, 1), 32);
+    serve(path, state, "an arrival of 50, now in the far pool", wire(ARRIVAL, HOME, 0, 1, 2, 50, 1), 32);
+    serve(path, state, "an arrival of 1 more", wire(ARRIVAL, HOME, 0, 1, 4, 1, 1), 32);
+
+    memcpy(list, wire(LOCAL, HOME, 0, 1, 5, 10, 1), 32);
+    memcpy(list + 32, wire(LOCAL, HOME, 0, 1, 6, 500, 1), 32);
+    answer = moatbetony_home_take_list(state, list, sizeof list);
+    printf("a list of 10 and 500: refused with %u at record %llu, nothing of it is kept\n", (unsigned)answer.number,
+        (unsigned long long)answer.place);
+}
+
+/* ## Somebody else's hand on the stored state */
+
+/* Stores a good state, alters it in its file, with a digest made anew or not, and lets the desk take it up and serve a customer. */
+static void tamper(const char *path, const moatbetony_home_t *good, const char *label, void (*change)(moatbetony_home_t *), int with_digest)
+{
+    static uint8_t bytes[FILE_SIZE];
+    static moatbetony_home_t state;
+    store(path, good);
+    read_file(path, bytes);
+    memcpy(&state, bytes + VERSION_SIZE, STATE_SIZE);
+    change(&state);
+    memcpy(bytes + VERSION_SIZE, &state, STATE_SIZE);
+    if (with_digest)
+        seal(bytes);
+    write_file(path, bytes);
+
+    if (take_up(path, &state))
+        serve(path, &state, label, wire(MOATBETONY_LOCAL, MOATBETONY_HOME, 0, 1, 9, 1, 1), 32);
+    else
+        printf("%s: the digest differs, not taken up\n", label);
+}
+
+int main(int argc, char **argv)
+{
+    static const uint64_t homes[] = {100, 50};
+    static moatbetony_home_t state;
+    static uint8_t first_file[FILE_SIZE];
+    moatbetony_home_outcome_t opened;
+    const char *path = argc == 2 ? argv[1] : NULL;
+    must(path != NULL, "usage: desk STATE_FILE");
+    must(moatbetony_version() == MOATBETONY_VERSION, "library and header do not belong together");
+
+    opened = moatbetony_home_open(homes, 2, 1, 20);
+    must(opened.answer.number == MOATBETONY_PASSED, "the opening was refused");
+    state = opened.state;
+    store(path, &state);
+    read_file(path, first_file);
+    print_figures("opened", &state);
+    serve_customers(path, &state);
+    print_figures("at closing time", &state);
+
+    memset(&state, 0, sizeof state);
+    must(take_up(path, &state), "the stored state was not taken up");
+    print_figures("the next day, taken up from the file", &state);
+    serve(path, &state, "yesterday's payment of 30 again", wire(MOATBETONY_LOCAL, MOATBETONY_HOME, 0, 1, 1, 30, 1), 32);
+
+    printf("a payment of 1, after somebody altered the file:\n");
+    tamper(path, &state, "a balance raised", raise_a_balance, 0);
+    tamper(path, &state, "a balance raised, and the digest made anew", raise_a_balance, 1);
+    tamper(path, &state, "two balances exchanged", exchange_balances, 0);
+    tamper(path, &state, "two balances exchanged, and the digest made anew", exchange_balances, 1);
+    write_file(path, first_file);
+    must(take_up(path, &state), "the first file was not taken up");
+    serve(path, &state, "the first file put back, and yesterday's payment of 30 again",
+        wire(MOATBETONY_LOCAL, MOATBETONY_HOME, 0, 1, 1, 30, 1), 32);
+    printf("refusal 3 does not see two balances exchanged, which the digest does.\n"
+           "neither sees who makes the digest anew or puts an older file back:\n"
+           "keep the latest digest where nobody else can write it.\n");
+    return 0;
+}

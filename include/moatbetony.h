@@ -1,0 +1,501 @@
+/*
+ * Moatbetony 0.1.0: a proved checker of two linked ledgers that trade one credit.
+ *
+ * A home ledger, and a far ledger run by people nobody here has met, hand in records of 32 bytes. The pair validator (pair book)
+ * sees the records of both in one order; the home validator (guard) sees those of home alone. Every call answers passed, or one
+ * refusal with its number and place. Hand goods over on passed and on nothing else:
+ *
+ *     moatbetony_home_outcome_t opened = moatbetony_home_open(balances, accounts, far_accounts, far_total);
+ *     moatbetony_home_t state = opened.state;                                       (after opened.answer was looked at)
+ *     moatbetony_answer_t answer = moatbetony_home_take(&state, record, 32);
+ *     if (answer.number == MOATBETONY_PASSED) ...
+ *     else puts(moatbetony_refusal_text(answer.number));
+ *
+ * ARGUMENTS   The state comes first, then bytes with their length, then numbers in the order of the record or block format. In the
+ *             writer the output comes first. A length counts items: bytes, or numbers of 64 bits.
+ * STATES      are plain numbers, passed and handed back by value. A call neither keeps nor alters the caller's copy: go on with
+ *             `outcome.state`, or use the helpers at the end, which store it back. A refused call hands the state back as it came, and
+ *             a refused write leaves the output as it came.
+ * STORING     A stored state may be damaged or forged: every call judges its state first (refusal 3). What 3 does not see, as two
+ *             balances exchanged or an older state put back, is accepted: keep the latest digest of a stored state where nobody else
+ *             can write it. Store a new state before goods are handed over on it. A state is stored with moatbetony_state_version,
+ *             and taken up under no other.
+ * ANY INPUT   is taken: damaged bytes, wrong lengths, forged states. Nothing needs to be checked before a call. What a caller owes is
+ *             what C asks of every buffer: so many items can be read there (written, for the output), 64-bit numbers stand aligned,
+ *             output and items do not overlap, and nobody writes to them during the call. NULL is allowed where the length is 0.
+ * THREADS     No global data, no allocation, no input or output, no locks: any number of threads may call at once. A state belongs to
+ *             one caller at a time; threads that share one keep a lock of their own around taking a record and storing the state.
+ * STACK       A call needs at most MOATBETONY_STACK_PAIR bytes with a pair state, MOATBETONY_STACK_HOME with a home state and
+ *             MOATBETONY_STACK_OTHER without one, its arguments and its result included. Measured, not proved. The library touches
+ *             its frames page by page, so that too small a stack ends at its guard page; -fstack-clash-protection does so for a caller's.
+ * SIZES       sizeof(moatbetony_pair_t) is 24,488 and sizeof(moatbetony_home_t) 12,264. Neither has padding, so that their bytes can
+ *             be stored, hashed and compared.
+ * PLATFORM    x86-64 Linux with the System V calling convention and glibc; little-endian, 64-bit size_t. C99 or later, C++11 or later.
+ *             The library needs memcpy and memset, and nothing else.
+ * REFUSALS    Numbers and their meanings never change: a number is never given to anything else. Later versions may add numbers, also
+ *             for a part of what an older one told. So take every number but 0 as a refusal, known or not (docs/REFUSALS.md).
+ * PROOFS      cover the library's functions, for every input. They do not cover this header, its inline helpers or the caller's code.
+ */
+#ifndef MOATBETONY_H
+#define MOATBETONY_H
+
+#if !defined(__x86_64__) || !defined(__LP64__) || !defined(__linux__)
+#error "moatbetony is built for x86-64 Linux with 64-bit pointers"
+#endif
+
+#include <stddef.h>
+#include <stdint.h>
+
+#ifdef __cplusplus
+extern "C" {
+#endif
+
+/* A result that is looked at by nobody is a mistake. */
+#if defined(__GNUC__)
+#define MOATBETONY_MUST_USE __attribute__((warn_unused_result))
+#else
+#define MOATBETONY_MUST_USE
+#endif
+
+/* ## Constants */
+
+#define MOATBETONY_VERSION_MAJOR 0
+#define MOATBETONY_VERSION_MINOR 1
+#define MOATBETONY_VERSION_PATCH 0
+#define MOATBETONY_VERSION_TEXT "0.1.0"
+/* This header's version, as moatbetony_version gives the library's: major * 10,000 + minor * 100 + patch. */
+#define MOATBETONY_VERSION (MOATBETONY_VERSION_MAJOR * 10000 + MOATBETONY_VERSION_MINOR * 100 + MOATBETONY_VERSION_PATCH)
+/* The layout of the two states. It is stored with a state, and a state is taken up only under its own. */
+#define MOATBETONY_STATE_VERSION 1
+
+#define MOATBETONY_RECORD_SIZE 32       /* bytes of a record */
+#define MOATBETONY_BLOCK_SIZE 512       /* bytes of a journal's block */
+#define MOATBETONY_HEADER_SIZE 32       /* bytes of a block before its items */
+#define MOATBETONY_BALANCE_SIZE 8       /* bytes of an opening balance in a block */
+#define MOATBETONY_DIGEST_SIZE 32       /* bytes of a SHA-256 digest */
+#define MOATBETONY_RECORDS_PER_BLOCK 14 /* the most records of a block */
+#define MOATBETONY_MAX_BLOCKS 65536     /* the most blocks of a journal */
+#define MOATBETONY_MAX_ACCOUNTS 56      /* the most accounts of a ledger, and opening balances of a block */
+#define MOATBETONY_CAPACITY 512         /* the passed records that a validator holds of a ledger */
+/* The most credit that both ledgers hold, and the most that a record moves: 2^63-1. */
+#define MOATBETONY_MAX_SUPPLY UINT64_C(9223372036854775807)
+
+/* The stack that a call needs, in bytes, arguments and result included (tests/stack.c). */
+#define MOATBETONY_STACK_PAIR 163840
+#define MOATBETONY_STACK_HOME 65536
+#define MOATBETONY_STACK_OTHER 4096
+
+/* The ledger that holds a record. */
+enum moatbetony_ledger {
+    MOATBETONY_HOME = 0,
+    MOATBETONY_FAR = 1
+};
+
+/* What a record does. A sending and its arrival on the other ledger share sender, receiver, number and amount. */
+enum moatbetony_kind {
+    MOATBETONY_LOCAL = 1,   /* both accounts on the record's ledger */
+    MOATBETONY_SENDING = 2, /* the sender's account on the record's ledger, the receiver's on the other */
+    MOATBETONY_ARRIVAL = 3  /* the receiver's account on the record's ledger, the sender's on the other */
+};
+
+/* What the host found of a record's signature. */
+enum moatbetony_verdict {
+    MOATBETONY_SIGNATURE_BAD = 0,
+    MOATBETONY_SIGNATURE_GOOD = 1
+};
+
+/* What a journal's block holds: block 0 home balances, block 1 far balances, all others records. */
+enum moatbetony_block_kind {
+    MOATBETONY_BLOCK_HOME_BALANCES = 1,
+    MOATBETONY_BLOCK_FAR_BALANCES = 2,
+    MOATBETONY_BLOCK_RECORDS = 3
+};
+
+/* An answer's number: passed, or the refusal (docs/REFUSALS.md). */
+enum moatbetony_refusal {
+    MOATBETONY_PASSED = 0,
+    /* caused by the maker who calls */
+    MOATBETONY_REFUSED_ACCOUNT_COUNT = 1,
+    MOATBETONY_REFUSED_SUPPLY = 2,
+    MOATBETONY_REFUSED_STATE = 3,
+    MOATBETONY_REFUSED_BLOCK_REQUEST = 4,
+    /* by the journal's keeper */
+    MOATBETONY_REFUSED_BLOCK_MISSING = 11,
+    MOATBETONY_REFUSED_BLOCK_CHECK = 12,
+    MOATBETONY_REFUSED_BLOCK_NUMBER = 13,
+    MOATBETONY_REFUSED_BLOCK_FORM = 14,
+    /* by the record's author */
+    MOATBETONY_REFUSED_RECORD_FORM = 21,
+    MOATBETONY_REFUSED_ACCOUNT = 22,
+    MOATBETONY_REFUSED_VERDICT = 23,
+    MOATBETONY_REFUSED_NUMBER_USED = 24,
+    MOATBETONY_REFUSED_BALANCE = 25,
+    /* by the far ledger */
+    MOATBETONY_REFUSED_NO_SENDING = 31,
+    MOATBETONY_REFUSED_ABOVE_POOL = 32,
+    /* by the maker who calls */
+    MOATBETONY_REFUSED_FAR_RECORD = 33,
+    /* by nobody: the size of the part */
+    MOATBETONY_REFUSED_FULL = 41
+};
+
+/* ## Types */
+
+/* The answer of a call. The place is the record's index in the list handed in, or the block number; 0 where neither applies, and
+   beside passed. As 0 is passed, do not set an answer to zeros before a call. */
+typedef struct moatbetony_answer {
+    uint32_t number; /* enum moatbetony_refusal */
+    uint64_t place;
+} moatbetony_answer_t;
+
+/* The pair validator's state. Of both ledgers home stands first: in `accounts` (their number) and `counts` (of held records), in the
+   balances (56 and 56), and in each column (512 entries and 512), of which a held record is one entry. Entries at or beyond the count
+   are not looked at. */
+typedef struct moatbetony_pair {
+    uint64_t supply; /* the credit of both ledgers at opening (document 01: stake) */
+    size_t accounts[2];
+    size_t counts[2];
+    uint64_t balances[112];
+    uint64_t numbers[1024];
+    uint64_t amounts[1024];
+    uint16_t senders[1024];
+    uint16_t receivers[1024];
+    uint8_t kinds[1024];
+    uint8_t ledgers[1024];
+    uint8_t verdicts[1024];
+} moatbetony_pair_t;
+
+/* The home validator's state. A held record is one entry of each column. Entries at or beyond the count are not looked at. */
+typedef struct moatbetony_home {
+    uint64_t supply; /* home balances and far total at opening (document 01: stake) */
+    uint64_t pool;   /* the far pool (far due): far total at opening, plus what home has sent, less what has arrived */
+    size_t homes;    /* the number of home accounts */
+    size_t fars;     /* the number of far accounts */
+    size_t count;    /* the number of held records */
+    uint64_t balances[56];
+    uint64_t numbers[512];
+    uint64_t amounts[512];
+    uint16_t senders[512];
+    uint16_t receivers[512];
+    uint8_t kinds[512];
+    uint8_t ledgers[512];
+    uint8_t verdicts[512];
+} moatbetony_home_t;
+
+/* An answer, and the state to go on with. */
+typedef struct moatbetony_pair_outcome {
+    moatbetony_answer_t answer;
+    moatbetony_pair_t state;
+} moatbetony_pair_outcome_t;
+
+/* The home balances, the far balances and what is in flight: passed sendings whose arrival has not passed. The three make the supply. */
+typedef struct moatbetony_pair_figures {
+    moatbetony_answer_t answer;
+    uint64_t home;
+    uint64_t far;
+    uint64_t flight;
+} moatbetony_pair_figures_t;
+
+/* An answer, and the state to go on with. */
+typedef struct moatbetony_home_outcome {
+    moatbetony_answer_t answer;
+    moatbetony_home_t state;
+} moatbetony_home_outcome_t;
+
+/* The home balances and the far pool. The two make the supply. */
+typedef struct moatbetony_home_figures {
+    moatbetony_answer_t answer;
+    uint64_t home;
+    uint64_t pool;
+} moatbetony_home_figures_t;
+
+/* An account's balance. */
+typedef struct moatbetony_balance {
+    moatbetony_answer_t answer;
+    uint64_t balance;
+} moatbetony_balance_t;
+
+/* A record's fields. */
+typedef struct moatbetony_record {
+    moatbetony_answer_t answer;
+    uint8_t kind;   /* enum moatbetony_kind */
+    uint8_t ledger; /* enum moatbetony_ledger */
+    uint16_t sender;
+    uint16_t receiver;
+    uint64_t number; /* of the transfer; all are usable, 0 too */
+    uint64_t amount;
+    uint8_t verdict; /* enum moatbetony_verdict */
+} moatbetony_record_t;
+
+/* A record's bytes. */
+typedef struct moatbetony_encoded {
+    moatbetony_answer_t answer;
+    uint8_t bytes[32];
+} moatbetony_encoded_t;
+
+/* Where a record stands in its block: `length` bytes from `start` on. */
+typedef struct moatbetony_part {
+    moatbetony_answer_t answer;
+    size_t start;
+    size_t length;
+} moatbetony_part_t;
+
+/* How many items a block holds: balances or records. */
+typedef struct moatbetony_count {
+    moatbetony_answer_t answer;
+    uint64_t count;
+} moatbetony_count_t;
+
+/* A block's opening balances, zeros after the first `count`. */
+typedef struct moatbetony_balances {
+    moatbetony_answer_t answer;
+    uint64_t count;
+    uint64_t balances[56];
+} moatbetony_balances_t;
+
+/* A SHA-256 digest. */
+typedef struct moatbetony_digest {
+    uint8_t bytes[32];
+} moatbetony_digest_t;
+
+/* ## Version */
+
+/* The library's version: major * 10,000 + minor * 100 + patch. Equal to MOATBETONY_VERSION if library and header belong together. */
+uint32_t moatbetony_version(void);
+
+/* The library's layout of the two states. Store it with a state, and take a state up only if it is the same. */
+uint32_t moatbetony_state_version(void);
+
+/* ## The pair validator
+   Refusals of a record, in order: 3, 21, 22, 23, 24, then 25 (local, sending) or 31 (arrival), then 41. */
+
+/* Opens with the balances of each ledger, one for each account from 0. Answers 1, 2, in this order, place 0; beside a refusal stands
+   the state of zeros, which every call refuses with 3. */
+MOATBETONY_MUST_USE moatbetony_pair_outcome_t moatbetony_pair_open(
+    const uint64_t *homes, size_t homes_len, const uint64_t *fars, size_t fars_len);
+
+/* Checks one record, and moves its credit if it passes. Other than 32 bytes is 21. Answers 3, 21 to 25, 31, 41, place 0; beside a
+   refusal stands the state as it came. */
+MOATBETONY_MUST_USE moatbetony_pair_outcome_t moatbetony_pair_check_record(
+    moatbetony_pair_t state, const uint8_t *bytes, size_t bytes_len);
+
+/* Checks a list of records, 32 bytes each, all or none. Bytes left over at the end are a record that is too short: 21. An empty list
+   passes. Answers 3 (place 0), 21 to 25, 31, 41 with the index of the first refused record; beside a refusal stands the state from
+   before the list. */
+MOATBETONY_MUST_USE moatbetony_pair_outcome_t moatbetony_pair_check_list(
+    moatbetony_pair_t state, const uint8_t *bytes, size_t bytes_len);
+
+/* The totals of both ledgers, and what is in flight. Answers 3, with zeros. */
+MOATBETONY_MUST_USE moatbetony_pair_figures_t moatbetony_pair_figures(moatbetony_pair_t state);
+
+/* The balance of an account of a ledger. Answers 3, then 22 where there is no such ledger or account, with balance 0. */
+MOATBETONY_MUST_USE moatbetony_balance_t moatbetony_pair_balance(moatbetony_pair_t state, uint8_t ledger, uint16_t account);
+
+/* ## The home validator
+   Refusals of a record, in order: 3, 21, 33, 22, 23, 24, then 25 (local, sending) or 32 (arrival), then 41. */
+
+/* Opens with the home balances, one for each account from 0, the number of far accounts and their total. Answers 1, 2, in this order,
+   place 0; beside a refusal stands the state of zeros, which every call refuses with 3. */
+MOATBETONY_MUST_USE moatbetony_home_outcome_t moatbetony_home_open(
+    const uint64_t *homes, size_t homes_len, size_t fars, uint64_t far_total);
+
+/* Checks one home record, and moves its credit if it passes. Other than 32 bytes is 21. Answers 3, 21 to 25, 32, 33, 41, place 0;
+   beside a refusal stands the state as it came. */
+MOATBETONY_MUST_USE moatbetony_home_outcome_t moatbetony_home_check_record(
+    moatbetony_home_t state, const uint8_t *bytes, size_t bytes_len);
+
+/* Checks a list of home records, 32 bytes each, all or none. Bytes left over at the end are a record that is too short: 21. An empty
+   list passes. Answers 3 (place 0), 21 to 25, 32, 33, 41 with the index of the first refused record; beside a refusal stands the state
+   from before the list. */
+MOATBETONY_MUST_USE moatbetony_home_outcome_t moatbetony_home_check_list(
+    moatbetony_home_t state, const uint8_t *bytes, size_t bytes_len);
+
+/* The home total and the far pool. Answers 3, with zeros. */
+MOATBETONY_MUST_USE moatbetony_home_figures_t moatbetony_home_figures(moatbetony_home_t state);
+
+/* The balance of a home account. Answers 3, then 22 where there is no such account, with balance 0. */
+MOATBETONY_MUST_USE moatbetony_balance_t moatbetony_home_balance(moatbetony_home_t state, uint16_t account);
+
+/* ## Records */
+
+/* Reads 32 bytes. Answers 21, with zeros. Whether accounts and number are in order is the validators' question. */
+MOATBETONY_MUST_USE moatbetony_record_t moatbetony_record_read(const uint8_t *bytes, size_t bytes_len);
+
+/* The 32 bytes of a record. Answers 21 where they would not read as a record, with zeros. */
+MOATBETONY_MUST_USE moatbetony_encoded_t moatbetony_record_encode(
+    uint8_t kind, uint8_t ledger, uint16_t sender, uint16_t receiver, uint64_t number, uint64_t amount, uint8_t verdict);
+
+/* ## The journal
+   Blocks of 512 bytes. k is the number of the block that is wanted, from 0. `before` is the count of items of the block before it; it
+   is not looked at for blocks 0 to 2. The place of every refusal is k. A missing block is one of length 0. */
+
+/* Judges a block. Answers 11, 12, 13, 14, in this order. It does not judge the records in it. */
+MOATBETONY_MUST_USE moatbetony_answer_t moatbetony_block_judge(const uint8_t *block, size_t block_len, uint64_t k, uint64_t before);
+
+/* Judges a block and the place, from 0, at which a record of it is wanted. Answers 11 to 14, then 4 where it has no record there. */
+MOATBETONY_MUST_USE moatbetony_answer_t moatbetony_block_judge_record(
+    const uint8_t *block, size_t block_len, uint64_t k, uint64_t before, uint64_t place);
+
+/* Where the record at a place stands in the block: nothing is copied. Answers as moatbetony_block_judge_record; beside a refusal start
+   and length are 0. */
+MOATBETONY_MUST_USE moatbetony_part_t moatbetony_block_record(
+    const uint8_t *block, size_t block_len, uint64_t k, uint64_t before, uint64_t place);
+
+/* How many items a block holds: `before` of the next one. Answers as moatbetony_block_judge; beside a refusal the count is 0. */
+MOATBETONY_MUST_USE moatbetony_count_t moatbetony_block_count(const uint8_t *block, size_t block_len, uint64_t k, uint64_t before);
+
+/* The opening balances in block 0 or 1. Answers 11 to 14, then 4 where k is 2 or more, with zeros. */
+MOATBETONY_MUST_USE moatbetony_balances_t moatbetony_block_balances(const uint8_t *block, size_t block_len, uint64_t k, uint64_t before);
+
+/* Writes block k of a kind into 512 bytes: 1 to 56 balances of 8 bytes, highest byte first, or 1 to 14 records of 32 bytes, which are
+   not judged. Answers 4; a refusal leaves the output as it came. */
+MOATBETONY_MUST_USE moatbetony_answer_t moatbetony_block_write(
+    uint8_t *out, size_t out_len, uint64_t k, uint8_t kind, const uint8_t *items, size_t items_len);
+
+/* ## Digest */
+
+/* The SHA-256 digest of a message (FIPS 180-4). */
+MOATBETONY_MUST_USE moatbetony_digest_t moatbetony_sha256(const uint8_t *message, size_t message_len);
+
+/* ## Helpers in C, outside the proofs
+   They check records against a state behind a pointer, which must not be NULL, and store the state that comes back. */
+
+/* One record: moatbetony_pair_check_record. */
+MOATBETONY_MUST_USE static inline moatbetony_answer_t moatbetony_pair_take(
+    moatbetony_pair_t *state, const uint8_t *bytes, size_t bytes_len)
+{
+    moatbetony_pair_outcome_t outcome = moatbetony_pair_check_record(*state, bytes, bytes_len);
+    *state = outcome.state;
+    return outcome.answer;
+}
+
+/* A list: moatbetony_pair_check_list. */
+MOATBETONY_MUST_USE static inline moatbetony_answer_t moatbetony_pair_take_list(
+    moatbetony_pair_t *state, const uint8_t *bytes, size_t bytes_len)
+{
+    moatbetony_pair_outcome_t outcome = moatbetony_pair_check_list(*state, bytes, bytes_len);
+    *state = outcome.state;
+    return outcome.answer;
+}
+
+/* One home record: moatbetony_home_check_record. */
+MOATBETONY_MUST_USE static inline moatbetony_answer_t moatbetony_home_take(
+    moatbetony_home_t *state, const uint8_t *bytes, size_t bytes_len)
+{
+    moatbetony_home_outcome_t outcome = moatbetony_home_check_record(*state, bytes, bytes_len);
+    *state = outcome.state;
+    return outcome.answer;
+}
+
+/* A home list: moatbetony_home_check_list. */
+MOATBETONY_MUST_USE static inline moatbetony_answer_t moatbetony_home_take_list(
+    moatbetony_home_t *state, const uint8_t *bytes, size_t bytes_len)
+{
+    moatbetony_home_outcome_t outcome = moatbetony_home_check_list(*state, bytes, bytes_len);
+    *state = outcome.state;
+    return outcome.answer;
+}
+
+/* A short text for an answer's number, never NULL. */
+static inline const char *moatbetony_refusal_text(uint32_t number)
+{
+    switch (number) {
+    case MOATBETONY_PASSED: return "passed";
+    case MOATBETONY_REFUSED_ACCOUNT_COUNT: return "account count outside 1 to 56";
+    case MOATBETONY_REFUSED_SUPPLY: return "opening balances above 2^63-1 in all";
+    case MOATBETONY_REFUSED_STATE: return "state damaged, altered or never opened";
+    case MOATBETONY_REFUSED_BLOCK_REQUEST: return "block cannot be written so, or has no such item";
+    case MOATBETONY_REFUSED_BLOCK_MISSING: return "block missing, not 512 bytes long or numbered above 65,535";
+    case MOATBETONY_REFUSED_BLOCK_CHECK: return "block differs from its check";
+    case MOATBETONY_REFUSED_BLOCK_NUMBER: return "block has another number";
+    case MOATBETONY_REFUSED_BLOCK_FORM: return "block with a wrong kind, count or zero byte, or after one that is not full";
+    case MOATBETONY_REFUSED_RECORD_FORM: return "not a record";
+    case MOATBETONY_REFUSED_ACCOUNT: return "account not open";
+    case MOATBETONY_REFUSED_VERDICT: return "bad signature";
+    case MOATBETONY_REFUSED_NUMBER_USED: return "number already used on this ledger";
+    case MOATBETONY_REFUSED_BALANCE: return "balance too small";
+    case MOATBETONY_REFUSED_NO_SENDING: return "arrival without a matching sending";
+    case MOATBETONY_REFUSED_ABOVE_POOL: return "arrival above the far pool";
+    case MOATBETONY_REFUSED_FAR_RECORD: return "far record handed to the home validator";
+    case MOATBETONY_REFUSED_FULL: return "ledger holds 512 passed records";
+    default: return "refused with a number that this header does not know";
+    }
+}
+
+/* ## Layout, checked where the language can */
+
+#if defined(__cplusplus) && __cplusplus >= 201103L
+#define MOATBETONY_ASSERT(condition) static_assert(condition, #condition)
+#elif defined(__STDC_VERSION__) && __STDC_VERSION__ >= 201112L
+#define MOATBETONY_ASSERT(condition) _Static_assert(condition, #condition)
+#endif
+#ifdef MOATBETONY_ASSERT
+MOATBETONY_ASSERT(__BYTE_ORDER__ == __ORDER_LITTLE_ENDIAN__);
+MOATBETONY_ASSERT(sizeof(size_t) == 8);
+MOATBETONY_ASSERT(sizeof(void *) == 8);
+MOATBETONY_ASSERT(sizeof(moatbetony_answer_t) == 16);
+MOATBETONY_ASSERT(offsetof(moatbetony_answer_t, place) == 8);
+MOATBETONY_ASSERT(sizeof(moatbetony_pair_t) == 24488);
+MOATBETONY_ASSERT(offsetof(moatbetony_pair_t, accounts) == 8);
+MOATBETONY_ASSERT(offsetof(moatbetony_pair_t, counts) == 24);
+MOATBETONY_ASSERT(offsetof(moatbetony_pair_t, balances) == 40);
+MOATBETONY_ASSERT(offsetof(moatbetony_pair_t, numbers) == 936);
+MOATBETONY_ASSERT(offsetof(moatbetony_pair_t, amounts) == 9128);
+MOATBETONY_ASSERT(offsetof(moatbetony_pair_t, senders) == 17320);
+MOATBETONY_ASSERT(offsetof(moatbetony_pair_t, receivers) == 19368);
+MOATBETONY_ASSERT(offsetof(moatbetony_pair_t, kinds) == 21416);
+MOATBETONY_ASSERT(offsetof(moatbetony_pair_t, ledgers) == 22440);
+MOATBETONY_ASSERT(offsetof(moatbetony_pair_t, verdicts) == 23464);
+MOATBETONY_ASSERT(sizeof(moatbetony_home_t) == 12264);
+MOATBETONY_ASSERT(offsetof(moatbetony_home_t, pool) == 8);
+MOATBETONY_ASSERT(offsetof(moatbetony_home_t, homes) == 16);
+MOATBETONY_ASSERT(offsetof(moatbetony_home_t, fars) == 24);
+MOATBETONY_ASSERT(offsetof(moatbetony_home_t, count) == 32);
+MOATBETONY_ASSERT(offsetof(moatbetony_home_t, balances) == 40);
+MOATBETONY_ASSERT(offsetof(moatbetony_home_t, numbers) == 488);
+MOATBETONY_ASSERT(offsetof(moatbetony_home_t, amounts) == 4584);
+MOATBETONY_ASSERT(offsetof(moatbetony_home_t, senders) == 8680);
+MOATBETONY_ASSERT(offsetof(moatbetony_home_t, receivers) == 9704);
+MOATBETONY_ASSERT(offsetof(moatbetony_home_t, kinds) == 10728);
+MOATBETONY_ASSERT(offsetof(moatbetony_home_t, ledgers) == 11240);
+MOATBETONY_ASSERT(offsetof(moatbetony_home_t, verdicts) == 11752);
+MOATBETONY_ASSERT(sizeof(moatbetony_pair_outcome_t) == 24504);
+MOATBETONY_ASSERT(offsetof(moatbetony_pair_outcome_t, state) == 16);
+MOATBETONY_ASSERT(sizeof(moatbetony_pair_figures_t) == 40);
+MOATBETONY_ASSERT(offsetof(moatbetony_pair_figures_t, home) == 16);
+MOATBETONY_ASSERT(offsetof(moatbetony_pair_figures_t, far) == 24);
+MOATBETONY_ASSERT(offsetof(moatbetony_pair_figures_t, flight) == 32);
+MOATBETONY_ASSERT(sizeof(moatbetony_home_outcome_t) == 12280);
+MOATBETONY_ASSERT(offsetof(moatbetony_home_outcome_t, state) == 16);
+MOATBETONY_ASSERT(sizeof(moatbetony_home_figures_t) == 32);
+MOATBETONY_ASSERT(offsetof(moatbetony_home_figures_t, home) == 16);
+MOATBETONY_ASSERT(offsetof(moatbetony_home_figures_t, pool) == 24);
+MOATBETONY_ASSERT(sizeof(moatbetony_balance_t) == 24);
+MOATBETONY_ASSERT(offsetof(moatbetony_balance_t, balance) == 16);
+MOATBETONY_ASSERT(sizeof(moatbetony_record_t) == 48);
+MOATBETONY_ASSERT(offsetof(moatbetony_record_t, kind) == 16);
+MOATBETONY_ASSERT(offsetof(moatbetony_record_t, ledger) == 17);
+MOATBETONY_ASSERT(offsetof(moatbetony_record_t, sender) == 18);
+MOATBETONY_ASSERT(offsetof(moatbetony_record_t, receiver) == 20);
+MOATBETONY_ASSERT(offsetof(moatbetony_record_t, number) == 24);
+MOATBETONY_ASSERT(offsetof(moatbetony_record_t, amount) == 32);
+MOATBETONY_ASSERT(offsetof(moatbetony_record_t, verdict) == 40);
+MOATBETONY_ASSERT(sizeof(moatbetony_encoded_t) == 48);
+MOATBETONY_ASSERT(offsetof(moatbetony_encoded_t, bytes) == 16);
+MOATBETONY_ASSERT(sizeof(moatbetony_part_t) == 32);
+MOATBETONY_ASSERT(offsetof(moatbetony_part_t, start) == 16);
+MOATBETONY_ASSERT(offsetof(moatbetony_part_t, length) == 24);
+MOATBETONY_ASSERT(sizeof(moatbetony_count_t) == 24);
+MOATBETONY_ASSERT(offsetof(moatbetony_count_t, count) == 16);
+MOATBETONY_ASSERT(sizeof(moatbetony_balances_t) == 472);
+MOATBETONY_ASSERT(offsetof(moatbetony_balances_t, count) == 16);
+MOATBETONY_ASSERT(offsetof(moatbetony_balances_t, balances) == 24);
+MOATBETONY_ASSERT(sizeof(moatbetony_digest_t) == 32);
+#undef MOATBETONY_ASSERT
+#endif
+
+#ifdef __cplusplus
+}
+#endif
+
+#endif

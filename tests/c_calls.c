@@ -1,0 +1,1101 @@
+/* Calls every export and helper of moatbetony.h with good and bad input: the cases of document 01 at this boundary, wrong lengths, NULL
+   with length 0, forged states, refused writes. Arguments are chosen so that a wrong width or order in the header shows. Records
+   and blocks are made here by hand, and not by the calls under test. The last line is 'N checks, 0 failed'. */
+#ifndef _GNU_SOURCE
+#define _GNU_SOURCE
+#endif
+#include <moatbetony.h>
+
+#include <stdio.h>
+#include <string.h>
+#include <sys/mman.h>
+
+static long checks, failed;
+
+static void check(int holds, const char *what, int line)
+{
+    checks++;
+    if (!holds) {
+        failed++;
+        printf("FAILED line %d: %s\n", line, what);
+    }
+}
+
+static void check_answer(moatbetony_answer_t a, uint32_t number, uint64_t place, int line)
+{
+    checks++;
+    if (a.number != number || a.place != place) {
+        failed++;
+        printf("FAILED line %d: wanted %u at %llu, got %u at %llu\n", line, (unsigned)number, (unsigned long long)place,
+            (unsigned)a.number, (unsigned long long)a.place);
+    }
+}
+
+#define CHECK(condition) check(condition, #condition, __LINE__)
+#define ANSWER(answer, number, place) check_answer(answer, number, place, __LINE__)
+#define SAME(a, b) check(memcmp(&(a), &(b), sizeof(a)) == 0, #a " as " #b, __LINE__)
+
+#define MAX MOATBETONY_MAX_SUPPLY
+#define WIDE (UINT64_C(1) << 32)
+
+/* ## Bytes by hand */
+
+typedef struct bytes32 {
+    uint8_t at[32];
+} bytes32;
+
+static void put(uint8_t *at, int size, uint64_t value)
+{
+    while (size-- > 0) {
+        at[size] = (uint8_t)value;
+        value >>= 8;
+    }
+}
+
+static bytes32 rec(int kind, int ledger, unsigned sender, unsigned receiver, uint64_t number, uint64_t amount, int verdict)
+{
+    bytes32 r;
+    memset(&r, 0, sizeof r);
+    r.at[0] = (uint8_t)kind;
+    r.at[1] = (uint8_t)ledger;
+    put(r.at + 2, 2, sender);
+    put(r.at + 4, 2, receiver);
+    put(r.at + 8, 8, number);
+    put(r.at + 16, 8, amount);
+    r.at[24] = (uint8_t)verdict;
+    return r;
+}
+
+static bytes32 with_byte(bytes32 r, int at, int value)
+{
+    r.at[at] = (uint8_t)value;
+    return r;
+}
+
+static bytes32 local(int ledger, unsigned sender, unsigned receiver, uint64_t number, uint64_t amount)
+{
+    return rec(MOATBETONY_LOCAL, ledger, sender, receiver, number, amount, 1);
+}
+
+static bytes32 sending(int ledger, unsigned sender, unsigned receiver, uint64_t number, uint64_t amount)
+{
+    return rec(MOATBETONY_SENDING, ledger, sender, receiver, number, amount, 1);
+}
+
+static bytes32 arrival(int ledger, unsigned sender, unsigned receiver, uint64_t number, uint64_t amount)
+{
+    return rec(MOATBETONY_ARRIVAL, ledger, sender, receiver, number, amount, 1);
+}
+
+static int all_zero(const void *start, size_t size)
+{
+    const uint8_t *byte = (const uint8_t *)start;
+    while (size > 0 && byte[size - 1] == 0)
+        size--;
+    return size == 0;
+}
+
+/* ## Version and texts */
+
+static void versions(void)
+{
+    static const uint32_t known[] = {0, 1, 2, 3, 4, 11, 12, 13, 14, 21, 22, 23, 24, 25, 31, 32, 33, 41};
+    size_t i, j;
+    CHECK(moatbetony_version() == MOATBETONY_VERSION);
+    CHECK(moatbetony_version() == 100);
+    CHECK(strcmp(MOATBETONY_VERSION_TEXT, "0.1.0") == 0);
+    CHECK(moatbetony_state_version() == MOATBETONY_STATE_VERSION);
+    for (i = 0; i < sizeof known / sizeof *known; i++) {
+        CHECK(strcmp(moatbetony_refusal_text(known[i]), moatbetony_refusal_text(99)) != 0);
+        for (j = 0; j < i; j++)
+            CHECK(strcmp(moatbetony_refusal_text(known[i]), moatbetony_refusal_text(known[j])) != 0);
+    }
+    CHECK(strcmp(moatbetony_refusal_text(0), "passed") == 0);
+    CHECK(strcmp(moatbetony_refusal_text(0xffffffff), moatbetony_refusal_text(5)) == 0);
+}
+
+/* ## Records */
+
+static void unread(bytes32 r, int line)
+{
+    moatbetony_record_t told = moatbetony_record_read(r.at, sizeof r.at);
+    check_answer(told.answer, 21, 0, line);
+    check(told.kind == 0 && told.ledger == 0 && told.sender == 0 && told.receiver == 0 && told.number == 0 && told.amount == 0 &&
+            told.verdict == 0, "zeros beside 21", line);
+}
+
+static void unencoded(moatbetony_encoded_t told, int line)
+{
+    check_answer(told.answer, 21, 0, line);
+    check(all_zero(told.bytes, sizeof told.bytes), "zeros beside 21", line);
+}
+
+static moatbetony_answer_t read_with(bytes32 r, int at, int value)
+{
+    r.at[at] = (uint8_t)value;
+    return moatbetony_record_read(r.at, sizeof r.at).answer;
+}
+
+static void records(void)
+{
+    bytes32 r = rec(2, 1, 0x0203, 0x0405, UINT64_C(0x060708090a0b0c0d), UINT64_C(0x0e0f101112131415), 1);
+    uint8_t longer[33];
+    int i;
+    moatbetony_encoded_t e =
+        moatbetony_record_encode(2, 1, 0x0203, 0x0405, UINT64_C(0x060708090a0b0c0d), UINT64_C(0x0e0f101112131415), 1);
+    moatbetony_record_t t = moatbetony_record_read(r.at, 32);
+    ANSWER(e.answer, 0, 0);
+    CHECK(memcmp(e.bytes, r.at, 32) == 0);
+    ANSWER(t.answer, 0, 0);
+    CHECK(t.kind == MOATBETONY_SENDING && t.ledger == MOATBETONY_FAR && t.sender == 0x0203 && t.receiver == 0x0405);
+    CHECK(t.number == UINT64_C(0x060708090a0b0c0d) && t.amount == UINT64_C(0x0e0f101112131415) && t.verdict == 1);
+
+    /* All values of the small fields, and the ends of the large ones. */
+    for (i = 0; i < 256; i++) {
+        int reads = i == 1 || i == 2 || i == 3;
+        ANSWER(read_with(r, 0, i), reads ? 0 : 21, 0);
+        ANSWER(moatbetony_record_encode((uint8_t)i, 0, 0, 0, 0, 1, 0).answer, reads ? 0 : 21, 0);
+        ANSWER(read_with(r, 1, i), i <= 1 ? 0 : 21, 0);
+        ANSWER(moatbetony_record_encode(1, (uint8_t)i, 0, 0, 0, 1, 0).answer, i <= 1 ? 0 : 21, 0);
+        ANSWER(read_with(r, 24, i), i <= 1 ? 0 : 21, 0);
+        ANSWER(moatbetony_record_encode(1, 0, 0, 0, 0, 1, (uint8_t)i).answer, i <= 1 ? 0 : 21, 0);
+    }
+    e = moatbetony_record_encode(3, 0, 0xffff, 0xfffe, UINT64_MAX, MAX, 0);
+    r = rec(3, 0, 0xffff, 0xfffe, UINT64_MAX, MAX, 0);
+    ANSWER(e.answer, 0, 0);
+    CHECK(memcmp(e.bytes, r.at, 32) == 0);
+    t = moatbetony_record_read(e.bytes, 32);
+    ANSWER(t.answer, 0, 0);
+    CHECK(t.kind == MOATBETONY_ARRIVAL && t.ledger == MOATBETONY_HOME && t.sender == 0xffff && t.receiver == 0xfffe);
+    CHECK(t.number == UINT64_MAX && t.amount == MAX && t.verdict == 0);
+
+    unencoded(moatbetony_record_encode(1, 0, 1, 2, 3, 0, 1), __LINE__);
+    unencoded(moatbetony_record_encode(1, 0, 1, 2, 3, MAX + 1, 1), __LINE__);
+    unencoded(moatbetony_record_encode(0, 0, 1, 2, 3, 4, 1), __LINE__);
+    unencoded(moatbetony_record_encode(1, 2, 1, 2, 3, 4, 1), __LINE__);
+    unencoded(moatbetony_record_encode(1, 0, 1, 2, 3, 4, 2), __LINE__);
+    unread(rec(1, 0, 1, 2, 3, 0, 1), __LINE__);
+    unread(rec(1, 0, 1, 2, 3, MAX + 1, 1), __LINE__);
+    for (i = 0; i < 32; i++)
+        if (i == 6 || i == 7 || i > 24)
+            unread(with_byte(r, i, 1), __LINE__);
+
+    memcpy(longer, r.at, 32);
+    longer[32] = 0;
+    ANSWER(moatbetony_record_read(longer, 33).answer, 21, 0);
+    ANSWER(moatbetony_record_read(longer, 31).answer, 21, 0);
+    ANSWER(moatbetony_record_read(longer, 0).answer, 21, 0);
+    ANSWER(moatbetony_record_read(NULL, 0).answer, 21, 0);
+}
+
+/* ## The pair validator */
+
+static const uint64_t HOMES[2] = {100, 50};
+static const uint64_t FARS[1] = {20};
+
+static moatbetony_pair_t pair_opened(void)
+{
+    moatbetony_pair_outcome_t o = moatbetony_pair_open(HOMES, 2, FARS, 1);
+    ANSWER(o.answer, 0, 0);
+    return o.state;
+}
+
+static void pair_figures_are(const moatbetony_pair_t *s, uint64_t home, uint64_t far, uint64_t flight, int line)
+{
+    moatbetony_pair_figures_t f = moatbetony_pair_figures(*s);
+    check_answer(f.answer, 0, 0, line);
+    check(f.home == home && f.far == far && f.flight == flight, "figures", line);
+}
+
+static void pair_balance_is(const moatbetony_pair_t *s, int ledger, unsigned account, uint64_t balance, int line)
+{
+    moatbetony_balance_t b = moatbetony_pair_balance(*s, (uint8_t)ledger, (uint16_t)account);
+    check_answer(b.answer, 0, 0, line);
+    check(b.balance == balance, "balance", line);
+}
+
+/* Hands a record in by all four ways, from the same state: each gives this answer, and the same state; a refusal the state as it was. */
+static void pair_one(moatbetony_pair_t *s, bytes32 r, uint32_t number, int line)
+{
+    moatbetony_pair_t before = *s, by_helper = *s, by_list_helper = *s;
+    moatbetony_pair_outcome_t one = moatbetony_pair_check_record(*s, r.at, 32);
+    moatbetony_pair_outcome_t list = moatbetony_pair_check_list(*s, r.at, 32);
+    check(memcmp(s, &before, sizeof before) == 0, "the caller's copy is not altered", line);
+    check_answer(one.answer, number, 0, line);
+    check_answer(list.answer, number, 0, line);
+    check(memcmp(&one.state, &list.state, sizeof before) == 0, "one and list agree", line);
+    if (number != 0)
+        check(memcmp(&one.state, &before, sizeof before) == 0, "refused: state as it came", line);
+    else
+        check(memcmp(&one.state, &before, sizeof before) != 0, "passed: state moves on", line);
+    check_answer(moatbetony_pair_take(&by_helper, r.at, 32), number, 0, line);
+    check_answer(moatbetony_pair_take_list(&by_list_helper, r.at, 32), number, 0, line);
+    check(memcmp(&by_helper, &one.state, sizeof before) == 0, "helper stores the state", line);
+    check(memcmp(&by_list_helper, &one.state, sizeof before) == 0, "list helper stores the state", line);
+    *s = one.state;
+}
+
+#define PAIR(s, record, number) pair_one(&(s), record, number, __LINE__)
+
+static void pair_openings(void)
+{
+    uint64_t many[57];
+    uint64_t large[2];
+    moatbetony_pair_outcome_t o;
+    size_t i;
+    for (i = 0; i < 57; i++)
+        many[i] = 1000 + i;
+
+    o = moatbetony_pair_open(many, 2, many + 10, 3);
+    ANSWER(o.answer, 0, 0);
+    CHECK(o.state.supply == 1000 + 1001 + 1010 + 1011 + 1012);
+    CHECK(o.state.accounts[0] == 2 && o.state.accounts[1] == 3 && o.state.counts[0] == 0 && o.state.counts[1] == 0);
+    CHECK(o.state.balances[0] == 1000 && o.state.balances[1] == 1001 && o.state.balances[2] == 0);
+    CHECK(o.state.balances[56] == 1010 && o.state.balances[58] == 1012 && o.state.balances[59] == 0);
+    CHECK(all_zero(o.state.numbers, sizeof o.state - offsetof(moatbetony_pair_t, numbers)));
+
+    /* Case 14, on both ledgers; nothing at all. */
+    ANSWER(moatbetony_pair_open(many, 56, many, 56).answer, 0, 0);
+    ANSWER(moatbetony_pair_open(many, 57, many, 56).answer, 1, 0);
+    ANSWER(moatbetony_pair_open(many, 56, many, 57).answer, 1, 0);
+    ANSWER(moatbetony_pair_open(NULL, 0, many, 1).answer, 1, 0);
+    ANSWER(moatbetony_pair_open(many, 1, NULL, 0).answer, 1, 0);
+    o = moatbetony_pair_open(NULL, 0, NULL, 0);
+    ANSWER(o.answer, 1, 0);
+    CHECK(all_zero(&o.state, sizeof o.state));
+    ANSWER(moatbetony_pair_figures(o.state).answer, 3, 0);
+
+    /* Case 12; sums that pass 64 bits; 1 before 2. */
+    large[0] = MAX;
+    large[1] = 0;
+    ANSWER(moatbetony_pair_open(large, 1, large + 1, 1).answer, 0, 0);
+    ANSWER(moatbetony_pair_open(large + 1, 1, large, 1).answer, 0, 0);
+    large[1] = 1;
+    o = moatbetony_pair_open(large, 1, large + 1, 1);
+    ANSWER(o.answer, 2, 0);
+    CHECK(all_zero(&o.state, sizeof o.state));
+    large[0] = UINT64_MAX;
+    ANSWER(moatbetony_pair_open(large, 1, large + 1, 1).answer, 2, 0);
+    ANSWER(moatbetony_pair_open(large + 1, 1, large, 2).answer, 2, 0);
+    ANSWER(moatbetony_pair_open(large, 2, NULL, 0).answer, 1, 0);
+}
+
+static void pair_cases(void)
+{
+    moatbetony_pair_t s = pair_opened(), after_1;
+
+    PAIR(s, sending(0, 0, 0, 7, 30), 0); /* case 1 */
+    pair_balance_is(&s, 0, 0, 70, __LINE__);
+    pair_balance_is(&s, 0, 1, 50, __LINE__);
+    pair_balance_is(&s, 1, 0, 20, __LINE__);
+    pair_figures_are(&s, 120, 20, 30, __LINE__);
+    after_1 = s;
+    PAIR(s, arrival(1, 0, 0, 7, 30), 0); /* case 2 */
+    pair_figures_are(&s, 120, 50, 0, __LINE__);
+    pair_balance_is(&s, 1, 0, 50, __LINE__);
+    PAIR(s, arrival(1, 0, 0, 7, 30), 24); /* case 3 */
+    PAIR(after_1, arrival(1, 0, 0, 7, 31), 31); /* case 4 */
+    PAIR(after_1, arrival(1, 1, 0, 7, 30), 31);
+    PAIR(after_1, arrival(1, 0, 0, 8, 30), 31);
+    PAIR(after_1, arrival(0, 0, 0, 9, 30), 31);
+
+    s = pair_opened(); /* case 5 */
+    PAIR(s, local(0, 1, 0, 1, 51), 25);
+    PAIR(s, local(0, 1, 0, 1, 50), 0);
+    pair_balance_is(&s, 0, 0, 150, __LINE__);
+    pair_balance_is(&s, 0, 1, 0, __LINE__);
+    s = pair_opened(); /* case 6 */
+    PAIR(s, local(0, 0, 0, 1, 101), 25);
+    PAIR(s, local(0, 0, 0, 1, 100), 0);
+    pair_balance_is(&s, 0, 0, 100, __LINE__);
+    s = pair_opened();
+    PAIR(s, local(0, 2, 0, 1, 1), 22); /* case 7 */
+    PAIR(s, local(0, 0, 2, 1, 1), 22);
+    PAIR(s, sending(0, 0, 1, 1, 1), 22);
+    PAIR(s, sending(0, 256, 0, 1, 1), 22);
+    PAIR(s, local(0, 0, 0, 1, 0), 21); /* case 8 */
+    PAIR(s, local(0, 0, 0, 1, MAX), 25);
+    PAIR(s, local(0, 0, 0, 1, MAX + 1), 21);
+    PAIR(s, local(0, 0, 0, 1, 1), 0);
+    PAIR(s, rec(1, 0, 0, 0, 1, 1, 0), 23); /* case 10 */
+    PAIR(s, rec(1, 0, 0, 0, 2, 1, 2), 21); /* case 11 */
+    PAIR(s, local(0, 0, 0, 1, 1), 24);
+    PAIR(s, local(1, 0, 0, 1, 1), 0); /* a number is used on its ledger only */
+    PAIR(s, local(0, 0, 1, 0, 1), 0); /* number 0 is a number */
+    PAIR(s, local(0, 0, 1, 0, 1), 24);
+}
+
+static void pair_columns(void)
+{
+    static const uint64_t homes[3] = {1000, 2000, 3000}, fars[4] = {10, 20, 30, 40};
+    moatbetony_pair_t s = moatbetony_pair_open(homes, 3, fars, 4).state;
+    PAIR(s, local(0, 0, 1, 0x1122334455667788, 1), 0);
+    PAIR(s, sending(0, 2, 3, UINT64_C(0xfedcba9876543210), 300), 0);
+    PAIR(s, arrival(1, 2, 3, UINT64_C(0xfedcba9876543210), 300), 0);
+    CHECK(s.counts[0] == 2 && s.counts[1] == 1 && s.accounts[0] == 3 && s.accounts[1] == 4 && s.supply == 6100);
+    CHECK(s.balances[0] == 999 && s.balances[1] == 2001 && s.balances[2] == 2700 && s.balances[59] == 340);
+    CHECK(s.numbers[0] == 0x1122334455667788 && s.amounts[0] == 1 && s.senders[0] == 0 && s.receivers[0] == 1);
+    CHECK(s.kinds[0] == 1 && s.ledgers[0] == 0 && s.verdicts[0] == 1);
+    CHECK(s.numbers[1] == UINT64_C(0xfedcba9876543210) && s.amounts[1] == 300 && s.senders[1] == 2 && s.receivers[1] == 3);
+    CHECK(s.kinds[1] == 2 && s.ledgers[1] == 0 && s.verdicts[1] == 1);
+    CHECK(s.numbers[512] == UINT64_C(0xfedcba9876543210) && s.amounts[512] == 300 && s.senders[512] == 2 && s.receivers[512] == 3);
+    CHECK(s.kinds[512] == 3 && s.ledgers[512] == 1 && s.verdicts[512] == 1);
+    CHECK(s.numbers[2] == 0 && s.numbers[513] == 0);
+    pair_figures_are(&s, 5700, 400, 0, __LINE__);
+    pair_balance_is(&s, 1, 2, 30, __LINE__);
+    pair_balance_is(&s, 0, 2, 2700, __LINE__);
+    ANSWER(moatbetony_pair_balance(s, 0, 3).answer, 22, 0);
+    ANSWER(moatbetony_pair_balance(s, 1, 3).answer, 0, 0);
+    ANSWER(moatbetony_pair_balance(s, 1, 4).answer, 22, 0);
+    ANSWER(moatbetony_pair_balance(s, 2, 0).answer, 22, 0);
+    ANSWER(moatbetony_pair_balance(s, 255, 0).answer, 22, 0);
+    ANSWER(moatbetony_pair_balance(s, 0, 256).answer, 22, 0);
+    ANSWER(moatbetony_pair_balance(s, 1, 65535).answer, 22, 0);
+    CHECK(moatbetony_pair_balance(s, 0, 3).balance == 0);
+}
+
+static void pair_lists(void)
+{
+    moatbetony_pair_t s = pair_opened(), before;
+    moatbetony_pair_outcome_t o;
+    uint8_t list[4 * 32 + 1];
+    bytes32 r[4];
+    size_t length;
+    r[0] = sending(0, 0, 0, 7, 30);
+    r[1] = arrival(1, 0, 0, 7, 30);
+    r[2] = sending(1, 0, 1, 8, 45);
+    r[3] = arrival(0, 0, 1, 8, 45);
+    memcpy(list, r, 128);
+    list[128] = 1;
+
+    before = s;
+    o = moatbetony_pair_check_list(s, NULL, 0);
+    ANSWER(o.answer, 0, 0);
+    SAME(o.state, before);
+    ANSWER(moatbetony_pair_take_list(&s, NULL, 0), 0, 0);
+    SAME(s, before);
+    for (length = 1; length <= 129; length++) {
+        uint32_t wanted = length % 32 == 0 ? 0 : 21;
+        o = moatbetony_pair_check_list(before, list, length);
+        ANSWER(o.answer, wanted, wanted == 0 ? 0 : length / 32);
+        if (wanted != 0)
+            SAME(o.state, before);
+    }
+    o = moatbetony_pair_check_list(before, list, 128);
+    pair_figures_are(&o.state, 165, 5, 0, __LINE__);
+    ANSWER(moatbetony_pair_take_list(&s, list, 128), 0, 0);
+    SAME(s, o.state);
+
+    /* A refusal in the middle keeps nothing of the list. */
+    r[2] = sending(1, 0, 1, 8, 51);
+    memcpy(list, r, 128);
+    s = before;
+    ANSWER(moatbetony_pair_take_list(&s, list, 128), 25, 2);
+    SAME(s, before);
+    ANSWER(moatbetony_pair_take_list(&s, list + 32, 96), 31, 0);
+    SAME(s, before);
+
+    /* One record is never cut out of more bytes. */
+    ANSWER(moatbetony_pair_take(&s, list, 64), 21, 0);
+    ANSWER(moatbetony_pair_take(&s, list, 31), 21, 0);
+    ANSWER(moatbetony_pair_take(&s, list, 0), 21, 0);
+    ANSWER(moatbetony_pair_take(&s, NULL, 0), 21, 0);
+    SAME(s, before);
+}
+
+/* Every call with a forged state answers 3, and hands it back as it came. */
+static void pair_forged(const moatbetony_pair_t *forged, int line)
+{
+    moatbetony_pair_t s = *forged;
+    bytes32 r = local(0, 0, 0, 99, 1);
+    moatbetony_pair_outcome_t o = moatbetony_pair_check_record(s, r.at, 32);
+    moatbetony_pair_figures_t f = moatbetony_pair_figures(s);
+    moatbetony_balance_t b = moatbetony_pair_balance(s, 0, 0);
+    check_answer(o.answer, 3, 0, line);
+    check(memcmp(&o.state, forged, sizeof s) == 0, "state as it came", line);
+    o = moatbetony_pair_check_record(s, NULL, 0);
+    check_answer(o.answer, 3, 0, line);
+    o = moatbetony_pair_check_list(s, r.at, 32);
+    check_answer(o.answer, 3, 0, line);
+    check(memcmp(&o.state, forged, sizeof s) == 0, "state as it came", line);
+    o = moatbetony_pair_check_list(s, NULL, 0);
+    check_answer(o.answer, 3, 0, line);
+    check_answer(f.answer, 3, 0, line);
+    check(f.home == 0 && f.far == 0 && f.flight == 0, "zeros beside 3", line);
+    check_answer(b.answer, 3, 0, line);
+    check(b.balance == 0, "zero beside 3", line);
+    check_answer(moatbetony_pair_balance(s, 9, 0).answer, 3, 0, line);
+    check_answer(moatbetony_pair_take(&s, r.at, 32), 3, 0, line);
+    check_answer(moatbetony_pair_take_list(&s, r.at, 32), 3, 0, line);
+    check(memcmp(&s, forged, sizeof s) == 0, "state as it came", line);
+}
+
+#define PAIR_FORGED(change)            \
+    do {                               \
+        moatbetony_pair_t f = good;    \
+        change;                        \
+        pair_forged(&f, __LINE__);     \
+    } while (0)
+
+static void pair_states(void)
+{
+    moatbetony_pair_t good = pair_opened(), odd;
+    PAIR(good, sending(0, 0, 0, 7, 30), 0);
+    PAIR(good, local(0, 0, 1, 8, 5), 0);
+    PAIR(good, arrival(1, 0, 0, 7, 30), 0);
+    PAIR(good, sending(1, 0, 1, 9, 2), 0);
+
+    PAIR_FORGED(memset(&f, 0, sizeof f));
+    PAIR_FORGED(memset(&f, 0xff, sizeof f));
+    PAIR_FORGED(f.accounts[0] = 0);
+    PAIR_FORGED(f.accounts[0] = 57);
+    PAIR_FORGED(f.accounts[1] = 0);
+    PAIR_FORGED(f.accounts[1] = 57);
+    PAIR_FORGED(f.accounts[1] += WIDE);
+    PAIR_FORGED(f.counts[0] = 513);
+    PAIR_FORGED(f.counts[1] = 513);
+    PAIR_FORGED(f.counts[0] += WIDE);
+    PAIR_FORGED(f.counts[1] = SIZE_MAX);
+    PAIR_FORGED(f.counts[1] = 1);
+    PAIR_FORGED(f.counts[0] = 3);
+    PAIR_FORGED(f.supply = MAX + 1);
+    PAIR_FORGED(f.supply += 1);
+    PAIR_FORGED(f.supply += WIDE);
+    PAIR_FORGED(f.balances[0] += 1);
+    PAIR_FORGED(f.balances[56] += WIDE);
+    PAIR_FORGED((f.balances[0] = UINT64_MAX, f.balances[1] += 1 + good.balances[0]));
+    PAIR_FORGED((f.balances[0] -= 1, f.balances[2] = 1));
+    PAIR_FORGED((f.balances[56] -= 1, f.balances[111] = 1));
+    PAIR_FORGED(f.kinds[0] = 0);
+    PAIR_FORGED(f.kinds[1] = 4);
+    PAIR_FORGED(f.kinds[513] = 3);
+    PAIR_FORGED(f.ledgers[0] = 1);
+    PAIR_FORGED(f.ledgers[512] = 0);
+    PAIR_FORGED(f.ledgers[1] = 2);
+    PAIR_FORGED(f.verdicts[0] = 0);
+    PAIR_FORGED(f.verdicts[513] = 2);
+    PAIR_FORGED(f.senders[0] = 2);
+    PAIR_FORGED(f.receivers[0] = 1);
+    PAIR_FORGED(f.senders[512] = 256);
+    PAIR_FORGED(f.receivers[513] = 2);
+    PAIR_FORGED(f.senders[512] = 1);
+    PAIR_FORGED(f.amounts[512] = 31);
+    PAIR_FORGED(f.amounts[1] = 0);
+    PAIR_FORGED(f.amounts[1] = MAX + 1);
+    PAIR_FORGED(f.numbers[1] = 7);
+    PAIR_FORGED(f.numbers[512] = 6);
+    PAIR_FORGED(f.numbers[0] = 6);
+    PAIR_FORGED(f.numbers[513] = 7);
+
+    /* What 3 does not see: balances exchanged; entries beyond the count, which come back as they came. */
+    odd = good;
+    odd.balances[0] = good.balances[1];
+    odd.balances[1] = good.balances[0];
+    pair_figures_are(&odd, 120, 48, 2, __LINE__);
+    memset(odd.numbers + 2, 0xaa, 510 * 8);
+    memset(odd.kinds + 514, 0xaa, 510);
+    memset(odd.verdicts + 2, 0xaa, 510);
+    PAIR(odd, local(0, 0, 1, 10, 1), 0);
+    CHECK(odd.counts[0] == 3 && odd.numbers[2] == 10 && odd.verdicts[2] == 1);
+    CHECK(odd.numbers[3] == UINT64_C(0xaaaaaaaaaaaaaaaa) && odd.kinds[514] == 0xaa && odd.verdicts[3] == 0xaa);
+}
+
+/* Case 13, on both ledgers. */
+static void pair_full(void)
+{
+    moatbetony_pair_t s = pair_opened();
+    uint64_t i;
+    int l;
+    for (l = 0; l < 2; l++) {
+        for (i = 0; i < 512; i++) {
+            bytes32 r = local(l, 0, 0, 1000 + i, 1);
+            ANSWER(moatbetony_pair_take(&s, r.at, 32), 0, 0);
+        }
+        CHECK(s.counts[l] == 512);
+        PAIR(s, local(l, 0, 0, 1000 + 512, 1), 41);
+        PAIR(s, local(l, 0, 0, 1000 + 511, 1), 24);
+        PAIR(s, local(l, 0, 0, 1000 + 512, 101), 25);
+    }
+    PAIR(s, arrival(0, 0, 0, 5000, 1), 31);
+    pair_figures_are(&s, 150, 20, 0, __LINE__);
+}
+
+/* ## The home validator */
+
+static moatbetony_home_t home_opened(void)
+{
+    moatbetony_home_outcome_t o = moatbetony_home_open(HOMES, 2, 1, 20);
+    ANSWER(o.answer, 0, 0);
+    return o.state;
+}
+
+static void home_figures_are(const moatbetony_home_t *s, uint64_t home, uint64_t pool, int line)
+{
+    moatbetony_home_figures_t f = moatbetony_home_figures(*s);
+    check_answer(f.answer, 0, 0, line);
+    check(f.home == home && f.pool == pool, "figures", line);
+}
+
+static void home_balance_is(const moatbetony_home_t *s, unsigned account, uint64_t balance, int line)
+{
+    moatbetony_balance_t b = moatbetony_home_balance(*s, (uint16_t)account);
+    check_answer(b.answer, 0, 0, line);
+    check(b.balance == balance, "balance", line);
+}
+
+/* As pair_one. */
+static void home_one(moatbetony_home_t *s, bytes32 r, uint32_t number, int line)
+{
+    moatbetony_home_t before = *s, by_helper = *s, by_list_helper = *s;
+    moatbetony_home_outcome_t one = moatbetony_home_check_record(*s, r.at, 32);
+    moatbetony_home_outcome_t list = moatbetony_home_check_list(*s, r.at, 32);
+    check(memcmp(s, &before, sizeof before) == 0, "the caller's copy is not altered", line);
+    check_answer(one.answer, number, 0, line);
+    check_answer(list.answer, number, 0, line);
+    check(memcmp(&one.state, &list.state, sizeof before) == 0, "one and list agree", line);
+    if (number != 0)
+        check(memcmp(&one.state, &before, sizeof before) == 0, "refused: state as it came", line);
+    else
+        check(memcmp(&one.state, &before, sizeof before) != 0, "passed: state moves on", line);
+    check_answer(moatbetony_home_take(&by_helper, r.at, 32), number, 0, line);
+    check_answer(moatbetony_home_take_list(&by_list_helper, r.at, 32), number, 0, line);
+    check(memcmp(&by_helper, &one.state, sizeof before) == 0, "helper stores the state", line);
+    check(memcmp(&by_list_helper, &one.state, sizeof before) == 0, "list helper stores the state", line);
+    *s = one.state;
+}
+
+#define HOME(s, record, number) home_one(&(s), record, number, __LINE__)
+
+static void home_openings(void)
+{
+    uint64_t many[57], zero = 0;
+    moatbetony_home_outcome_t o;
+    size_t i;
+    for (i = 0; i < 57; i++)
+        many[i] = 1000 + i;
+    o = moatbetony_home_open(many, 2, 3, WIDE + 4);
+    ANSWER(o.answer, 0, 0);
+    CHECK(o.state.supply == WIDE + 2005 && o.state.pool == WIDE + 4 && o.state.homes == 2 && o.state.fars == 3 && o.state.count == 0);
+    CHECK(o.state.balances[0] == 1000 && o.state.balances[1] == 1001);
+    CHECK(all_zero(o.state.balances + 2, sizeof o.state - offsetof(moatbetony_home_t, balances) - 16));
+
+    ANSWER(moatbetony_home_open(many, 56, 56, 0).answer, 0, 0);
+    ANSWER(moatbetony_home_open(many, 57, 56, 0).answer, 1, 0);
+    ANSWER(moatbetony_home_open(many, 56, 57, 0).answer, 1, 0);
+    ANSWER(moatbetony_home_open(many, 56, 0, 0).answer, 1, 0);
+    ANSWER(moatbetony_home_open(many, 56, WIDE + 1, 0).answer, 1, 0);
+    ANSWER(moatbetony_home_open(many, 56, SIZE_MAX, UINT64_MAX).answer, 1, 0);
+    o = moatbetony_home_open(NULL, 0, 1, 20);
+    ANSWER(o.answer, 1, 0);
+    CHECK(all_zero(&o.state, sizeof o.state));
+    ANSWER(moatbetony_home_open(&zero, 1, 1, MAX).answer, 0, 0);
+    o = moatbetony_home_open(&zero, 1, 1, MAX + 1);
+    ANSWER(o.answer, 2, 0);
+    CHECK(all_zero(&o.state, sizeof o.state));
+    ANSWER(moatbetony_home_figures(o.state).answer, 3, 0);
+    zero = 1;
+    ANSWER(moatbetony_home_open(&zero, 1, 1, MAX).answer, 2, 0);
+    ANSWER(moatbetony_home_open(&zero, 1, 1, UINT64_MAX).answer, 2, 0);
+}
+
+static void home_cases(void)
+{
+    moatbetony_home_t s = home_opened();
+    HOME(s, arrival(0, 0, 0, 1, 21), 32); /* case 9 */
+    HOME(s, arrival(0, 0, 0, 1, 20), 0);
+    home_figures_are(&s, 170, 0, __LINE__);
+    HOME(s, arrival(0, 0, 0, 2, 1), 32);
+    s = home_opened();
+    HOME(s, sending(0, 0, 0, 1, 30), 0);
+    home_figures_are(&s, 120, 50, __LINE__);
+    HOME(s, arrival(0, 0, 1, 2, 51), 32);
+    HOME(s, arrival(0, 0, 1, 2, 50), 0);
+    home_figures_are(&s, 170, 0, __LINE__);
+    home_balance_is(&s, 0, 70, __LINE__);
+    home_balance_is(&s, 1, 100, __LINE__);
+
+    s = home_opened(); /* cases 5 to 8, 10 and 11 */
+    HOME(s, local(0, 1, 0, 1, 51), 25);
+    HOME(s, local(0, 0, 0, 1, 101), 25);
+    HOME(s, local(0, 2, 0, 1, 1), 22);
+    HOME(s, local(0, 0, 2, 1, 1), 22);
+    HOME(s, arrival(0, 1, 0, 1, 1), 22);
+    HOME(s, local(0, 0, 0, 1, 0), 21);
+    HOME(s, local(0, 0, 0, 1, MAX), 25);
+    HOME(s, local(0, 0, 0, 1, MAX + 1), 21);
+    HOME(s, local(0, 1, 0, 1, 50), 0);
+    HOME(s, local(0, 0, 0, 2, 150), 0);
+    home_balance_is(&s, 0, 150, __LINE__);
+    HOME(s, rec(1, 0, 0, 0, 1, 1, 0), 23);
+    HOME(s, rec(1, 0, 0, 0, 3, 1, 2), 21);
+    HOME(s, local(0, 0, 0, 1, 1), 24);
+
+    /* A far record is 33, after 21 and before 22. */
+    HOME(s, local(1, 0, 0, 4, 1), 33);
+    HOME(s, arrival(1, 9, 9, 4, 1), 33);
+    HOME(s, local(1, 0, 0, 4, 0), 21);
+}
+
+static void home_columns(void)
+{
+    static const uint64_t homes[3] = {1000, 2000, 3000};
+    moatbetony_home_t s = moatbetony_home_open(homes, 3, 5, 400).state;
+    HOME(s, sending(0, 2, 4, 0x1122334455667788, 300), 0);
+    HOME(s, arrival(0, 3, 1, UINT64_C(0xfedcba9876543210), 7), 0);
+    CHECK(s.supply == 6400 && s.pool == 693 && s.homes == 3 && s.fars == 5 && s.count == 2);
+    CHECK(s.balances[0] == 1000 && s.balances[1] == 2007 && s.balances[2] == 2700);
+    CHECK(s.numbers[0] == 0x1122334455667788 && s.amounts[0] == 300 && s.senders[0] == 2 && s.receivers[0] == 4);
+    CHECK(s.kinds[0] == 2 && s.ledgers[0] == 0 && s.verdicts[0] == 1);
+    CHECK(s.numbers[1] == UINT64_C(0xfedcba9876543210) && s.amounts[1] == 7 && s.senders[1] == 3 && s.receivers[1] == 1);
+    CHECK(s.kinds[1] == 3 && s.ledgers[1] == 0 && s.verdicts[1] == 1);
+    home_figures_are(&s, 5707, 693, __LINE__);
+    home_balance_is(&s, 2, 2700, __LINE__);
+    ANSWER(moatbetony_home_balance(s, 3).answer, 22, 0);
+    ANSWER(moatbetony_home_balance(s, 256).answer, 22, 0);
+    ANSWER(moatbetony_home_balance(s, 65535).answer, 22, 0);
+    CHECK(moatbetony_home_balance(s, 3).balance == 0);
+}
+
+static void home_lists(void)
+{
+    moatbetony_home_t s = home_opened(), before = s;
+    moatbetony_home_outcome_t o;
+    uint8_t list[97];
+    bytes32 r[3];
+    size_t length;
+    r[0] = sending(0, 0, 0, 7, 30);
+    r[1] = arrival(0, 0, 1, 8, 50);
+    r[2] = local(0, 1, 0, 9, 100);
+    memcpy(list, r, 96);
+    list[96] = 1;
+    o = moatbetony_home_check_list(s, NULL, 0);
+    ANSWER(o.answer, 0, 0);
+    SAME(o.state, before);
+    ANSWER(moatbetony_home_take_list(&s, NULL, 0), 0, 0);
+    SAME(s, before);
+    for (length = 1; length <= 97; length++) {
+        uint32_t wanted = length % 32 == 0 ? 0 : 21;
+        o = moatbetony_home_check_list(before, list, length);
+        ANSWER(o.answer, wanted, wanted == 0 ? 0 : length / 32);
+        if (wanted != 0)
+            SAME(o.state, before);
+    }
+    o = moatbetony_home_check_list(before, list, 96);
+    home_figures_are(&o.state, 170, 0, __LINE__);
+    home_balance_is(&o.state, 0, 170, __LINE__);
+    ANSWER(moatbetony_home_take_list(&s, list, 96), 0, 0);
+    SAME(s, o.state);
+    r[2] = local(1, 0, 0, 9, 1);
+    memcpy(list, r, 96);
+    s = before;
+    ANSWER(moatbetony_home_take_list(&s, list, 96), 33, 2);
+    SAME(s, before);
+    ANSWER(moatbetony_home_take_list(&s, list + 32, 32), 32, 0);
+    ANSWER(moatbetony_home_take(&s, list, 64), 21, 0);
+    ANSWER(moatbetony_home_take(&s, list, 31), 21, 0);
+    ANSWER(moatbetony_home_take(&s, NULL, 0), 21, 0);
+    SAME(s, before);
+}
+
+/* As pair_forged. */
+static void home_forged(const moatbetony_home_t *forged, int line)
+{
+    moatbetony_home_t s = *forged;
+    bytes32 r = local(0, 0, 0, 99, 1);
+    moatbetony_home_outcome_t o = moatbetony_home_check_record(s, r.at, 32);
+    moatbetony_home_figures_t f = moatbetony_home_figures(s);
+    moatbetony_balance_t b = moatbetony_home_balance(s, 0);
+    check_answer(o.answer, 3, 0, line);
+    check(memcmp(&o.state, forged, sizeof s) == 0, "state as it came", line);
+    o = moatbetony_home_check_record(s, NULL, 0);
+    check_answer(o.answer, 3, 0, line);
+    o = moatbetony_home_check_list(s, r.at, 32);
+    check_answer(o.answer, 3, 0, line);
+    check(memcmp(&o.state, forged, sizeof s) == 0, "state as it came", line);
+    o = moatbetony_home_check_list(s, NULL, 0);
+    check_answer(o.answer, 3, 0, line);
+    check_answer(f.answer, 3, 0, line);
+    check(f.home == 0 && f.pool == 0, "zeros beside 3", line);
+    check_answer(b.answer, 3, 0, line);
+    check(b.balance == 0, "zero beside 3", line);
+    check_answer(moatbetony_home_balance(s, 99).answer, 3, 0, line);
+    check_answer(moatbetony_home_take(&s, r.at, 32), 3, 0, line);
+    check_answer(moatbetony_home_take_list(&s, r.at, 32), 3, 0, line);
+    check(memcmp(&s, forged, sizeof s) == 0, "state as it came", line);
+}
+
+#define HOME_FORGED(change)            \
+    do {                               \
+        moatbetony_home_t f = good;    \
+        change;                        \
+        home_forged(&f, __LINE__);     \
+    } while (0)
+
+static void home_states(void)
+{
+    moatbetony_home_t good = home_opened(), odd;
+    HOME(good, sending(0, 0, 0, 7, 30), 0);
+    HOME(good, arrival(0, 0, 1, 8, 5), 0);
+
+    HOME_FORGED(memset(&f, 0, sizeof f));
+    HOME_FORGED(memset(&f, 0xff, sizeof f));
+    HOME_FORGED(f.homes = 0);
+    HOME_FORGED(f.homes = 57);
+    HOME_FORGED(f.homes += WIDE);
+    HOME_FORGED(f.homes = 1);
+    HOME_FORGED(f.fars = 0);
+    HOME_FORGED(f.fars = 57);
+    HOME_FORGED(f.fars += WIDE);
+    HOME_FORGED(f.count = 513);
+    HOME_FORGED(f.count += WIDE);
+    HOME_FORGED(f.count = SIZE_MAX);
+    HOME_FORGED(f.count = 3);
+    HOME_FORGED(f.supply = MAX + 1);
+    HOME_FORGED(f.supply += 1);
+    HOME_FORGED(f.supply += WIDE);
+    HOME_FORGED(f.pool += 1);
+    HOME_FORGED(f.pool += WIDE);
+    HOME_FORGED((f.pool = UINT64_MAX, f.balances[0] += 1 + good.pool));
+    HOME_FORGED(f.balances[0] += 1);
+    HOME_FORGED((f.balances[0] -= 1, f.balances[2] = 1));
+    HOME_FORGED((f.balances[0] -= 1, f.balances[55] = 1));
+    HOME_FORGED(f.kinds[0] = 0);
+    HOME_FORGED(f.kinds[1] = 4);
+    HOME_FORGED(f.ledgers[0] = 1);
+    HOME_FORGED(f.ledgers[1] = 2);
+    HOME_FORGED(f.verdicts[0] = 0);
+    HOME_FORGED(f.verdicts[1] = 2);
+    HOME_FORGED(f.senders[0] = 2);
+    HOME_FORGED(f.receivers[0] = 1);
+    HOME_FORGED(f.senders[1] = 1);
+    HOME_FORGED(f.receivers[1] = 2);
+    HOME_FORGED(f.senders[1] = 256);
+    HOME_FORGED(f.amounts[0] = 0);
+    HOME_FORGED(f.amounts[0] = MAX + 1);
+    HOME_FORGED(f.numbers[1] = 7);
+
+    odd = good;
+    odd.balances[0] = good.balances[1];
+    odd.balances[1] = good.balances[0];
+    home_figures_are(&odd, 125, 45, __LINE__);
+    memset(odd.amounts + 2, 0xaa, 510 * 8);
+    memset(odd.ledgers + 2, 0xaa, 510);
+    HOME(odd, local(0, 0, 1, 10, 1), 0);
+    CHECK(odd.count == 3 && odd.amounts[2] == 1 && odd.ledgers[2] == 0);
+    CHECK(odd.amounts[3] == UINT64_C(0xaaaaaaaaaaaaaaaa) && odd.ledgers[3] == 0xaa);
+}
+
+static void home_full(void)
+{
+    moatbetony_home_t s = home_opened();
+    uint64_t i;
+    for (i = 0; i < 512; i++) {
+        bytes32 r = local(0, 0, 0, 1000 + i, 1);
+        ANSWER(moatbetony_home_take(&s, r.at, 32), 0, 0);
+    }
+    CHECK(s.count == 512);
+    HOME(s, local(0, 0, 0, 2000, 1), 41);
+    HOME(s, arrival(0, 0, 0, 2000, 20), 41);
+    HOME(s, local(0, 0, 0, 1511, 1), 24);
+    HOME(s, arrival(0, 0, 0, 2000, 21), 32);
+    home_figures_are(&s, 150, 20, __LINE__);
+}
+
+/* ## The journal */
+
+/* A block by hand; the check is the digest that digests() tests. */
+static void block_by_hand(uint8_t *block, uint64_t k, int kind, int count, const uint8_t *items, size_t length)
+{
+    moatbetony_digest_t d;
+    memset(block, 0, 512);
+    put(block, 4, k);
+    block[4] = (uint8_t)kind;
+    block[5] = (uint8_t)count;
+    memcpy(block + 32, items, length);
+    d = moatbetony_sha256(block, 480);
+    memcpy(block + 480, d.bytes, 32);
+}
+
+static void sealed(uint8_t *block)
+{
+    moatbetony_digest_t d = moatbetony_sha256(block, 480);
+    memcpy(block + 480, d.bytes, 32);
+}
+
+/* All calls that judge a block give this refusal with the block number, and nothing beside it. */
+static void refused_block(const uint8_t *block, size_t length, uint64_t k, uint64_t before, uint32_t number, int line)
+{
+    moatbetony_part_t p = moatbetony_block_record(block, length, k, before, 0);
+    moatbetony_count_t c = moatbetony_block_count(block, length, k, before);
+    moatbetony_balances_t b = moatbetony_block_balances(block, length, k, before);
+    check_answer(moatbetony_block_judge(block, length, k, before), number, k, line);
+    check_answer(moatbetony_block_judge_record(block, length, k, before, 0), number, k, line);
+    check_answer(p.answer, number, k, line);
+    check(p.start == 0 && p.length == 0, "no part", line);
+    check_answer(c.answer, number, k, line);
+    check(c.count == 0, "no count", line);
+    check_answer(b.answer, number, k, line);
+    check(b.count == 0 && all_zero(b.balances, sizeof b.balances), "no balances", line);
+}
+
+#define REFUSED(length, k, before, number) refused_block(block, length, k, before, number, __LINE__)
+
+static void balances_blocks(void)
+{
+    uint8_t items[56 * 8], block[512], by_hand[512];
+    uint64_t i, k;
+    for (i = 0; i < 56; i++)
+        put(items + 8 * i, 8, UINT64_C(0x0102030405060700) + i);
+    for (k = 0; k < 2; k++) {
+        uint8_t kind = (uint8_t)(k + 1);
+        moatbetony_balances_t b;
+        block_by_hand(by_hand, k, kind, 3, items, 24);
+        memset(block, 0xee, 512);
+        ANSWER(moatbetony_block_write(block, 512, k, kind, items, 24), 0, 0);
+        SAME(block, by_hand);
+        ANSWER(moatbetony_block_judge(block, 512, k, UINT64_MAX), 0, 0);
+        CHECK(moatbetony_block_count(block, 512, k, 0).count == 3);
+        b = moatbetony_block_balances(block, 512, k, 0);
+        ANSWER(b.answer, 0, 0);
+        CHECK(b.count == 3 && b.balances[0] == UINT64_C(0x0102030405060700) && b.balances[2] == UINT64_C(0x0102030405060702));
+        CHECK(all_zero(b.balances + 3, 53 * 8));
+        ANSWER(moatbetony_block_judge_record(block, 512, k, 0, 0), 4, k);
+        ANSWER(moatbetony_block_record(block, 512, k, 0, 0).answer, 4, k);
+        REFUSED(512, k + 1, 14, 13);
+        REFUSED(512, k + WIDE, 14, 11);
+        ANSWER(moatbetony_block_write(block, 512, k, kind, items, 56 * 8), 0, 0);
+        b = moatbetony_block_balances(block, 512, k, 0);
+        CHECK(b.count == 56 && b.balances[55] == UINT64_C(0x0102030405060700) + 55);
+    }
+}
+
+static void record_blocks(void)
+{
+    uint8_t items[14 * 32], block[512], by_hand[512], longer[513];
+    moatbetony_part_t p;
+    uint64_t i;
+    for (i = 0; i < sizeof items; i++)
+        items[i] = (uint8_t)(i * 7 + 1);
+    block_by_hand(by_hand, 0x0102, 3, 14, items, sizeof items);
+    ANSWER(moatbetony_block_write(block, 512, 0x0102, 3, items, sizeof items), 0, 0);
+    SAME(block, by_hand);
+    for (i = 0; i < 14; i++) {
+        ANSWER(moatbetony_block_judge_record(block, 512, 0x0102, 14, i), 0, 0);
+        p = moatbetony_block_record(block, 512, 0x0102, 14, i);
+        ANSWER(p.answer, 0, 0);
+        CHECK(p.start == 32 + 32 * i && p.length == 32 && memcmp(block + p.start, items + 32 * i, 32) == 0);
+    }
+    CHECK(moatbetony_block_count(block, 512, 0x0102, 14).count == 14);
+
+    /* Numbers of 64 bits: the block, the count before, the place. */
+    ANSWER(moatbetony_block_judge(block, 512, 0x0102, WIDE + 13), 0, 0);
+    ANSWER(moatbetony_block_judge(block, 512, 0x0102, 13), 14, 0x0102);
+    ANSWER(moatbetony_block_judge(block, 512, WIDE + 0x0102, 14), 11, WIDE + 0x0102);
+    ANSWER(moatbetony_block_judge_record(block, 512, 0x0102, 14, 14), 4, 0x0102);
+    ANSWER(moatbetony_block_judge_record(block, 512, 0x0102, 14, WIDE), 4, 0x0102);
+    ANSWER(moatbetony_block_judge_record(block, 512, 0x0102, 13, 14), 14, 0x0102);
+    ANSWER(moatbetony_block_judge_record(block, 512, 0x0102, 14, 13), 0, 0);
+    ANSWER(moatbetony_block_judge_record(block, 512, 0x0102, WIDE + 13, 0), 0, 0);
+    ANSWER(moatbetony_block_record(block, 512, 0x0102, WIDE + 13, 0).answer, 0, 0);
+    ANSWER(moatbetony_block_record(block, 512, 0x0102, 14, WIDE).answer, 4, 0x0102);
+    ANSWER(moatbetony_block_count(block, 512, 0x0102, WIDE + 13).answer, 0, 0);
+    ANSWER(moatbetony_block_balances(block, 512, 0x0102, WIDE + 13).answer, 4, 0x0102);
+    p = moatbetony_block_record(block, 512, 0x0102, 14, 14);
+    ANSWER(p.answer, 4, 0x0102);
+    CHECK(p.start == 0 && p.length == 0);
+    ANSWER(moatbetony_block_record(block, 512, 0x0102, 14, UINT64_MAX).answer, 4, 0x0102);
+    ANSWER(moatbetony_block_balances(block, 512, 0x0102, 14).answer, 4, 0x0102);
+
+    /* 11 to 14, in order. */
+    REFUSED(512, 0x0102, 13, 14);
+    REFUSED(512, 0x0103, 14, 13);
+    REFUSED(512, 65536, 14, 11);
+    REFUSED(511, 0x0102, 14, 11);
+    REFUSED(0, 0x0102, 14, 11);
+    refused_block(NULL, 0, 0x0102, 14, 11, __LINE__);
+    refused_block(NULL, 0, 0, 0, 11, __LINE__); /* case 15 */
+    memcpy(longer, block, 512);
+    longer[512] = 0;
+    refused_block(longer, 513, 0x0102, 14, 11, __LINE__);
+    for (i = 0; i < 512; i += 73) {
+        block[i] ^= 1;
+        REFUSED(512, 0x0102, 14, 12);
+        block[i] ^= 1;
+    }
+    block[511] ^= 0x80;
+    REFUSED(512, 0x0103, 0, 12);
+    block[511] ^= 0x80;
+    block[4] = 2;
+    sealed(block);
+    REFUSED(512, 0x0102, 14, 14);
+    block[4] = 3;
+    block[5] = 15;
+    sealed(block);
+    REFUSED(512, 0x0102, 14, 14);
+    block[5] = 0;
+    sealed(block);
+    REFUSED(512, 0x0102, 14, 14);
+    block[5] = 13;
+    sealed(block);
+    REFUSED(512, 0x0102, 14, 14);
+    block[5] = 14;
+    block[31] = 1;
+    sealed(block);
+    REFUSED(512, 0x0102, 14, 14);
+    REFUSED(512, 0x0103, 14, 13);
+    ANSWER(moatbetony_block_write(block, 512, 2, 3, items, 32), 0, 0);
+    ANSWER(moatbetony_block_judge(block, 512, 2, 0), 0, 0);
+    ANSWER(moatbetony_block_record(block, 512, 2, 0, 1).answer, 4, 2);
+    ANSWER(moatbetony_block_write(block, 512, 65535, 3, items, 64), 0, 0);
+    CHECK(moatbetony_block_count(block, 512, 65535, 14).count == 2);
+}
+
+/* A write that is refused, with the output as it came. */
+static void unwritten(size_t out_length, uint64_t k, int kind, size_t items_length, int line)
+{
+    uint8_t out[513], before[513], items[500];
+    memset(out, 0xee, sizeof out);
+    memset(before, 0xee, sizeof before);
+    memset(items, 0x11, sizeof items);
+    check_answer(moatbetony_block_write(out, out_length, k, (uint8_t)kind, items, items_length), 4, k, line);
+    check(memcmp(out, before, sizeof out) == 0, "output as it came", line);
+}
+
+static void refused_writes(void)
+{
+    uint8_t out[512], before[512], items[32];
+    memset(out, 0xee, 512);
+    memset(before, 0xee, 512);
+    memset(items, 0, 32);
+    unwritten(511, 2, 3, 32, __LINE__);
+    unwritten(513, 2, 3, 32, __LINE__);
+    unwritten(0, 2, 3, 32, __LINE__);
+    unwritten(512, 65536, 3, 32, __LINE__);
+    unwritten(512, WIDE + 2, 3, 32, __LINE__);
+    unwritten(512, UINT64_MAX, 3, 32, __LINE__);
+    unwritten(512, 0, 2, 8, __LINE__);
+    unwritten(512, 0, 3, 32, __LINE__);
+    unwritten(512, 1, 1, 8, __LINE__);
+    unwritten(512, 2, 1, 8, __LINE__);
+    unwritten(512, 2, 0, 32, __LINE__);
+    unwritten(512, 2, 255, 32, __LINE__);
+    unwritten(512, 2, 3, 0, __LINE__);
+    unwritten(512, 2, 3, 31, __LINE__);
+    unwritten(512, 2, 3, 33, __LINE__);
+    unwritten(512, 2, 3, 8, __LINE__);
+    unwritten(512, 2, 3, 15 * 32, __LINE__);
+    unwritten(512, 0, 1, 57 * 8, __LINE__);
+    unwritten(512, 0, 1, 7, __LINE__);
+    ANSWER(moatbetony_block_write(out, 512, 2, 3, NULL, 0), 4, 2);
+    SAME(out, before);
+    ANSWER(moatbetony_block_write(NULL, 0, 2, 3, items, 32), 4, 2);
+    ANSWER(moatbetony_block_write(NULL, 0, 7, 3, NULL, 0), 4, 7);
+}
+
+/* ## Wide figures and lengths */
+
+static void wide_figures(void)
+{
+    static const uint64_t homes[2] = {WIDE + 1, 2 * WIDE}, fars[1] = {3 * WIDE + 7};
+    moatbetony_pair_t pair = moatbetony_pair_open(homes, 2, fars, 1).state;
+    moatbetony_home_t home = moatbetony_home_open(homes, 2, 1, 3 * WIDE + 7).state;
+    PAIR(pair, sending(0, 1, 0, 1, WIDE + 5), 0);
+    pair_figures_are(&pair, 2 * WIDE - 4, 3 * WIDE + 7, WIDE + 5, __LINE__);
+    pair_balance_is(&pair, 0, 0, WIDE + 1, __LINE__);
+    pair_balance_is(&pair, 1, 0, 3 * WIDE + 7, __LINE__);
+    HOME(home, sending(0, 1, 0, 1, WIDE + 5), 0);
+    home_figures_are(&home, 2 * WIDE - 4, 4 * WIDE + 12, __LINE__);
+    home_balance_is(&home, 0, WIDE + 1, __LINE__);
+}
+
+/* Lengths that are right in their low 32 bits alone, of memory that is there. Nobody reads all of it. */
+static void wide_lengths(void)
+{
+    size_t size = 8 * (WIDE + 4096);
+    void *mapped = mmap(NULL, size, PROT_READ | PROT_WRITE, MAP_PRIVATE | MAP_ANONYMOUS | MAP_NORESERVE, -1, 0);
+    uint8_t *much = (uint8_t *)mapped, block[512], before[512], items[32];
+    const uint64_t *numbers = (const uint64_t *)mapped;
+    moatbetony_pair_t pair = pair_opened();
+    moatbetony_home_t home = home_opened();
+    bytes32 r = local(0, 0, 1, 1, 1);
+    if (mapped == MAP_FAILED) {
+        printf("no room for lengths above 2^32, which are left out\n");
+        return;
+    }
+    ANSWER(moatbetony_pair_open(numbers, WIDE + 2, FARS, 1).answer, 1, 0);
+    ANSWER(moatbetony_pair_open(HOMES, 2, numbers, WIDE + 1).answer, 1, 0);
+    ANSWER(moatbetony_home_open(numbers, WIDE + 2, 1, 20).answer, 1, 0);
+    memcpy(much, r.at, 32);
+    ANSWER(moatbetony_record_read(much, WIDE + 32).answer, 21, 0);
+    ANSWER(moatbetony_pair_take(&pair, much, WIDE + 32), 21, 0);
+    ANSWER(moatbetony_pair_take_list(&pair, much, WIDE + 32), 21, 1);
+    ANSWER(moatbetony_home_take(&home, much, WIDE + 32), 21, 0);
+    ANSWER(moatbetony_home_take_list(&home, much, WIDE + 32), 21, 1);
+    memset(items, 1, 32);
+    ANSWER(moatbetony_block_write(much, 512, 2, 3, items, 32), 0, 0);
+    refused_block(much, WIDE + 512, 2, 0, 11, __LINE__);
+    ANSWER(moatbetony_block_write(much, WIDE + 512, 2, 3, items, 32), 4, 2);
+    memset(block, 0xee, 512);
+    memset(before, 0xee, 512);
+    ANSWER(moatbetony_block_write(block, 512, 2, 3, much, WIDE + 32), 4, 2);
+    SAME(block, before);
+    munmap(mapped, size);
+}
+
+/* ## SHA-256: the vectors of FIPS 180-4, and every length about a block's ends */
+
+static void digest_is(const uint8_t *message, size_t length, const char *hex, int line)
+{
+    moatbetony_digest_t d = moatbetony_sha256(message, length);
+    char text[65];
+    int i;
+    for (i = 0; i < 32; i++)
+        sprintf(text + 2 * i, "%02x", d.bytes[i]);
+    check(strcmp(text, hex) == 0, hex, line);
+}
+
+static void digests(void)
+{
+    static uint8_t many[1000000];
+    const uint8_t *abc = (const uint8_t *)"abcdbcdecdefdefgefghfghighijhijkijkljklmklmnlmnomnopnopq";
+    moatbetony_digest_t before, d;
+    size_t i;
+    digest_is(NULL, 0, "e3b0c44298fc1c149afbf4c8996fb92427ae41e4649b934ca495991b7852b855", __LINE__);
+    digest_is(abc, 0, "e3b0c44298fc1c149afbf4c8996fb92427ae41e4649b934ca495991b7852b855", __LINE__);
+    digest_is((const uint8_t *)"abc", 3, "ba7816bf8f01cfea414140de5dae2223b00361a396177a9cb410ff61f20015ad", __LINE__);
+    digest_is(abc, 56, "248d6a61d20638b8e5c026930c3e6039a33ce45964ff2167f6ecedd419db06c1", __LINE__);
+    memset(many, 'a', sizeof many);
+    digest_is(many, sizeof many, "cdc76e5c9914fb9281a1c7e284d73e67f1809a48a497200e046d39ccc7112cd0", __LINE__);
+    before = moatbetony_sha256(many, 0);
+    for (i = 1; i < 200; i++) {
+        d = moatbetony_sha256(many, i);
+        CHECK(memcmp(d.bytes, before.bytes, 32) != 0);
+        before = d;
+    }
+}
+
+int main(void)
+{
+    versions();
+    digests();
+    records();
+    pair_openings();
+    pair_cases();
+    pair_columns();
+    pair_lists();
+    pair_states();
+    pair_full();
+    home_openings();
+    home_cases();
+    home_columns();
+    home_lists();
+    home_states();
+    home_full();
+    balances_blocks();
+    record_blocks();
+    refused_writes();
+    wide_figures();
+    wide_lengths();
+    printf("%ld checks, %ld failed\n", checks, failed);
+    return failed != 0;
+}

@@ -1,0 +1,209 @@
+/* Measures the stack that each call needs: it runs in a thread whose stack was filled with one byte, and what is altered afterwards was
+   used. Counted from the caller's frame down, so with the copies of arguments and result that the caller makes (most without
+   optimisation, as this program is built). Full tables and all answers, so that every part of a call runs. Prints a line for each call,
+   and fails where one needs more than the header says. */
+#define _GNU_SOURCE
+#include <moatbetony.h>
+
+#include <pthread.h>
+#include <stdio.h>
+#include <stdlib.h>
+#include <string.h>
+#include <sys/mman.h>
+
+enum { STACK = 1 << 20, FILL = 0xa5, RECORDS = MOATBETONY_CAPACITY, HALF = RECORDS / 2 };
+
+/* What the calls are given, and where their results go; not on the stack. */
+static moatbetony_pair_t pair, pair_half, pair_room;
+static moatbetony_home_t home, home_half, home_room;
+static uint8_t pair_list[2 * HALF * 32], home_list[HALF * 32], one_arrival[32], block[512], balances_block[512];
+static uint64_t balances[MOATBETONY_MAX_ACCOUNTS];
+static moatbetony_pair_outcome_t pair_outcome;
+static moatbetony_pair_figures_t pair_figures;
+static moatbetony_home_outcome_t home_outcome;
+static moatbetony_home_figures_t home_figures;
+static moatbetony_balance_t balance;
+static moatbetony_record_t record;
+static moatbetony_encoded_t encoded;
+static moatbetony_part_t part;
+static moatbetony_count_t count;
+static moatbetony_balances_t opening;
+static moatbetony_digest_t digest;
+static moatbetony_answer_t answer;
+static uint32_t version;
+
+static const char *frame; /* of the function that calls */
+
+#define MEASURED(name, call)                            \
+    static __attribute__((noinline)) void name(void)    \
+    {                                                   \
+        frame = (const char *)__builtin_frame_address(0); \
+        call;                                           \
+    }
+
+MEASURED(m_version, version = moatbetony_version())
+MEASURED(m_state_version, version = moatbetony_state_version())
+MEASURED(m_pair_open, pair_outcome = moatbetony_pair_open(balances, 56, balances, 56))
+MEASURED(m_pair_record, pair_outcome = moatbetony_pair_check_record(pair_room, one_arrival, 32))
+MEASURED(m_pair_list, pair_outcome = moatbetony_pair_check_list(pair_half, pair_list, sizeof pair_list))
+MEASURED(m_pair_figures, pair_figures = moatbetony_pair_figures(pair))
+MEASURED(m_pair_balance, balance = moatbetony_pair_balance(pair, 1, 55))
+MEASURED(m_pair_take, answer = moatbetony_pair_take(&pair_room, one_arrival, 32))
+MEASURED(m_pair_take_list, answer = moatbetony_pair_take_list(&pair_half, pair_list, sizeof pair_list))
+MEASURED(m_home_open, home_outcome = moatbetony_home_open(balances, 56, 56, 0))
+MEASURED(m_home_record, home_outcome = moatbetony_home_check_record(home_room, one_arrival, 32))
+MEASURED(m_home_list, home_outcome = moatbetony_home_check_list(home_half, home_list, sizeof home_list))
+MEASURED(m_home_figures, home_figures = moatbetony_home_figures(home))
+MEASURED(m_home_balance, balance = moatbetony_home_balance(home, 55))
+MEASURED(m_home_take, answer = moatbetony_home_take(&home_room, one_arrival, 32))
+MEASURED(m_home_take_list, answer = moatbetony_home_take_list(&home_half, home_list, sizeof home_list))
+MEASURED(m_record_read, record = moatbetony_record_read(one_arrival, 32))
+MEASURED(m_record_encode, encoded = moatbetony_record_encode(1, 0, 2, 3, 4, 5, 1))
+MEASURED(m_block_judge, answer = moatbetony_block_judge(block, 512, 3, 14))
+MEASURED(m_block_judge_record, answer = moatbetony_block_judge_record(block, 512, 3, 14, 13))
+MEASURED(m_block_record, part = moatbetony_block_record(block, 512, 3, 14, 13))
+MEASURED(m_block_count, count = moatbetony_block_count(block, 512, 3, 14))
+MEASURED(m_block_balances, opening = moatbetony_block_balances(balances_block, 512, 0, 0))
+MEASURED(m_block_write, answer = moatbetony_block_write(block, 512, 3, 3, home_list, 14 * 32))
+MEASURED(m_sha256, digest = moatbetony_sha256(pair_list, sizeof pair_list - 5))
+
+static void need(int holds, const char *what)
+{
+    if (!holds) {
+        printf("FAILED: %s\n", what);
+        exit(1);
+    }
+}
+
+static void *run(void *call)
+{
+    (*(void (**)(void))call)();
+    return NULL;
+}
+
+/* The bytes between the caller's frame and the lowest that were altered. */
+static size_t used(void (*call)(void))
+{
+    static uint8_t *low;
+    pthread_attr_t attributes;
+    pthread_t thread;
+    size_t i = 0;
+    if (low == NULL) {
+        void *mapped = mmap(NULL, STACK, PROT_READ | PROT_WRITE, MAP_PRIVATE | MAP_ANONYMOUS, -1, 0);
+        need(mapped != MAP_FAILED, "memory for a stack");
+        low = (uint8_t *)mapped;
+    }
+    memset(low, FILL, STACK);
+    need(pthread_attr_init(&attributes) == 0 && pthread_attr_setstack(&attributes, low, STACK) == 0, "a stack for a thread");
+    need(pthread_create(&thread, &attributes, run, &call) == 0 && pthread_join(thread, NULL) == 0, "a thread");
+    pthread_attr_destroy(&attributes);
+    while (i < STACK && low[i] == FILL)
+        i++;
+    need(i > 4096 && (const char *)low + i <= frame, "the stack that was measured is the thread's");
+    return (size_t)(frame - (const char *)(low + i));
+}
+
+static int failed;
+
+static void measure(const char *name, void (*call)(void), size_t limit)
+{
+    size_t most = used(call);
+    printf("%-14s %7lu of %lu\n", name, (unsigned long)most, (unsigned long)limit);
+    if (most > limit) {
+        printf("FAILED: %s needs more than the header says\n", name);
+        failed = 1;
+    }
+}
+
+static void put_record(uint8_t *at, int kind, int ledger, uint64_t number)
+{
+    encoded = moatbetony_record_encode((uint8_t)kind, (uint8_t)ledger, (uint16_t)(number % 56), (uint16_t)(number / 56 % 56), number, 1, 1);
+    need(encoded.answer.number == 0, "a record to encode");
+    memcpy(at, encoded.bytes, 32);
+}
+
+/* Sendings and arrivals under numbers that share their low bits, so that an index over them has one long chain. */
+static void fill(void)
+{
+    uint8_t sendings[HALF * 32], arrivals[HALF * 32];
+    uint64_t i;
+    for (i = 0; i < MOATBETONY_MAX_ACCOUNTS; i++)
+        balances[i] = UINT64_C(1) << 40;
+    pair = moatbetony_pair_open(balances, 56, balances, 56).state;
+    home = moatbetony_home_open(balances, 56, 56, UINT64_C(1) << 40).state;
+    for (i = 0; i < HALF; i++) {
+        put_record(sendings + 32 * i, MOATBETONY_SENDING, MOATBETONY_FAR, i << 16);
+        put_record(arrivals + 32 * i, MOATBETONY_ARRIVAL, MOATBETONY_HOME, i << 16);
+        put_record(pair_list + 64 * i, MOATBETONY_SENDING, MOATBETONY_FAR, (HALF + i) << 16);
+        put_record(pair_list + 64 * i + 32, MOATBETONY_ARRIVAL, MOATBETONY_HOME, (HALF + i) << 16);
+        put_record(home_list + 32 * i, MOATBETONY_ARRIVAL, MOATBETONY_HOME, (HALF + i) << 16);
+    }
+    memcpy(one_arrival, home_list + 32 * (HALF - 1), 32);
+    need(moatbetony_pair_take_list(&pair, sendings, sizeof sendings).number == 0, "sendings");
+    need(moatbetony_pair_take_list(&pair, arrivals, sizeof arrivals).number == 0, "arrivals");
+    need(moatbetony_home_take_list(&home, arrivals, sizeof arrivals).number == 0, "arrivals at home");
+    pair_half = pair_room = pair;
+    home_half = home_room = home;
+    need(moatbetony_pair_take_list(&pair_room, pair_list, sizeof pair_list - 32).number == 0, "a pair list but for its last record");
+    need(moatbetony_home_take_list(&home_room, home_list, sizeof home_list - 32).number == 0, "a home list but for its last record");
+    need(moatbetony_pair_take_list(&pair, pair_list, sizeof pair_list).number == 0, "a pair list");
+    need(moatbetony_home_take_list(&home, home_list, sizeof home_list).number == 0, "a home list");
+    need(pair.counts[0] == RECORDS && pair.counts[1] == RECORDS && home.count == RECORDS, "full tables");
+    need(moatbetony_block_write(block, 512, 3, MOATBETONY_BLOCK_RECORDS, home_list, 14 * 32).number == 0, "a block");
+    need(moatbetony_block_write(balances_block, 512, 0, MOATBETONY_BLOCK_HOME_BALANCES, home_list, 56 * 8).number == 0, "a block");
+}
+
+int main(void)
+{
+    fill();
+    measure("pair_open", m_pair_open, MOATBETONY_STACK_PAIR);
+    measure("pair_record", m_pair_record, MOATBETONY_STACK_PAIR);
+    need(pair_outcome.answer.number == 0, "the record passes");
+    measure("pair_list", m_pair_list, MOATBETONY_STACK_PAIR);
+    need(pair_outcome.answer.number == 0, "the list passes");
+    measure("pair_figures", m_pair_figures, MOATBETONY_STACK_PAIR);
+    need(pair_figures.answer.number == 0, "the figures pass");
+    measure("pair_balance", m_pair_balance, MOATBETONY_STACK_PAIR);
+    need(balance.answer.number == 0, "the balance passes");
+    measure("pair_take", m_pair_take, MOATBETONY_STACK_PAIR);
+    need(answer.number == 0, "the record passes");
+    measure("pair_take, 24", m_pair_take, MOATBETONY_STACK_PAIR);
+    need(answer.number == 24, "the record is refused");
+    measure("pair_take_list", m_pair_take_list, MOATBETONY_STACK_PAIR);
+    need(answer.number == 0, "the list passes");
+    measure("home_open", m_home_open, MOATBETONY_STACK_HOME);
+    measure("home_record", m_home_record, MOATBETONY_STACK_HOME);
+    need(home_outcome.answer.number == 0, "the record passes");
+    measure("home_list", m_home_list, MOATBETONY_STACK_HOME);
+    need(home_outcome.answer.number == 0, "the list passes");
+    measure("home_figures", m_home_figures, MOATBETONY_STACK_HOME);
+    need(home_figures.answer.number == 0, "the figures pass");
+    measure("home_balance", m_home_balance, MOATBETONY_STACK_HOME);
+    need(balance.answer.number == 0, "the balance passes");
+    measure("home_take", m_home_take, MOATBETONY_STACK_HOME);
+    need(answer.number == 0, "the record passes");
+    measure("home_take, 24", m_home_take, MOATBETONY_STACK_HOME);
+    need(answer.number == 24, "the record is refused");
+    measure("home_take_list", m_home_take_list, MOATBETONY_STACK_HOME);
+    need(answer.number == 0, "the list passes");
+    measure("record_read", m_record_read, MOATBETONY_STACK_OTHER);
+    need(record.answer.number == 0, "the record reads");
+    measure("record_encode", m_record_encode, MOATBETONY_STACK_OTHER);
+    need(encoded.answer.number == 0, "the record is encoded");
+    measure("block_judge", m_block_judge, MOATBETONY_STACK_OTHER);
+    need(answer.number == 0, "the block passes");
+    measure("block_judge_r.", m_block_judge_record, MOATBETONY_STACK_OTHER);
+    need(answer.number == 0, "the place passes");
+    measure("block_record", m_block_record, MOATBETONY_STACK_OTHER);
+    need(part.answer.number == 0, "the part passes");
+    measure("block_count", m_block_count, MOATBETONY_STACK_OTHER);
+    need(count.answer.number == 0, "the count passes");
+    measure("block_balances", m_block_balances, MOATBETONY_STACK_OTHER);
+    need(opening.answer.number == 0, "the balances pass");
+    measure("block_write", m_block_write, MOATBETONY_STACK_OTHER);
+    need(answer.number == 0, "the write passes");
+    measure("sha256", m_sha256, MOATBETONY_STACK_OTHER);
+    measure("version", m_version, MOATBETONY_STACK_OTHER);
+    measure("state_version", m_state_version, MOATBETONY_STACK_OTHER);
+    return failed;
+}
