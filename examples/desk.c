@@ -1,16 +1,18 @@
-/* A paying desk that sees the home ledger alone. It takes records one by one, hands goods over on passed and says why not otherwise,
-   keeps its state in a file and takes it up again.
+/* A paying desk that sees the home ledger alone. It takes records one by one, hands goods over where a record passed and pays the desk,
+   says why not otherwise, keeps its state in a file and takes it up again.
 
        cc desk.c $(pkg-config --cflags --libs moatbetony) -o desk && ./desk STATE_FILE
 
    The file has the layout's version in 4 bytes, the state, and the SHA-256 of both. What guards a stored state:
    - The digest finds damage, and a change by anyone who cannot write the digest too.
-   - Refusal 3 finds a state whose numbers do not fit together, as one balance raised. It does not see two balances exchanged.
-   - Neither finds a forger who rewrites state and digest to fit, or who puts an older file back. Keep the latest digest where nobody
-     else can write it. */
+   - Refusal 3 says that a state's numbers fit together, and no more. It does not see two balances exchanged, a balance raised together
+     with the supply or at the far pool's cost, held records left out, so that they pass again, or an older state put back.
+   - Neither finds a forger who rewrites state and digest to fit, or who puts an older pair of them back. Keep the latest digest where
+     nobody else can write it. */
 #define _POSIX_C_SOURCE 200809L
 #include <moatbetony.h>
 
+#include <fcntl.h>
 #include <stdio.h>
 #include <stdlib.h>
 #include <string.h>
@@ -18,6 +20,7 @@
 
 enum { VERSION_SIZE = 4, STATE_SIZE = sizeof(moatbetony_home_t), SEALED_SIZE = VERSION_SIZE + STATE_SIZE };
 enum { FILE_SIZE = SEALED_SIZE + MOATBETONY_DIGEST_SIZE };
+enum { OURS = 1, PRICE = 30 }; /* the desk's account, and what its goods cost */
 
 static void must(int holds, const char *what)
 {
@@ -28,6 +31,21 @@ static void must(int holds, const char *what)
 }
 
 /* ## The state's file */
+
+/* Writes what the folder of a path says of its files to the disk, so that a file put in its place stays there. */
+static void sync_folder(const char *path)
+{
+    char *folder = strdup(path);
+    char *slash;
+    int opened;
+    must(folder != NULL, "no memory");
+    slash = strrchr(folder, '/');
+    if (slash != NULL)
+        slash[slash == folder] = '\0'; /* the root keeps its slash */
+    opened = open(slash != NULL ? folder : ".", O_RDONLY | O_DIRECTORY);
+    must(opened >= 0 && fsync(opened) == 0 && close(opened) == 0, "the folder of the state could not be written");
+    free(folder);
+}
 
 static void write_file(const char *path, const uint8_t *bytes)
 {
@@ -40,6 +58,7 @@ static void write_file(const char *path, const uint8_t *bytes)
     must(file != NULL && fwrite(bytes, 1, FILE_SIZE, file) == FILE_SIZE, "the state could not be written");
     must(fflush(file) == 0 && fsync(fileno(file)) == 0 && fclose(file) == 0, "the state could not be written");
     must(rename(fresh, path) == 0, "the state could not be put in its place"); /* the old one stays whole until then */
+    sync_folder(path);
     free(fresh);
 }
 
@@ -85,6 +104,96 @@ static int take_up(const char *path, moatbetony_home_t *state)
     return 1;
 }
 
+/* ## The desk */
+
+static void print_figures(const char *label, const moatbetony_home_t *state)
+{
+    moatbetony_home_figures_t figures = moatbetony_home_figures(*state);
+    if (figures.answer.number == MOATBETONY_PASSED)
+        printf("%s: home %llu, far pool %llu\n", label, (unsigned long long)figures.home, (unsigned long long)figures.pool);
+    else
+        printf("%s: refused with %u, %s\n", label, (unsigned)figures.answer.number, moatbetony_refusal_text(figures.answer.number));
+}
+
+/* Whether a record that passed pays the desk the price. One account paying itself, or somebody else, passes too. */
+static int pays_us(const uint8_t *bytes)
+{
+    moatbetony_record_t record = moatbetony_record_read(bytes, MOATBETONY_RECORD_SIZE);
+    int comes_in = record.kind == MOATBETONY_ARRIVAL || (record.kind == MOATBETONY_LOCAL && record.sender != OURS);
+    return record.answer.number == MOATBETONY_PASSED && record.ledger == MOATBETONY_HOME && comes_in && record.receiver == OURS &&
+        record.amount >= PRICE;
+}
+
+/* Takes the bytes that came over the wire, beside what the host's own check of their signature found. That finding goes into byte 24,
+   over what the sender wrote there. Bytes that are not as long as a record are refused as they are. The state is stored before goods
+   are handed over, so that a desk that is started again refuses the same record. */
+static void serve(
+    const char *path, moatbetony_home_t *state, const char *label, const uint8_t *bytes, size_t length, int signature_good)
+{
+    uint8_t own[MOATBETONY_RECORD_SIZE];
+    moatbetony_answer_t answer;
+    if (length == sizeof own) {
+        memcpy(own, bytes, sizeof own);
+        own[24] = signature_good ? MOATBETONY_SIGNATURE_GOOD : MOATBETONY_SIGNATURE_BAD;
+        bytes = own;
+    }
+    answer = moatbetony_home_take(state, bytes, length);
+    if (answer.number != MOATBETONY_PASSED) {
+        printf("%s: refused with %u, %s\n", label, (unsigned)answer.number, moatbetony_refusal_text(answer.number));
+        return;
+    }
+    store(path, state);
+    printf("%s: passed, %s\n", label, pays_us(bytes) ? "handed over" : "but does not pay us the price, nothing handed over");
+}
+
+/* A record as its sender wrote it, who always says that the signature is good. */
+static const uint8_t *wire(uint8_t kind, uint8_t ledger, uint16_t sender, uint16_t receiver, uint64_t number, uint64_t amount)
+{
+    static moatbetony_encoded_t encoded;
+    encoded = moatbetony_record_encode(kind, ledger, sender, receiver, number, amount, MOATBETONY_SIGNATURE_GOOD);
+    must(encoded.answer.number == MOATBETONY_PASSED, "not a record");
+    return encoded.bytes;
+}
+
+static const uint8_t *payment(uint64_t number, uint64_t amount)
+{
+    return wire(MOATBETONY_LOCAL, MOATBETONY_HOME, 0, OURS, number, amount);
+}
+
+static void serve_customers(const char *path, moatbetony_home_t *state)
+{
+    enum { LOCAL = MOATBETONY_LOCAL, SENDING = MOATBETONY_SENDING, ARRIVAL = MOATBETONY_ARRIVAL };
+    enum { HOME = MOATBETONY_HOME, FAR_LEDGER = MOATBETONY_FAR };
+    uint8_t list[2 * MOATBETONY_RECORD_SIZE];
+    moatbetony_answer_t answer;
+
+    serve(path, state, "a payment of 30", payment(1, 30), 32, 1);
+    serve(path, state, "the same record again", payment(1, 30), 32, 1);
+    serve(path, state, "a payment of 500", payment(2, 500), 32, 1);
+    serve(path, state, "a payment to account 9", wire(LOCAL, HOME, 0, 9, 2, 30), 32, 1);
+    serve(path, state, "a payment with a bad signature", payment(2, 30), 32, 0);
+    serve(path, state, "a payment cut off after 31 bytes", payment(2, 30), 31, 1);
+    serve(path, state, "a record of the far ledger", wire(LOCAL, FAR_LEDGER, 0, 0, 2, 30), 32, 1);
+    serve(path, state, "a payment of 1", payment(2, 1), 32, 1);
+    serve(path, state, "a payment to somebody else", wire(LOCAL, HOME, 0, 2, 3, 30), 32, 1);
+    serve(path, state, "a payment of the customer to itself", wire(LOCAL, HOME, 0, 0, 4, 30), 32, 1);
+    serve(path, state, "a payment of our account to itself", wire(LOCAL, HOME, OURS, OURS, 5, 30), 32, 1);
+    serve(path, state, "an arrival of 21, above the far pool of 20", wire(ARRIVAL, HOME, 0, OURS, 6, 21), 32, 1);
+    serve(path, state, "a sending of 30", wire(SENDING, HOME, OURS, 0, 7, 30), 32, 1);
+    serve(path, state, "an arrival of 50, now in the far pool", wire(ARRIVAL, HOME, 0, OURS, 6, 50), 32, 1);
+    serve(path, state, "an arrival of 1 more", wire(ARRIVAL, HOME, 0, OURS, 8, 1), 32, 1);
+
+    /* Two records that the host found good. */
+    memcpy(list, payment(9, 10), 32);
+    memcpy(list + 32, payment(10, 500), 32);
+    list[24] = list[32 + 24] = MOATBETONY_SIGNATURE_GOOD;
+    answer = moatbetony_home_take_list(state, list, sizeof list);
+    printf("a list of 10 and 500: refused with %u at record %llu, nothing of it is kept\n", (unsigned)answer.number,
+        (unsigned long long)answer.place);
+}
+
+/* ## Somebody else's hand on the stored state */
+
 static void raise_a_balance(moatbetony_home_t *state)
 {
     state->balances[0] += 1000;
@@ -97,70 +206,15 @@ static void exchange_balances(moatbetony_home_t *state)
     state->balances[1] = first;
 }
 
-/* ## The desk */
-
-static void print_figures(const char *label, const moatbetony_home_t *state)
+static void leave_records_out(moatbetony_home_t *state)
 {
-    moatbetony_home_figures_t figures = moatbetony_home_figures(*state);
-    if (figures.answer.number == MOATBETONY_PASSED)
-        printf("%s: home %llu, far pool %llu\n", label, (unsigned long long)figures.home, (unsigned long long)figures.pool);
-    else
-        printf("%s: refused with %u, %s\n", label, (unsigned)figures.answer.number, moatbetony_refusal_text(figures.answer.number));
+    state->count = 0;
 }
 
-/* Takes a record as it came over the wire. The state is stored before goods are handed over, so that a desk that is started again
-   refuses the same record. */
-static void serve(const char *path, moatbetony_home_t *state, const char *label, const uint8_t *bytes, size_t length)
-{
-    moatbetony_answer_t answer = moatbetony_home_take(state, bytes, length);
-    if (answer.number != MOATBETONY_PASSED) {
-        printf("%s: refused with %u, %s\n", label, (unsigned)answer.number, moatbetony_refusal_text(answer.number));
-        return;
-    }
-    store(path, state);
-    printf("%s: passed, handed over\n", label);
-}
-
-/* A record that the far end encoded. */
-static const uint8_t *wire(
-    uint8_t kind, uint8_t ledger, uint16_t sender, uint16_t receiver, uint64_t number, uint64_t amount, uint8_t verdict)
-{
-    static moatbetony_encoded_t encoded;
-    encoded = moatbetony_record_encode(kind, ledger, sender, receiver, number, amount, verdict);
-    must(encoded.answer.number == MOATBETONY_PASSED, "not a record");
-    return encoded.bytes;
-}
-
-static void serve_customers(const char *path, moatbetony_home_t *state)
-{
-    enum { LOCAL = MOATBETONY_LOCAL, SENDING = MOATBETONY_SENDING, ARRIVAL = MOATBETONY_ARRIVAL };
-    enum { HOME = MOATBETONY_HOME, FAR_LEDGER = MOATBETONY_FAR };
-    uint8_t list[2 * MOATBETONY_RECORD_SIZE];
-    moatbetony_answer_t answer;
-
-    serve(path, state, "a payment of 30", wire(LOCAL, HOME, 0, 1, 1, 30, 1), 32);
-    serve(path, state, "the same record again", wire(LOCAL, HOME, 0, 1, 1, 30, 1), 32);
-    serve(path, state, "a payment of 500", wire(LOCAL, HOME, 0, 1, 2, 500, 1), 32);
-    serve(path, state, "a payment to account 9", wire(LOCAL, HOME, 0, 9, 2, 30, 1), 32);
-    serve(path, state, "a payment with a bad signature", wire(LOCAL, HOME, 0, 1, 2, 30, 0), 32);
-    serve(path, state, "a payment cut off after 31 bytes", wire(LOCAL, HOME, 0, 1, 2, 30, 1), 31);
-    serve(path, state, "a record of the far ledger", wire(LOCAL, FAR_LEDGER, 0, 0, 2, 30, 1), 32);
-    serve(path, state, "an arrival of 21, above the far pool of 20", wire(ARRIVAL, HOME, 0, 1, 2, 21, 1), 32);
-    serve(path, state, "a sending of 30", wire(SENDING, HOME, 1, 0, 3, 30, 1), 32);
-    serve(path, state, "an arrival of 50, now in the far pool", wire(ARRIVAL, HOME, 0, 1, 2, 50, 1), 32);
-    serve(path, state, "an arrival of 1 more", wire(ARRIVAL, HOME, 0, 1, 4, 1, 1), 32);
-
-    memcpy(list, wire(LOCAL, HOME, 0, 1, 5, 10, 1), 32);
-    memcpy(list + 32, wire(LOCAL, HOME, 0, 1, 6, 500, 1), 32);
-    answer = moatbetony_home_take_list(state, list, sizeof list);
-    printf("a list of 10 and 500: refused with %u at record %llu, nothing of it is kept\n", (unsigned)answer.number,
-        (unsigned long long)answer.place);
-}
-
-/* ## Somebody else's hand on the stored state */
-
-/* Stores a good state, alters it in its file, with a digest made anew or not, and lets the desk take it up and serve a customer. */
-static void tamper(const char *path, const moatbetony_home_t *good, const char *label, void (*change)(moatbetony_home_t *), int with_digest)
+/* Stores a good state, alters it in its file, with a digest made anew or not, and lets the desk take it up and serve a payment of 30
+   under a number. */
+static void tamper(const char *path, const moatbetony_home_t *good, const char *label, void (*change)(moatbetony_home_t *),
+    int with_digest, uint64_t number)
 {
     static uint8_t bytes[FILE_SIZE];
     static moatbetony_home_t state;
@@ -174,14 +228,15 @@ static void tamper(const char *path, const moatbetony_home_t *good, const char *
     write_file(path, bytes);
 
     if (take_up(path, &state))
-        serve(path, &state, label, wire(MOATBETONY_LOCAL, MOATBETONY_HOME, 0, 1, 9, 1, 1), 32);
+        serve(path, &state, label, payment(number, 30), 32, 1);
     else
         printf("%s: the digest differs, not taken up\n", label);
 }
 
 int main(int argc, char **argv)
 {
-    static const uint64_t homes[] = {100, 50};
+    enum { YESTERDAYS = 1, FRESH = 11 };
+    static const uint64_t home_balances[] = {100, 50, 0};
     static moatbetony_home_t state;
     static uint8_t first_file[FILE_SIZE];
     moatbetony_home_outcome_t opened;
@@ -189,7 +244,7 @@ int main(int argc, char **argv)
     must(path != NULL, "usage: desk STATE_FILE");
     must(moatbetony_version() == MOATBETONY_VERSION, "library and header do not belong together");
 
-    opened = moatbetony_home_open(homes, 2, 1, 20);
+    opened = moatbetony_home_open(home_balances, 3, 1, 20);
     must(opened.answer.number == MOATBETONY_PASSED, "the opening was refused");
     state = opened.state;
     store(path, &state);
@@ -201,18 +256,19 @@ int main(int argc, char **argv)
     memset(&state, 0, sizeof state);
     must(take_up(path, &state), "the stored state was not taken up");
     print_figures("the next day, taken up from the file", &state);
-    serve(path, &state, "yesterday's payment of 30 again", wire(MOATBETONY_LOCAL, MOATBETONY_HOME, 0, 1, 1, 30, 1), 32);
+    serve(path, &state, "yesterday's payment of 30 again", payment(YESTERDAYS, 30), 32, 1);
 
-    printf("a payment of 1, after somebody altered the file:\n");
-    tamper(path, &state, "a balance raised", raise_a_balance, 0);
-    tamper(path, &state, "a balance raised, and the digest made anew", raise_a_balance, 1);
-    tamper(path, &state, "two balances exchanged", exchange_balances, 0);
-    tamper(path, &state, "two balances exchanged, and the digest made anew", exchange_balances, 1);
+    printf("a payment of 30, after somebody altered the file:\n");
+    tamper(path, &state, "a balance raised", raise_a_balance, 0, FRESH);
+    tamper(path, &state, "a balance raised, and the digest made anew", raise_a_balance, 1, FRESH);
+    tamper(path, &state, "two balances exchanged", exchange_balances, 0, FRESH);
+    tamper(path, &state, "two balances exchanged, and the digest made anew", exchange_balances, 1, FRESH);
+    tamper(path, &state, "held records left out, and yesterday's payment again", leave_records_out, 0, YESTERDAYS);
+    tamper(path, &state, "held records left out, the digest made anew, and yesterday's payment again", leave_records_out, 1, YESTERDAYS);
     write_file(path, first_file);
     must(take_up(path, &state), "the first file was not taken up");
-    serve(path, &state, "the first file put back, and yesterday's payment of 30 again",
-        wire(MOATBETONY_LOCAL, MOATBETONY_HOME, 0, 1, 1, 30, 1), 32);
-    printf("refusal 3 does not see two balances exchanged, which the digest does.\n"
+    serve(path, &state, "the first file put back, and yesterday's payment again", payment(YESTERDAYS, 30), 32, 1);
+    printf("refusal 3 does not see two balances exchanged or held records left out, which the digest does.\n"
            "neither sees who makes the digest anew or puts an older file back:\n"
            "keep the latest digest where nobody else can write it.\n");
     return 0;

@@ -3,37 +3,51 @@
  *
  * A home ledger, and a far ledger run by people nobody here has met, hand in records of 32 bytes. The pair validator (pair book)
  * sees the records of both in one order; the home validator (guard) sees those of home alone. Every call answers passed, or one
- * refusal with its number and place. Hand goods over on passed and on nothing else:
+ * refusal with its number and place. Hand nothing over on a refusal, and on passed only what the record pays for:
  *
- *     moatbetony_home_outcome_t opened = moatbetony_home_open(balances, accounts, far_accounts, far_total);
+ *     moatbetony_home_outcome_t opened = moatbetony_home_open(home_balances, home_accounts, far_accounts, far_total);
  *     moatbetony_home_t state = opened.state;                                       (after opened.answer was looked at)
+ *     record[24] = signature_good;                                                  (1 or 0, of your own check: SIGNATURES)
  *     moatbetony_answer_t answer = moatbetony_home_take(&state, record, 32);
- *     if (answer.number == MOATBETONY_PASSED) ...
+ *     if (answer.number == MOATBETONY_PASSED) ...                                   (store the state, then see whom it pays: PASSED)
  *     else puts(moatbetony_refusal_text(answer.number));
  *
- * ARGUMENTS   The state comes first, then bytes with their length, then numbers in the order of the record or block format. In the
- *             writer the output comes first. A length counts items: bytes, or numbers of 64 bits.
+ * ARGUMENTS   The state comes first, then bytes with their length, then numbers: a record's fields in the order of its format; of a
+ *             block its number, the count before, the place. The writer alone has output, number, kind and then the items. A length
+ *             counts items: bytes, or numbers of 64 bits.
+ * SIGNATURES  are not checked here. Byte 24 of a record says what the caller's own check of its signature found (1 good, 0 bad). Write
+ *             it yourself, over whatever came in, before the record is handed in: a record whose byte 24 its sender wrote is one that
+ *             nobody has checked.
+ * ANSWERS     "Answers 3, 22" in a comment lists all refusals of a call, in their order; where none applies it passes, with number 0
+ *             and place 0.
+ * PASSED      says that the record is in order and its credit has moved. Whether it pays you, and enough, you read with
+ *             moatbetony_record_read: a local or an arrival on home, to your account, from another one if it is a local, of the price.
  * STATES      are plain numbers, passed and handed back by value. A call neither keeps nor alters the caller's copy: go on with
  *             `outcome.state`, or use the helpers at the end, which store it back. A refused call hands the state back as it came, and
  *             a refused write leaves the output as it came.
- * STORING     A stored state may be damaged or forged: every call judges its state first (refusal 3). What 3 does not see, as two
- *             balances exchanged or an older state put back, is accepted: keep the latest digest of a stored state where nobody else
- *             can write it. Store a new state before goods are handed over on it. A state is stored with moatbetony_state_version,
- *             and taken up under no other.
- * ANY INPUT   is taken: damaged bytes, wrong lengths, forged states. Nothing needs to be checked before a call. What a caller owes is
- *             what C asks of every buffer: so many items can be read there (written, for the output), 64-bit numbers stand aligned,
- *             output and items do not overlap, and nobody writes to them during the call. NULL is allowed where the length is 0.
- * THREADS     No global data, no allocation, no input or output, no locks: any number of threads may call at once. A state belongs to
- *             one caller at a time; threads that share one keep a lock of their own around taking a record and storing the state.
+ * STORING     A stored state may be damaged or forged: every call judges its state first (refusal 3). 3 says that a state's numbers fit
+ *             together, and no more. It does not see two balances exchanged, a balance raised together with the supply (home: or at the
+ *             far pool's cost), held records left out, so that they pass again, or an older state put back. Keep the latest digest of a
+ *             stored state where nobody else can write it, and compare it before the state is taken up. Store a new state before goods
+ *             are handed over on it. A state is stored with moatbetony_state_version, and taken up under no other.
+ * ANY INPUT   is taken: damaged bytes, wrong lengths, forged states. But for the signature, nothing needs to be checked before a call.
+ *             What a caller owes is what C asks of every buffer: so many items can be read there (written, for the output), 64-bit
+ *             numbers stand aligned, output and items do not overlap, and nobody writes to them during the call. NULL is allowed where
+ *             the length is 0.
+ * THREADS     No data that is written, no allocation, no input or output, no locks: any number of threads may call at once. A state
+ *             belongs to one caller at a time; threads that share one keep a lock of their own around taking a record and storing the
+ *             state.
  * STACK       A call needs at most MOATBETONY_STACK_PAIR bytes with a pair state, MOATBETONY_STACK_HOME with a home state and
  *             MOATBETONY_STACK_OTHER without one, its arguments and its result included. Measured, not proved. The library touches
  *             its frames page by page, so that too small a stack ends at its guard page; -fstack-clash-protection does so for a caller's.
  * SIZES       sizeof(moatbetony_pair_t) is 24,488 and sizeof(moatbetony_home_t) 12,264. Neither has padding, so that their bytes can
- *             be stored, hashed and compared.
+ *             be stored, hashed and compared. All structs that hold an answer have padding: compare their fields, and store or hash
+ *             states alone.
  * PLATFORM    x86-64 Linux with the System V calling convention and glibc; little-endian, 64-bit size_t. C99 or later, C++11 or later.
  *             The library needs memcpy and memset, and nothing else.
- * REFUSALS    Numbers and their meanings never change: a number is never given to anything else. Later versions may add numbers, also
- *             for a part of what an older one told. So take every number but 0 as a refusal, known or not (docs/REFUSALS.md).
+ * REFUSALS    A number keeps its subject and is never given to another. When it is given may change with the rules of a later version,
+ *             and a later version may add numbers, also for a part of what an older one told; CHANGELOG.md names each. So take every
+ *             number but 0 as a refusal, known or not (REFUSALS.md of the documentation).
  * PROOFS      cover the library's functions, for every input. They do not cover this header, its inline helpers or the caller's code.
  */
 #ifndef MOATBETONY_H
@@ -80,7 +94,7 @@ extern "C" {
 /* The most credit that both ledgers hold, and the most that a record moves: 2^63-1. */
 #define MOATBETONY_MAX_SUPPLY UINT64_C(9223372036854775807)
 
-/* The stack that a call needs, in bytes, arguments and result included (tests/stack.c). */
+/* The stack that a call needs, in bytes, arguments and result included. */
 #define MOATBETONY_STACK_PAIR 163840
 #define MOATBETONY_STACK_HOME 65536
 #define MOATBETONY_STACK_OTHER 4096
@@ -98,7 +112,7 @@ enum moatbetony_kind {
     MOATBETONY_ARRIVAL = 3  /* the receiver's account on the record's ledger, the sender's on the other */
 };
 
-/* What the host found of a record's signature. */
+/* What the caller's own check found of a record's signature: byte 24. */
 enum moatbetony_verdict {
     MOATBETONY_SIGNATURE_BAD = 0,
     MOATBETONY_SIGNATURE_GOOD = 1
@@ -111,7 +125,7 @@ enum moatbetony_block_kind {
     MOATBETONY_BLOCK_RECORDS = 3
 };
 
-/* An answer's number: passed, or the refusal (docs/REFUSALS.md). */
+/* An answer's number: passed, or the refusal (REFUSALS.md of the documentation). */
 enum moatbetony_refusal {
     MOATBETONY_PASSED = 0,
     /* caused by the maker who calls */
@@ -152,7 +166,7 @@ typedef struct moatbetony_answer {
    balances (56 and 56), and in each column (512 entries and 512), of which a held record is one entry. Entries at or beyond the count
    are not looked at. */
 typedef struct moatbetony_pair {
-    uint64_t supply; /* the credit of both ledgers at opening (document 01: stake) */
+    uint64_t supply; /* the credit of both ledgers at opening (the networks' word: stake) */
     size_t accounts[2];
     size_t counts[2];
     uint64_t balances[112];
@@ -167,11 +181,11 @@ typedef struct moatbetony_pair {
 
 /* The home validator's state. A held record is one entry of each column. Entries at or beyond the count are not looked at. */
 typedef struct moatbetony_home {
-    uint64_t supply; /* home balances and far total at opening (document 01: stake) */
+    uint64_t supply; /* home balances and far total at opening (the networks' word: stake) */
     uint64_t pool;   /* the far pool (far due): far total at opening, plus what home has sent, less what has arrived */
-    size_t homes;    /* the number of home accounts */
-    size_t fars;     /* the number of far accounts */
-    size_t count;    /* the number of held records */
+    size_t home_accounts;
+    size_t far_accounts;
+    size_t count; /* the number of held records */
     uint64_t balances[56];
     uint64_t numbers[512];
     uint64_t amounts[512];
@@ -272,7 +286,7 @@ uint32_t moatbetony_state_version(void);
 /* Opens with the balances of each ledger, one for each account from 0. Answers 1, 2, in this order, place 0; beside a refusal stands
    the state of zeros, which every call refuses with 3. */
 MOATBETONY_MUST_USE moatbetony_pair_outcome_t moatbetony_pair_open(
-    const uint64_t *homes, size_t homes_len, const uint64_t *fars, size_t fars_len);
+    const uint64_t *home_balances, size_t home_balances_len, const uint64_t *far_balances, size_t far_balances_len);
 
 /* Checks one record, and moves its credit if it passes. Other than 32 bytes is 21. Answers 3, 21 to 25, 31, 41, place 0; beside a
    refusal stands the state as it came. */
@@ -297,16 +311,16 @@ MOATBETONY_MUST_USE moatbetony_balance_t moatbetony_pair_balance(moatbetony_pair
 /* Opens with the home balances, one for each account from 0, the number of far accounts and their total. Answers 1, 2, in this order,
    place 0; beside a refusal stands the state of zeros, which every call refuses with 3. */
 MOATBETONY_MUST_USE moatbetony_home_outcome_t moatbetony_home_open(
-    const uint64_t *homes, size_t homes_len, size_t fars, uint64_t far_total);
+    const uint64_t *home_balances, size_t home_balances_len, size_t far_accounts, uint64_t far_total);
 
-/* Checks one home record, and moves its credit if it passes. Other than 32 bytes is 21. Answers 3, 21 to 25, 32, 33, 41, place 0;
+/* Checks one home record, and moves its credit if it passes. Other than 32 bytes is 21. Answers 3, 21, 33, 22 to 25, 32, 41, place 0;
    beside a refusal stands the state as it came. */
 MOATBETONY_MUST_USE moatbetony_home_outcome_t moatbetony_home_check_record(
     moatbetony_home_t state, const uint8_t *bytes, size_t bytes_len);
 
 /* Checks a list of home records, 32 bytes each, all or none. Bytes left over at the end are a record that is too short: 21. An empty
-   list passes. Answers 3 (place 0), 21 to 25, 32, 33, 41 with the index of the first refused record; beside a refusal stands the state
-   from before the list. */
+   list passes. Answers 3 (place 0), 21, 33, 22 to 25, 32, 41 with the index of the first refused record; beside a refusal stands the
+   state from before the list. */
 MOATBETONY_MUST_USE moatbetony_home_outcome_t moatbetony_home_check_list(
     moatbetony_home_t state, const uint8_t *bytes, size_t bytes_len);
 
@@ -318,7 +332,8 @@ MOATBETONY_MUST_USE moatbetony_balance_t moatbetony_home_balance(moatbetony_home
 
 /* ## Records */
 
-/* Reads 32 bytes. Answers 21, with zeros. Whether accounts and number are in order is the validators' question. */
+/* Reads 32 bytes. Answers 21, with zeros. Whether accounts and number are in order is the validators' question. The verdict it gives is
+   byte 24 as it stands: SIGNATURES above. */
 MOATBETONY_MUST_USE moatbetony_record_t moatbetony_record_read(const uint8_t *bytes, size_t bytes_len);
 
 /* The 32 bytes of a record. Answers 21 where they would not read as a record, with zeros. */
@@ -326,31 +341,32 @@ MOATBETONY_MUST_USE moatbetony_encoded_t moatbetony_record_encode(
     uint8_t kind, uint8_t ledger, uint16_t sender, uint16_t receiver, uint64_t number, uint64_t amount, uint8_t verdict);
 
 /* ## The journal
-   Blocks of 512 bytes. k is the number of the block that is wanted, from 0. `before` is the count of items of the block before it; it
-   is not looked at for blocks 0 to 2. The place of every refusal is k. A missing block is one of length 0. */
+   Blocks of 512 bytes. `number` is that of the block that is wanted, from 0. `before` is the count of items of the block before it; it
+   is not looked at for blocks 0 to 2. The place of every refusal is `number`. A missing block is one of length 0. */
 
 /* Judges a block. Answers 11, 12, 13, 14, in this order. It does not judge the records in it. */
-MOATBETONY_MUST_USE moatbetony_answer_t moatbetony_block_judge(const uint8_t *block, size_t block_len, uint64_t k, uint64_t before);
+MOATBETONY_MUST_USE moatbetony_answer_t moatbetony_block_judge(const uint8_t *block, size_t block_len, uint64_t number, uint64_t before);
 
 /* Judges a block and the place, from 0, at which a record of it is wanted. Answers 11 to 14, then 4 where it has no record there. */
 MOATBETONY_MUST_USE moatbetony_answer_t moatbetony_block_judge_record(
-    const uint8_t *block, size_t block_len, uint64_t k, uint64_t before, uint64_t place);
+    const uint8_t *block, size_t block_len, uint64_t number, uint64_t before, uint64_t place);
 
 /* Where the record at a place stands in the block: nothing is copied. Answers as moatbetony_block_judge_record; beside a refusal start
    and length are 0. */
 MOATBETONY_MUST_USE moatbetony_part_t moatbetony_block_record(
-    const uint8_t *block, size_t block_len, uint64_t k, uint64_t before, uint64_t place);
+    const uint8_t *block, size_t block_len, uint64_t number, uint64_t before, uint64_t place);
 
 /* How many items a block holds: `before` of the next one. Answers as moatbetony_block_judge; beside a refusal the count is 0. */
-MOATBETONY_MUST_USE moatbetony_count_t moatbetony_block_count(const uint8_t *block, size_t block_len, uint64_t k, uint64_t before);
+MOATBETONY_MUST_USE moatbetony_count_t moatbetony_block_count(const uint8_t *block, size_t block_len, uint64_t number, uint64_t before);
 
-/* The opening balances in block 0 or 1. Answers 11 to 14, then 4 where k is 2 or more, with zeros. */
-MOATBETONY_MUST_USE moatbetony_balances_t moatbetony_block_balances(const uint8_t *block, size_t block_len, uint64_t k, uint64_t before);
+/* The opening balances in block 0 or 1. Answers 11 to 14, then 4 where the number is 2 or more, with zeros. */
+MOATBETONY_MUST_USE moatbetony_balances_t moatbetony_block_balances(
+    const uint8_t *block, size_t block_len, uint64_t number, uint64_t before);
 
-/* Writes block k of a kind into 512 bytes: 1 to 56 balances of 8 bytes, highest byte first, or 1 to 14 records of 32 bytes, which are
-   not judged. Answers 4; a refusal leaves the output as it came. */
+/* Writes the block of a number and kind into 512 bytes: 1 to 56 balances of 8 bytes, highest byte first, or 1 to 14 records of 32
+   bytes, which are not judged. Answers 4; a refusal leaves the output as it came. */
 MOATBETONY_MUST_USE moatbetony_answer_t moatbetony_block_write(
-    uint8_t *out, size_t out_len, uint64_t k, uint8_t kind, const uint8_t *items, size_t items_len);
+    uint8_t *out, size_t out_len, uint64_t number, uint8_t kind, const uint8_t *items, size_t items_len);
 
 /* ## Digest */
 
@@ -448,8 +464,8 @@ MOATBETONY_ASSERT(offsetof(moatbetony_pair_t, ledgers) == 22440);
 MOATBETONY_ASSERT(offsetof(moatbetony_pair_t, verdicts) == 23464);
 MOATBETONY_ASSERT(sizeof(moatbetony_home_t) == 12264);
 MOATBETONY_ASSERT(offsetof(moatbetony_home_t, pool) == 8);
-MOATBETONY_ASSERT(offsetof(moatbetony_home_t, homes) == 16);
-MOATBETONY_ASSERT(offsetof(moatbetony_home_t, fars) == 24);
+MOATBETONY_ASSERT(offsetof(moatbetony_home_t, home_accounts) == 16);
+MOATBETONY_ASSERT(offsetof(moatbetony_home_t, far_accounts) == 24);
 MOATBETONY_ASSERT(offsetof(moatbetony_home_t, count) == 32);
 MOATBETONY_ASSERT(offsetof(moatbetony_home_t, balances) == 40);
 MOATBETONY_ASSERT(offsetof(moatbetony_home_t, numbers) == 488);

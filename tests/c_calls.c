@@ -1,12 +1,14 @@
 /* Calls every export and helper of moatbetony.h with good and bad input: the cases of document 01 at this boundary, wrong lengths, NULL
    with length 0, forged states, refused writes. Arguments are chosen so that a wrong width or order in the header shows. Records
-   and blocks are made here by hand, and not by the calls under test. The last line is 'N checks, 0 failed'. */
+   and blocks are made here by hand, and not by the calls under test. Bytes are lent where they end at a page that nobody may touch. The
+   last line is 'N checks, 0 failed'. */
 #ifndef _GNU_SOURCE
 #define _GNU_SOURCE
 #endif
 #include <moatbetony.h>
 
 #include <stdio.h>
+#include <stdlib.h>
 #include <string.h>
 #include <sys/mman.h>
 
@@ -95,6 +97,43 @@ static int all_zero(const void *start, size_t size)
     return size == 0;
 }
 
+/* ## Bytes to lend */
+
+/* Memory of so many bytes that ends where a page begins that nobody may touch, so that a call that reads or writes on ends the test. The
+   library is not instrumented: the sanitizers see what its callers do. */
+static uint8_t *guarded(size_t length)
+{
+    enum { PAGE = 4096 };
+    size_t size = (length + PAGE - 1) / PAGE * PAGE;
+    uint8_t *start = (uint8_t *)mmap(NULL, size + PAGE, PROT_READ | PROT_WRITE, MAP_PRIVATE | MAP_ANONYMOUS, -1, 0);
+    if (start == (uint8_t *)MAP_FAILED || mprotect(start + size, PAGE, PROT_NONE) != 0) {
+        printf("FAILED: no memory with a page after it that nobody may touch\n");
+        exit(1);
+    }
+    return start + size - length;
+}
+
+/* A copy of bytes at the end of such memory. It stays while three more are lent. */
+static const uint8_t *lent(const void *bytes, size_t length)
+{
+    enum { SLOTS = 4, ROOM = 1 << 20 };
+    static uint8_t *ends[SLOTS];
+    static int next;
+    uint8_t *copy;
+    if (bytes == NULL)
+        return NULL;
+    next = (next + 1) % SLOTS;
+    if (ends[next] == NULL)
+        ends[next] = guarded(ROOM) + ROOM;
+    copy = ends[next] - length;
+    memcpy(copy, bytes, length);
+    return copy;
+}
+
+/* As arguments: bytes, or numbers, and how many. */
+#define BYTES(bytes, length) lent(bytes, length), length
+#define NUMBERS(numbers, count) (const uint64_t *)lent(numbers, 8 * (count)), count
+
 /* ## Version and texts */
 
 static void versions(void)
@@ -118,7 +157,7 @@ static void versions(void)
 
 static void unread(bytes32 r, int line)
 {
-    moatbetony_record_t told = moatbetony_record_read(r.at, sizeof r.at);
+    moatbetony_record_t told = moatbetony_record_read(BYTES(r.at, sizeof r.at));
     check_answer(told.answer, 21, 0, line);
     check(told.kind == 0 && told.ledger == 0 && told.sender == 0 && told.receiver == 0 && told.number == 0 && told.amount == 0 &&
             told.verdict == 0, "zeros beside 21", line);
@@ -133,7 +172,7 @@ static void unencoded(moatbetony_encoded_t told, int line)
 static moatbetony_answer_t read_with(bytes32 r, int at, int value)
 {
     r.at[at] = (uint8_t)value;
-    return moatbetony_record_read(r.at, sizeof r.at).answer;
+    return moatbetony_record_read(BYTES(r.at, sizeof r.at)).answer;
 }
 
 static void records(void)
@@ -143,7 +182,7 @@ static void records(void)
     int i;
     moatbetony_encoded_t e =
         moatbetony_record_encode(2, 1, 0x0203, 0x0405, UINT64_C(0x060708090a0b0c0d), UINT64_C(0x0e0f101112131415), 1);
-    moatbetony_record_t t = moatbetony_record_read(r.at, 32);
+    moatbetony_record_t t = moatbetony_record_read(BYTES(r.at, 32));
     ANSWER(e.answer, 0, 0);
     CHECK(memcmp(e.bytes, r.at, 32) == 0);
     ANSWER(t.answer, 0, 0);
@@ -164,7 +203,7 @@ static void records(void)
     r = rec(3, 0, 0xffff, 0xfffe, UINT64_MAX, MAX, 0);
     ANSWER(e.answer, 0, 0);
     CHECK(memcmp(e.bytes, r.at, 32) == 0);
-    t = moatbetony_record_read(e.bytes, 32);
+    t = moatbetony_record_read(BYTES(e.bytes, 32));
     ANSWER(t.answer, 0, 0);
     CHECK(t.kind == MOATBETONY_ARRIVAL && t.ledger == MOATBETONY_HOME && t.sender == 0xffff && t.receiver == 0xfffe);
     CHECK(t.number == UINT64_MAX && t.amount == MAX && t.verdict == 0);
@@ -182,9 +221,9 @@ static void records(void)
 
     memcpy(longer, r.at, 32);
     longer[32] = 0;
-    ANSWER(moatbetony_record_read(longer, 33).answer, 21, 0);
-    ANSWER(moatbetony_record_read(longer, 31).answer, 21, 0);
-    ANSWER(moatbetony_record_read(longer, 0).answer, 21, 0);
+    ANSWER(moatbetony_record_read(BYTES(longer, 33)).answer, 21, 0);
+    ANSWER(moatbetony_record_read(BYTES(longer, 31)).answer, 21, 0);
+    ANSWER(moatbetony_record_read(BYTES(longer, 0)).answer, 21, 0);
     ANSWER(moatbetony_record_read(NULL, 0).answer, 21, 0);
 }
 
@@ -195,7 +234,7 @@ static const uint64_t FARS[1] = {20};
 
 static moatbetony_pair_t pair_opened(void)
 {
-    moatbetony_pair_outcome_t o = moatbetony_pair_open(HOMES, 2, FARS, 1);
+    moatbetony_pair_outcome_t o = moatbetony_pair_open(NUMBERS(HOMES, 2), NUMBERS(FARS, 1));
     ANSWER(o.answer, 0, 0);
     return o.state;
 }
@@ -218,8 +257,8 @@ static void pair_balance_is(const moatbetony_pair_t *s, int ledger, unsigned acc
 static void pair_one(moatbetony_pair_t *s, bytes32 r, uint32_t number, int line)
 {
     moatbetony_pair_t before = *s, by_helper = *s, by_list_helper = *s;
-    moatbetony_pair_outcome_t one = moatbetony_pair_check_record(*s, r.at, 32);
-    moatbetony_pair_outcome_t list = moatbetony_pair_check_list(*s, r.at, 32);
+    moatbetony_pair_outcome_t one = moatbetony_pair_check_record(*s, BYTES(r.at, 32));
+    moatbetony_pair_outcome_t list = moatbetony_pair_check_list(*s, BYTES(r.at, 32));
     check(memcmp(s, &before, sizeof before) == 0, "the caller's copy is not altered", line);
     check_answer(one.answer, number, 0, line);
     check_answer(list.answer, number, 0, line);
@@ -228,8 +267,8 @@ static void pair_one(moatbetony_pair_t *s, bytes32 r, uint32_t number, int line)
         check(memcmp(&one.state, &before, sizeof before) == 0, "refused: state as it came", line);
     else
         check(memcmp(&one.state, &before, sizeof before) != 0, "passed: state moves on", line);
-    check_answer(moatbetony_pair_take(&by_helper, r.at, 32), number, 0, line);
-    check_answer(moatbetony_pair_take_list(&by_list_helper, r.at, 32), number, 0, line);
+    check_answer(moatbetony_pair_take(&by_helper, BYTES(r.at, 32)), number, 0, line);
+    check_answer(moatbetony_pair_take_list(&by_list_helper, BYTES(r.at, 32)), number, 0, line);
     check(memcmp(&by_helper, &one.state, sizeof before) == 0, "helper stores the state", line);
     check(memcmp(&by_list_helper, &one.state, sizeof before) == 0, "list helper stores the state", line);
     *s = one.state;
@@ -246,7 +285,7 @@ static void pair_openings(void)
     for (i = 0; i < 57; i++)
         many[i] = 1000 + i;
 
-    o = moatbetony_pair_open(many, 2, many + 10, 3);
+    o = moatbetony_pair_open(NUMBERS(many, 2), NUMBERS(many + 10, 3));
     ANSWER(o.answer, 0, 0);
     CHECK(o.state.supply == 1000 + 1001 + 1010 + 1011 + 1012);
     CHECK(o.state.accounts[0] == 2 && o.state.accounts[1] == 3 && o.state.counts[0] == 0 && o.state.counts[1] == 0);
@@ -255,11 +294,11 @@ static void pair_openings(void)
     CHECK(all_zero(o.state.numbers, sizeof o.state - offsetof(moatbetony_pair_t, numbers)));
 
     /* Case 14, on both ledgers; nothing at all. */
-    ANSWER(moatbetony_pair_open(many, 56, many, 56).answer, 0, 0);
-    ANSWER(moatbetony_pair_open(many, 57, many, 56).answer, 1, 0);
-    ANSWER(moatbetony_pair_open(many, 56, many, 57).answer, 1, 0);
-    ANSWER(moatbetony_pair_open(NULL, 0, many, 1).answer, 1, 0);
-    ANSWER(moatbetony_pair_open(many, 1, NULL, 0).answer, 1, 0);
+    ANSWER(moatbetony_pair_open(NUMBERS(many, 56), NUMBERS(many, 56)).answer, 0, 0);
+    ANSWER(moatbetony_pair_open(NUMBERS(many, 57), NUMBERS(many, 56)).answer, 1, 0);
+    ANSWER(moatbetony_pair_open(NUMBERS(many, 56), NUMBERS(many, 57)).answer, 1, 0);
+    ANSWER(moatbetony_pair_open(NULL, 0, NUMBERS(many, 1)).answer, 1, 0);
+    ANSWER(moatbetony_pair_open(NUMBERS(many, 1), NULL, 0).answer, 1, 0);
     o = moatbetony_pair_open(NULL, 0, NULL, 0);
     ANSWER(o.answer, 1, 0);
     CHECK(all_zero(&o.state, sizeof o.state));
@@ -268,16 +307,16 @@ static void pair_openings(void)
     /* Case 12; sums that pass 64 bits; 1 before 2. */
     large[0] = MAX;
     large[1] = 0;
-    ANSWER(moatbetony_pair_open(large, 1, large + 1, 1).answer, 0, 0);
-    ANSWER(moatbetony_pair_open(large + 1, 1, large, 1).answer, 0, 0);
+    ANSWER(moatbetony_pair_open(NUMBERS(large, 1), NUMBERS(large + 1, 1)).answer, 0, 0);
+    ANSWER(moatbetony_pair_open(NUMBERS(large + 1, 1), NUMBERS(large, 1)).answer, 0, 0);
     large[1] = 1;
-    o = moatbetony_pair_open(large, 1, large + 1, 1);
+    o = moatbetony_pair_open(NUMBERS(large, 1), NUMBERS(large + 1, 1));
     ANSWER(o.answer, 2, 0);
     CHECK(all_zero(&o.state, sizeof o.state));
     large[0] = UINT64_MAX;
-    ANSWER(moatbetony_pair_open(large, 1, large + 1, 1).answer, 2, 0);
-    ANSWER(moatbetony_pair_open(large + 1, 1, large, 2).answer, 2, 0);
-    ANSWER(moatbetony_pair_open(large, 2, NULL, 0).answer, 1, 0);
+    ANSWER(moatbetony_pair_open(NUMBERS(large, 1), NUMBERS(large + 1, 1)).answer, 2, 0);
+    ANSWER(moatbetony_pair_open(NUMBERS(large + 1, 1), NUMBERS(large, 2)).answer, 2, 0);
+    ANSWER(moatbetony_pair_open(NUMBERS(large, 2), NULL, 0).answer, 1, 0);
 }
 
 static void pair_cases(void)
@@ -328,7 +367,7 @@ static void pair_cases(void)
 static void pair_columns(void)
 {
     static const uint64_t homes[3] = {1000, 2000, 3000}, fars[4] = {10, 20, 30, 40};
-    moatbetony_pair_t s = moatbetony_pair_open(homes, 3, fars, 4).state;
+    moatbetony_pair_t s = moatbetony_pair_open(NUMBERS(homes, 3), NUMBERS(fars, 4)).state;
     PAIR(s, local(0, 0, 1, 0x1122334455667788, 1), 0);
     PAIR(s, sending(0, 2, 3, UINT64_C(0xfedcba9876543210), 300), 0);
     PAIR(s, arrival(1, 2, 3, UINT64_C(0xfedcba9876543210), 300), 0);
@@ -376,29 +415,29 @@ static void pair_lists(void)
     SAME(s, before);
     for (length = 1; length <= 129; length++) {
         uint32_t wanted = length % 32 == 0 ? 0 : 21;
-        o = moatbetony_pair_check_list(before, list, length);
+        o = moatbetony_pair_check_list(before, BYTES(list, length));
         ANSWER(o.answer, wanted, wanted == 0 ? 0 : length / 32);
         if (wanted != 0)
             SAME(o.state, before);
     }
-    o = moatbetony_pair_check_list(before, list, 128);
+    o = moatbetony_pair_check_list(before, BYTES(list, 128));
     pair_figures_are(&o.state, 165, 5, 0, __LINE__);
-    ANSWER(moatbetony_pair_take_list(&s, list, 128), 0, 0);
+    ANSWER(moatbetony_pair_take_list(&s, BYTES(list, 128)), 0, 0);
     SAME(s, o.state);
 
     /* A refusal in the middle keeps nothing of the list. */
     r[2] = sending(1, 0, 1, 8, 51);
     memcpy(list, r, 128);
     s = before;
-    ANSWER(moatbetony_pair_take_list(&s, list, 128), 25, 2);
+    ANSWER(moatbetony_pair_take_list(&s, BYTES(list, 128)), 25, 2);
     SAME(s, before);
-    ANSWER(moatbetony_pair_take_list(&s, list + 32, 96), 31, 0);
+    ANSWER(moatbetony_pair_take_list(&s, BYTES(list + 32, 96)), 31, 0);
     SAME(s, before);
 
     /* One record is never cut out of more bytes. */
-    ANSWER(moatbetony_pair_take(&s, list, 64), 21, 0);
-    ANSWER(moatbetony_pair_take(&s, list, 31), 21, 0);
-    ANSWER(moatbetony_pair_take(&s, list, 0), 21, 0);
+    ANSWER(moatbetony_pair_take(&s, BYTES(list, 64)), 21, 0);
+    ANSWER(moatbetony_pair_take(&s, BYTES(list, 31)), 21, 0);
+    ANSWER(moatbetony_pair_take(&s, BYTES(list, 0)), 21, 0);
     ANSWER(moatbetony_pair_take(&s, NULL, 0), 21, 0);
     SAME(s, before);
 }
@@ -408,14 +447,14 @@ static void pair_forged(const moatbetony_pair_t *forged, int line)
 {
     moatbetony_pair_t s = *forged;
     bytes32 r = local(0, 0, 0, 99, 1);
-    moatbetony_pair_outcome_t o = moatbetony_pair_check_record(s, r.at, 32);
+    moatbetony_pair_outcome_t o = moatbetony_pair_check_record(s, BYTES(r.at, 32));
     moatbetony_pair_figures_t f = moatbetony_pair_figures(s);
     moatbetony_balance_t b = moatbetony_pair_balance(s, 0, 0);
     check_answer(o.answer, 3, 0, line);
     check(memcmp(&o.state, forged, sizeof s) == 0, "state as it came", line);
     o = moatbetony_pair_check_record(s, NULL, 0);
     check_answer(o.answer, 3, 0, line);
-    o = moatbetony_pair_check_list(s, r.at, 32);
+    o = moatbetony_pair_check_list(s, BYTES(r.at, 32));
     check_answer(o.answer, 3, 0, line);
     check(memcmp(&o.state, forged, sizeof s) == 0, "state as it came", line);
     o = moatbetony_pair_check_list(s, NULL, 0);
@@ -425,8 +464,8 @@ static void pair_forged(const moatbetony_pair_t *forged, int line)
     check_answer(b.answer, 3, 0, line);
     check(b.balance == 0, "zero beside 3", line);
     check_answer(moatbetony_pair_balance(s, 9, 0).answer, 3, 0, line);
-    check_answer(moatbetony_pair_take(&s, r.at, 32), 3, 0, line);
-    check_answer(moatbetony_pair_take_list(&s, r.at, 32), 3, 0, line);
+    check_answer(moatbetony_pair_take(&s, BYTES(r.at, 32)), 3, 0, line);
+    check_answer(moatbetony_pair_take_list(&s, BYTES(r.at, 32)), 3, 0, line);
     check(memcmp(&s, forged, sizeof s) == 0, "state as it came", line);
 }
 
@@ -498,6 +537,15 @@ static void pair_states(void)
     PAIR(odd, local(0, 0, 1, 10, 1), 0);
     CHECK(odd.counts[0] == 3 && odd.numbers[2] == 10 && odd.verdicts[2] == 1);
     CHECK(odd.numbers[3] == UINT64_C(0xaaaaaaaaaaaaaaaa) && odd.kinds[514] == 0xaa && odd.verdicts[3] == 0xaa);
+    /* A balance raised together with the supply; a held record left out, which passes again. */
+    odd = good;
+    odd.balances[0] += 5;
+    odd.supply += 5;
+    pair_figures_are(&odd, 125, 48, 2, __LINE__);
+    odd = good;
+    PAIR(odd, local(0, 0, 1, 8, 5), 24);
+    odd.counts[0] = 1;
+    PAIR(odd, local(0, 0, 1, 8, 5), 0);
 }
 
 /* Case 13, on both ledgers. */
@@ -509,7 +557,7 @@ static void pair_full(void)
     for (l = 0; l < 2; l++) {
         for (i = 0; i < 512; i++) {
             bytes32 r = local(l, 0, 0, 1000 + i, 1);
-            ANSWER(moatbetony_pair_take(&s, r.at, 32), 0, 0);
+            ANSWER(moatbetony_pair_take(&s, BYTES(r.at, 32)), 0, 0);
         }
         CHECK(s.counts[l] == 512);
         PAIR(s, local(l, 0, 0, 1000 + 512, 1), 41);
@@ -524,7 +572,7 @@ static void pair_full(void)
 
 static moatbetony_home_t home_opened(void)
 {
-    moatbetony_home_outcome_t o = moatbetony_home_open(HOMES, 2, 1, 20);
+    moatbetony_home_outcome_t o = moatbetony_home_open(NUMBERS(HOMES, 2), 1, 20);
     ANSWER(o.answer, 0, 0);
     return o.state;
 }
@@ -547,8 +595,8 @@ static void home_balance_is(const moatbetony_home_t *s, unsigned account, uint64
 static void home_one(moatbetony_home_t *s, bytes32 r, uint32_t number, int line)
 {
     moatbetony_home_t before = *s, by_helper = *s, by_list_helper = *s;
-    moatbetony_home_outcome_t one = moatbetony_home_check_record(*s, r.at, 32);
-    moatbetony_home_outcome_t list = moatbetony_home_check_list(*s, r.at, 32);
+    moatbetony_home_outcome_t one = moatbetony_home_check_record(*s, BYTES(r.at, 32));
+    moatbetony_home_outcome_t list = moatbetony_home_check_list(*s, BYTES(r.at, 32));
     check(memcmp(s, &before, sizeof before) == 0, "the caller's copy is not altered", line);
     check_answer(one.answer, number, 0, line);
     check_answer(list.answer, number, 0, line);
@@ -557,8 +605,8 @@ static void home_one(moatbetony_home_t *s, bytes32 r, uint32_t number, int line)
         check(memcmp(&one.state, &before, sizeof before) == 0, "refused: state as it came", line);
     else
         check(memcmp(&one.state, &before, sizeof before) != 0, "passed: state moves on", line);
-    check_answer(moatbetony_home_take(&by_helper, r.at, 32), number, 0, line);
-    check_answer(moatbetony_home_take_list(&by_list_helper, r.at, 32), number, 0, line);
+    check_answer(moatbetony_home_take(&by_helper, BYTES(r.at, 32)), number, 0, line);
+    check_answer(moatbetony_home_take_list(&by_list_helper, BYTES(r.at, 32)), number, 0, line);
     check(memcmp(&by_helper, &one.state, sizeof before) == 0, "helper stores the state", line);
     check(memcmp(&by_list_helper, &one.state, sizeof before) == 0, "list helper stores the state", line);
     *s = one.state;
@@ -573,29 +621,30 @@ static void home_openings(void)
     size_t i;
     for (i = 0; i < 57; i++)
         many[i] = 1000 + i;
-    o = moatbetony_home_open(many, 2, 3, WIDE + 4);
+    o = moatbetony_home_open(NUMBERS(many, 2), 3, WIDE + 4);
     ANSWER(o.answer, 0, 0);
-    CHECK(o.state.supply == WIDE + 2005 && o.state.pool == WIDE + 4 && o.state.homes == 2 && o.state.fars == 3 && o.state.count == 0);
+    CHECK(o.state.supply == WIDE + 2005 && o.state.pool == WIDE + 4 && o.state.count == 0);
+    CHECK(o.state.home_accounts == 2 && o.state.far_accounts == 3);
     CHECK(o.state.balances[0] == 1000 && o.state.balances[1] == 1001);
     CHECK(all_zero(o.state.balances + 2, sizeof o.state - offsetof(moatbetony_home_t, balances) - 16));
 
-    ANSWER(moatbetony_home_open(many, 56, 56, 0).answer, 0, 0);
-    ANSWER(moatbetony_home_open(many, 57, 56, 0).answer, 1, 0);
-    ANSWER(moatbetony_home_open(many, 56, 57, 0).answer, 1, 0);
-    ANSWER(moatbetony_home_open(many, 56, 0, 0).answer, 1, 0);
-    ANSWER(moatbetony_home_open(many, 56, WIDE + 1, 0).answer, 1, 0);
-    ANSWER(moatbetony_home_open(many, 56, SIZE_MAX, UINT64_MAX).answer, 1, 0);
+    ANSWER(moatbetony_home_open(NUMBERS(many, 56), 56, 0).answer, 0, 0);
+    ANSWER(moatbetony_home_open(NUMBERS(many, 57), 56, 0).answer, 1, 0);
+    ANSWER(moatbetony_home_open(NUMBERS(many, 56), 57, 0).answer, 1, 0);
+    ANSWER(moatbetony_home_open(NUMBERS(many, 56), 0, 0).answer, 1, 0);
+    ANSWER(moatbetony_home_open(NUMBERS(many, 56), WIDE + 1, 0).answer, 1, 0);
+    ANSWER(moatbetony_home_open(NUMBERS(many, 56), SIZE_MAX, UINT64_MAX).answer, 1, 0);
     o = moatbetony_home_open(NULL, 0, 1, 20);
     ANSWER(o.answer, 1, 0);
     CHECK(all_zero(&o.state, sizeof o.state));
-    ANSWER(moatbetony_home_open(&zero, 1, 1, MAX).answer, 0, 0);
-    o = moatbetony_home_open(&zero, 1, 1, MAX + 1);
+    ANSWER(moatbetony_home_open(NUMBERS(&zero, 1), 1, MAX).answer, 0, 0);
+    o = moatbetony_home_open(NUMBERS(&zero, 1), 1, MAX + 1);
     ANSWER(o.answer, 2, 0);
     CHECK(all_zero(&o.state, sizeof o.state));
     ANSWER(moatbetony_home_figures(o.state).answer, 3, 0);
     zero = 1;
-    ANSWER(moatbetony_home_open(&zero, 1, 1, MAX).answer, 2, 0);
-    ANSWER(moatbetony_home_open(&zero, 1, 1, UINT64_MAX).answer, 2, 0);
+    ANSWER(moatbetony_home_open(NUMBERS(&zero, 1), 1, MAX).answer, 2, 0);
+    ANSWER(moatbetony_home_open(NUMBERS(&zero, 1), 1, UINT64_MAX).answer, 2, 0);
 }
 
 static void home_cases(void)
@@ -639,10 +688,10 @@ static void home_cases(void)
 static void home_columns(void)
 {
     static const uint64_t homes[3] = {1000, 2000, 3000};
-    moatbetony_home_t s = moatbetony_home_open(homes, 3, 5, 400).state;
+    moatbetony_home_t s = moatbetony_home_open(NUMBERS(homes, 3), 5, 400).state;
     HOME(s, sending(0, 2, 4, 0x1122334455667788, 300), 0);
     HOME(s, arrival(0, 3, 1, UINT64_C(0xfedcba9876543210), 7), 0);
-    CHECK(s.supply == 6400 && s.pool == 693 && s.homes == 3 && s.fars == 5 && s.count == 2);
+    CHECK(s.supply == 6400 && s.pool == 693 && s.home_accounts == 3 && s.far_accounts == 5 && s.count == 2);
     CHECK(s.balances[0] == 1000 && s.balances[1] == 2007 && s.balances[2] == 2700);
     CHECK(s.numbers[0] == 0x1122334455667788 && s.amounts[0] == 300 && s.senders[0] == 2 && s.receivers[0] == 4);
     CHECK(s.kinds[0] == 2 && s.ledgers[0] == 0 && s.verdicts[0] == 1);
@@ -675,24 +724,24 @@ static void home_lists(void)
     SAME(s, before);
     for (length = 1; length <= 97; length++) {
         uint32_t wanted = length % 32 == 0 ? 0 : 21;
-        o = moatbetony_home_check_list(before, list, length);
+        o = moatbetony_home_check_list(before, BYTES(list, length));
         ANSWER(o.answer, wanted, wanted == 0 ? 0 : length / 32);
         if (wanted != 0)
             SAME(o.state, before);
     }
-    o = moatbetony_home_check_list(before, list, 96);
+    o = moatbetony_home_check_list(before, BYTES(list, 96));
     home_figures_are(&o.state, 170, 0, __LINE__);
     home_balance_is(&o.state, 0, 170, __LINE__);
-    ANSWER(moatbetony_home_take_list(&s, list, 96), 0, 0);
+    ANSWER(moatbetony_home_take_list(&s, BYTES(list, 96)), 0, 0);
     SAME(s, o.state);
     r[2] = local(1, 0, 0, 9, 1);
     memcpy(list, r, 96);
     s = before;
-    ANSWER(moatbetony_home_take_list(&s, list, 96), 33, 2);
+    ANSWER(moatbetony_home_take_list(&s, BYTES(list, 96)), 33, 2);
     SAME(s, before);
-    ANSWER(moatbetony_home_take_list(&s, list + 32, 32), 32, 0);
-    ANSWER(moatbetony_home_take(&s, list, 64), 21, 0);
-    ANSWER(moatbetony_home_take(&s, list, 31), 21, 0);
+    ANSWER(moatbetony_home_take_list(&s, BYTES(list + 32, 32)), 32, 0);
+    ANSWER(moatbetony_home_take(&s, BYTES(list, 64)), 21, 0);
+    ANSWER(moatbetony_home_take(&s, BYTES(list, 31)), 21, 0);
     ANSWER(moatbetony_home_take(&s, NULL, 0), 21, 0);
     SAME(s, before);
 }
@@ -702,14 +751,14 @@ static void home_forged(const moatbetony_home_t *forged, int line)
 {
     moatbetony_home_t s = *forged;
     bytes32 r = local(0, 0, 0, 99, 1);
-    moatbetony_home_outcome_t o = moatbetony_home_check_record(s, r.at, 32);
+    moatbetony_home_outcome_t o = moatbetony_home_check_record(s, BYTES(r.at, 32));
     moatbetony_home_figures_t f = moatbetony_home_figures(s);
     moatbetony_balance_t b = moatbetony_home_balance(s, 0);
     check_answer(o.answer, 3, 0, line);
     check(memcmp(&o.state, forged, sizeof s) == 0, "state as it came", line);
     o = moatbetony_home_check_record(s, NULL, 0);
     check_answer(o.answer, 3, 0, line);
-    o = moatbetony_home_check_list(s, r.at, 32);
+    o = moatbetony_home_check_list(s, BYTES(r.at, 32));
     check_answer(o.answer, 3, 0, line);
     check(memcmp(&o.state, forged, sizeof s) == 0, "state as it came", line);
     o = moatbetony_home_check_list(s, NULL, 0);
@@ -719,8 +768,8 @@ static void home_forged(const moatbetony_home_t *forged, int line)
     check_answer(b.answer, 3, 0, line);
     check(b.balance == 0, "zero beside 3", line);
     check_answer(moatbetony_home_balance(s, 99).answer, 3, 0, line);
-    check_answer(moatbetony_home_take(&s, r.at, 32), 3, 0, line);
-    check_answer(moatbetony_home_take_list(&s, r.at, 32), 3, 0, line);
+    check_answer(moatbetony_home_take(&s, BYTES(r.at, 32)), 3, 0, line);
+    check_answer(moatbetony_home_take_list(&s, BYTES(r.at, 32)), 3, 0, line);
     check(memcmp(&s, forged, sizeof s) == 0, "state as it came", line);
 }
 
@@ -739,13 +788,13 @@ static void home_states(void)
 
     HOME_FORGED(memset(&f, 0, sizeof f));
     HOME_FORGED(memset(&f, 0xff, sizeof f));
-    HOME_FORGED(f.homes = 0);
-    HOME_FORGED(f.homes = 57);
-    HOME_FORGED(f.homes += WIDE);
-    HOME_FORGED(f.homes = 1);
-    HOME_FORGED(f.fars = 0);
-    HOME_FORGED(f.fars = 57);
-    HOME_FORGED(f.fars += WIDE);
+    HOME_FORGED(f.home_accounts = 0);
+    HOME_FORGED(f.home_accounts = 57);
+    HOME_FORGED(f.home_accounts += WIDE);
+    HOME_FORGED(f.home_accounts = 1);
+    HOME_FORGED(f.far_accounts = 0);
+    HOME_FORGED(f.far_accounts = 57);
+    HOME_FORGED(f.far_accounts += WIDE);
     HOME_FORGED(f.count = 513);
     HOME_FORGED(f.count += WIDE);
     HOME_FORGED(f.count = SIZE_MAX);
@@ -774,6 +823,7 @@ static void home_states(void)
     HOME_FORGED(f.amounts[0] = MAX + 1);
     HOME_FORGED(f.numbers[1] = 7);
 
+    /* As in pair_states; and a balance raised at the far pool's cost. */
     odd = good;
     odd.balances[0] = good.balances[1];
     odd.balances[1] = good.balances[0];
@@ -783,6 +833,18 @@ static void home_states(void)
     HOME(odd, local(0, 0, 1, 10, 1), 0);
     CHECK(odd.count == 3 && odd.amounts[2] == 1 && odd.ledgers[2] == 0);
     CHECK(odd.amounts[3] == UINT64_C(0xaaaaaaaaaaaaaaaa) && odd.ledgers[3] == 0xaa);
+    odd = good;
+    odd.balances[0] += 5;
+    odd.supply += 5;
+    home_figures_are(&odd, 130, 45, __LINE__);
+    odd = good;
+    odd.balances[0] += 5;
+    odd.pool -= 5;
+    home_figures_are(&odd, 130, 40, __LINE__);
+    odd = good;
+    HOME(odd, sending(0, 0, 0, 7, 30), 24);
+    odd.count = 0;
+    HOME(odd, sending(0, 0, 0, 7, 30), 0);
 }
 
 static void home_full(void)
@@ -791,7 +853,7 @@ static void home_full(void)
     uint64_t i;
     for (i = 0; i < 512; i++) {
         bytes32 r = local(0, 0, 0, 1000 + i, 1);
-        ANSWER(moatbetony_home_take(&s, r.at, 32), 0, 0);
+        ANSWER(moatbetony_home_take(&s, BYTES(r.at, 32)), 0, 0);
     }
     CHECK(s.count == 512);
     HOME(s, local(0, 0, 0, 2000, 1), 41);
@@ -838,11 +900,11 @@ static void refused_block(const uint8_t *block, size_t length, uint64_t k, uint6
     check(b.count == 0 && all_zero(b.balances, sizeof b.balances), "no balances", line);
 }
 
-#define REFUSED(length, k, before, number) refused_block(block, length, k, before, number, __LINE__)
+#define REFUSED(length, k, before, number) refused_block(BYTES(block, length), k, before, number, __LINE__)
 
 static void balances_blocks(void)
 {
-    uint8_t items[56 * 8], block[512], by_hand[512];
+    uint8_t items[56 * 8], by_hand[512], *block = guarded(512);
     uint64_t i, k;
     for (i = 0; i < 56; i++)
         put(items + 8 * i, 8, UINT64_C(0x0102030405060700) + i);
@@ -851,8 +913,8 @@ static void balances_blocks(void)
         moatbetony_balances_t b;
         block_by_hand(by_hand, k, kind, 3, items, 24);
         memset(block, 0xee, 512);
-        ANSWER(moatbetony_block_write(block, 512, k, kind, items, 24), 0, 0);
-        SAME(block, by_hand);
+        ANSWER(moatbetony_block_write(block, 512, k, kind, BYTES(items, 24)), 0, 0);
+        CHECK(memcmp(block, by_hand, 512) == 0);
         ANSWER(moatbetony_block_judge(block, 512, k, UINT64_MAX), 0, 0);
         CHECK(moatbetony_block_count(block, 512, k, 0).count == 3);
         b = moatbetony_block_balances(block, 512, k, 0);
@@ -863,7 +925,7 @@ static void balances_blocks(void)
         ANSWER(moatbetony_block_record(block, 512, k, 0, 0).answer, 4, k);
         REFUSED(512, k + 1, 14, 13);
         REFUSED(512, k + WIDE, 14, 11);
-        ANSWER(moatbetony_block_write(block, 512, k, kind, items, 56 * 8), 0, 0);
+        ANSWER(moatbetony_block_write(block, 512, k, kind, BYTES(items, 56 * 8)), 0, 0);
         b = moatbetony_block_balances(block, 512, k, 0);
         CHECK(b.count == 56 && b.balances[55] == UINT64_C(0x0102030405060700) + 55);
     }
@@ -871,14 +933,14 @@ static void balances_blocks(void)
 
 static void record_blocks(void)
 {
-    uint8_t items[14 * 32], block[512], by_hand[512], longer[513];
+    uint8_t items[14 * 32], by_hand[512], longer[513], *block = guarded(512);
     moatbetony_part_t p;
     uint64_t i;
     for (i = 0; i < sizeof items; i++)
         items[i] = (uint8_t)(i * 7 + 1);
     block_by_hand(by_hand, 0x0102, 3, 14, items, sizeof items);
-    ANSWER(moatbetony_block_write(block, 512, 0x0102, 3, items, sizeof items), 0, 0);
-    SAME(block, by_hand);
+    ANSWER(moatbetony_block_write(block, 512, 0x0102, 3, BYTES(items, sizeof items)), 0, 0);
+    CHECK(memcmp(block, by_hand, 512) == 0);
     for (i = 0; i < 14; i++) {
         ANSWER(moatbetony_block_judge_record(block, 512, 0x0102, 14, i), 0, 0);
         p = moatbetony_block_record(block, 512, 0x0102, 14, i);
@@ -916,7 +978,7 @@ static void record_blocks(void)
     refused_block(NULL, 0, 0, 0, 11, __LINE__); /* case 15 */
     memcpy(longer, block, 512);
     longer[512] = 0;
-    refused_block(longer, 513, 0x0102, 14, 11, __LINE__);
+    refused_block(BYTES(longer, 513), 0x0102, 14, 11, __LINE__);
     for (i = 0; i < 512; i += 73) {
         block[i] ^= 1;
         REFUSED(512, 0x0102, 14, 12);
@@ -943,27 +1005,27 @@ static void record_blocks(void)
     sealed(block);
     REFUSED(512, 0x0102, 14, 14);
     REFUSED(512, 0x0103, 14, 13);
-    ANSWER(moatbetony_block_write(block, 512, 2, 3, items, 32), 0, 0);
+    ANSWER(moatbetony_block_write(block, 512, 2, 3, BYTES(items, 32)), 0, 0);
     ANSWER(moatbetony_block_judge(block, 512, 2, 0), 0, 0);
     ANSWER(moatbetony_block_record(block, 512, 2, 0, 1).answer, 4, 2);
-    ANSWER(moatbetony_block_write(block, 512, 65535, 3, items, 64), 0, 0);
+    ANSWER(moatbetony_block_write(block, 512, 65535, 3, BYTES(items, 64)), 0, 0);
     CHECK(moatbetony_block_count(block, 512, 65535, 14).count == 2);
 }
 
 /* A write that is refused, with the output as it came. */
 static void unwritten(size_t out_length, uint64_t k, int kind, size_t items_length, int line)
 {
-    uint8_t out[513], before[513], items[500];
-    memset(out, 0xee, sizeof out);
+    uint8_t before[513], items[500], *out = guarded(out_length);
+    memset(out, 0xee, out_length);
     memset(before, 0xee, sizeof before);
     memset(items, 0x11, sizeof items);
-    check_answer(moatbetony_block_write(out, out_length, k, (uint8_t)kind, items, items_length), 4, k, line);
-    check(memcmp(out, before, sizeof out) == 0, "output as it came", line);
+    check_answer(moatbetony_block_write(out, out_length, k, (uint8_t)kind, BYTES(items, items_length)), 4, k, line);
+    check(memcmp(out, before, out_length) == 0, "output as it came", line);
 }
 
 static void refused_writes(void)
 {
-    uint8_t out[512], before[512], items[32];
+    uint8_t before[512], items[32], *out = guarded(512);
     memset(out, 0xee, 512);
     memset(before, 0xee, 512);
     memset(items, 0, 32);
@@ -987,8 +1049,8 @@ static void refused_writes(void)
     unwritten(512, 0, 1, 57 * 8, __LINE__);
     unwritten(512, 0, 1, 7, __LINE__);
     ANSWER(moatbetony_block_write(out, 512, 2, 3, NULL, 0), 4, 2);
-    SAME(out, before);
-    ANSWER(moatbetony_block_write(NULL, 0, 2, 3, items, 32), 4, 2);
+    CHECK(memcmp(out, before, 512) == 0);
+    ANSWER(moatbetony_block_write(NULL, 0, 2, 3, BYTES(items, 32)), 4, 2);
     ANSWER(moatbetony_block_write(NULL, 0, 7, 3, NULL, 0), 4, 7);
 }
 
@@ -997,8 +1059,8 @@ static void refused_writes(void)
 static void wide_figures(void)
 {
     static const uint64_t homes[2] = {WIDE + 1, 2 * WIDE}, fars[1] = {3 * WIDE + 7};
-    moatbetony_pair_t pair = moatbetony_pair_open(homes, 2, fars, 1).state;
-    moatbetony_home_t home = moatbetony_home_open(homes, 2, 1, 3 * WIDE + 7).state;
+    moatbetony_pair_t pair = moatbetony_pair_open(NUMBERS(homes, 2), NUMBERS(fars, 1)).state;
+    moatbetony_home_t home = moatbetony_home_open(NUMBERS(homes, 2), 1, 3 * WIDE + 7).state;
     PAIR(pair, sending(0, 1, 0, 1, WIDE + 5), 0);
     pair_figures_are(&pair, 2 * WIDE - 4, 3 * WIDE + 7, WIDE + 5, __LINE__);
     pair_balance_is(&pair, 0, 0, WIDE + 1, __LINE__);
@@ -1018,10 +1080,9 @@ static void wide_lengths(void)
     moatbetony_pair_t pair = pair_opened();
     moatbetony_home_t home = home_opened();
     bytes32 r = local(0, 0, 1, 1, 1);
-    if (mapped == MAP_FAILED) {
-        printf("no room for lengths above 2^32, which are left out\n");
+    CHECK(mapped != MAP_FAILED);
+    if (mapped == MAP_FAILED)
         return;
-    }
     ANSWER(moatbetony_pair_open(numbers, WIDE + 2, FARS, 1).answer, 1, 0);
     ANSWER(moatbetony_pair_open(HOMES, 2, numbers, WIDE + 1).answer, 1, 0);
     ANSWER(moatbetony_home_open(numbers, WIDE + 2, 1, 20).answer, 1, 0);
@@ -1046,7 +1107,7 @@ static void wide_lengths(void)
 
 static void digest_is(const uint8_t *message, size_t length, const char *hex, int line)
 {
-    moatbetony_digest_t d = moatbetony_sha256(message, length);
+    moatbetony_digest_t d = moatbetony_sha256(BYTES(message, length));
     char text[65];
     int i;
     for (i = 0; i < 32; i++)
@@ -1066,9 +1127,9 @@ static void digests(void)
     digest_is(abc, 56, "248d6a61d20638b8e5c026930c3e6039a33ce45964ff2167f6ecedd419db06c1", __LINE__);
     memset(many, 'a', sizeof many);
     digest_is(many, sizeof many, "cdc76e5c9914fb9281a1c7e284d73e67f1809a48a497200e046d39ccc7112cd0", __LINE__);
-    before = moatbetony_sha256(many, 0);
+    before = moatbetony_sha256(BYTES(many, 0));
     for (i = 1; i < 200; i++) {
-        d = moatbetony_sha256(many, i);
+        d = moatbetony_sha256(BYTES(many, i));
         CHECK(memcmp(d.bytes, before.bytes, 32) != 0);
         before = d;
     }

@@ -1,6 +1,8 @@
 //! The comparison of calls: the library against itself, and against parts that
 //! are wrong in one thing each.
 
+use std::collections::BTreeSet;
+
 use second_validator::answer::Answer::{self, Passed, Refused};
 use second_validator::journal::Balances;
 use second_validator::record::{Held, Record, MAX_AMOUNT, RECORD};
@@ -43,16 +45,163 @@ fn forged_states_are_refused_and_accepted() {
     }
 }
 
-/// Takes down the calls that are made, as a sum of them.
+#[test]
+fn fields_are_altered_alone_and_in_pairs() {
+    for seed in [1, 7, 1_000_003] {
+        let mut part = Wrong::new(Fault::None);
+        part.listener.altered = Some(Default::default());
+        compare(&mut part, seed, CALLS, u64::MAX);
+        let (pair, home) = part.listener.altered.unwrap();
+        // The pair state has 21 parts, 16 of them with many entries; the home
+        // state has 13 and 8.
+        assert_eq!(pair.expected().len(), 21 + 21 * 20 / 2 + 16);
+        assert_eq!(home.expected().len(), 13 + 13 * 12 / 2 + 8);
+        assert_eq!(pair.missing(), Vec::<Parts>::new());
+        assert_eq!(home.missing(), Vec::<Parts>::new());
+    }
+}
+
+/// The names of the parts that are altered together. What home and what far
+/// have of a field are two parts.
+type Parts = Vec<String>;
+
+fn part_name<S: Fields>(field: Field, index: usize) -> String {
+    let ledgers = if field == Field::Accounts {
+        2
+    } else {
+        S::LEDGERS
+    };
+    format!("{field:?} {}", index * ledgers / S::length(field))
+}
+
+/// Takes down in which one or two entries a state that is handed in differs
+/// from a good one. Good is what the last opening has handed back, and what
+/// lists have made of it before any other state was handed in.
+struct Altered<S> {
+    good: Vec<Box<S>>,
+    left: bool,
+    met: BTreeSet<Parts>,
+}
+
+impl<S> Default for Altered<S> {
+    fn default() -> Altered<S> {
+        Altered {
+            good: Vec::new(),
+            left: false,
+            met: BTreeSet::new(),
+        }
+    }
+}
+
+impl<S: Fields + Clone + PartialEq> Altered<S> {
+    fn opened(&mut self, state: &S) {
+        self.good = vec![Box::new(state.clone())];
+        self.left = false;
+    }
+
+    fn listed(&mut self, next: &S) {
+        if !self.left {
+            self.good.push(Box::new(next.clone()));
+        }
+    }
+
+    fn handed_in(&mut self, state: &S) {
+        if self.good.iter().any(|good| **good == *state) {
+            return;
+        }
+        self.left = true;
+        for good in &self.good {
+            let entries = S::FIELDS
+                .iter()
+                .flat_map(|&field| (0..S::length(field)).map(move |index| (field, index)));
+            let mut parts: Parts = entries
+                .filter(|&(field, index)| state.get(field, index) != good.get(field, index))
+                .take(3)
+                .map(|(field, index)| part_name::<S>(field, index))
+                .collect();
+            if parts.len() < 3 {
+                parts.sort();
+                self.met.insert(parts);
+            }
+        }
+    }
+
+    /// Each part, any two of them, and two entries of each that has many.
+    fn expected(&self) -> BTreeSet<Parts> {
+        let mut names: Vec<String> = Vec::new();
+        for &field in S::FIELDS {
+            for index in 0..S::length(field) {
+                let name = part_name::<S>(field, index);
+                // Two of its entries stand for all.
+                if names.iter().filter(|&other| *other == name).count() < 2 {
+                    names.push(name);
+                }
+            }
+        }
+        names.sort();
+        let mut expected = BTreeSet::new();
+        for (at, one) in names.iter().enumerate() {
+            expected.insert(vec![one.clone()]);
+            for other in &names[at + 1..] {
+                expected.insert(vec![one.clone(), other.clone()]);
+            }
+        }
+        expected
+    }
+
+    fn missing(&self) -> Vec<Parts> {
+        self.expected().difference(&self.met).cloned().collect()
+    }
+}
+
+/// Takes down the calls that are made, as a sum of them, and if asked to the
+/// parts of states that are altered.
 #[derive(Default)]
 struct Listener {
     sum: u64,
+    altered: Option<(Altered<PairState>, Altered<HomeState>)>,
 }
 
 impl Listener {
     fn note(&mut self, bytes: &[u8]) {
         for &byte in bytes {
             self.sum = (self.sum ^ u64::from(byte)).wrapping_mul(0x0100_0000_01b3);
+        }
+    }
+
+    fn pair_opened(&mut self, state: &PairState) {
+        if let Some((pair, _)) = &mut self.altered {
+            pair.opened(state);
+        }
+    }
+
+    fn pair_listed(&mut self, next: &PairState) {
+        if let Some((pair, _)) = &mut self.altered {
+            pair.listed(next);
+        }
+    }
+
+    fn pair_handed_in(&mut self, state: &PairState) {
+        if let Some((pair, _)) = &mut self.altered {
+            pair.handed_in(state);
+        }
+    }
+
+    fn home_opened(&mut self, state: &HomeState) {
+        if let Some((_, home)) = &mut self.altered {
+            home.opened(state);
+        }
+    }
+
+    fn home_listed(&mut self, next: &HomeState) {
+        if let Some((_, home)) = &mut self.altered {
+            home.listed(next);
+        }
+    }
+
+    fn home_handed_in(&mut self, state: &HomeState) {
+        if let Some((_, home)) = &mut self.altered {
+            home.handed_in(state);
         }
     }
 
@@ -216,7 +365,8 @@ fn differences_are_kept_and_shown() {
     assert!(text.starts_with("seed 5\n"));
     assert!(text.contains("family pair_runs: "));
     assert!(text.contains("call block_write: "));
-    assert!(text.ends_with(&format!("{} differ\n", report.differences)));
+    let (calls, differ) = (report.calls, report.differences);
+    assert!(text.ends_with(&format!("\n{calls} calls compared, {differ} differ\n")));
     // It ends early once there are enough.
     let early = compare(&mut part, 5, 2_000, 2);
     assert!(early.calls < report.calls && early.differences >= 2);
@@ -443,6 +593,7 @@ impl Part for Wrong {
     fn pair_open(&mut self, home: &[u64], far: &[u64]) -> (Answer, Box<PairState>) {
         self.listener.note(&[home.len() as u8, far.len() as u8]);
         let (answer, mut state) = self.right.pair_open(home, far);
+        self.listener.pair_opened(&state);
         if self.is(Fault::OpeningKept) && !answer.passed() {
             state.accounts = [home.len(), far.len()];
         }
@@ -461,6 +612,7 @@ impl Part for Wrong {
     fn pair_check_record(&mut self, state: &PairState, bytes: &[u8]) -> (Answer, Box<PairState>) {
         self.listener.note(bytes);
         self.listener.note_state(state);
+        self.listener.pair_handed_in(state);
         let bytes = self.record(bytes);
         let (mut answer, mut next) = self.right.pair_check_record(state, bytes);
         if answer.number() == 3 {
@@ -491,11 +643,13 @@ impl Part for Wrong {
 
     fn pair_check_list(&mut self, state: &PairState, bytes: &[u8]) -> (Answer, Box<PairState>) {
         self.listener.note(bytes);
+        self.listener.pair_handed_in(state);
         if self.is(Fault::EmptyListPasses) && bytes.is_empty() {
             return (Passed, Box::new(state.clone()));
         }
         let bytes = self.list(bytes);
         let (answer, next) = self.right.pair_check_list(state, bytes);
+        self.listener.pair_listed(&next);
         if let (Fault::KeepsWhatStoodBefore, Refused { place, .. }) = (self.fault, answer) {
             let before = &bytes[..place as usize * RECORD];
             return (answer, self.right.pair_check_list(state, before).1);
@@ -507,6 +661,7 @@ impl Part for Wrong {
     }
 
     fn pair_figures(&mut self, state: &PairState) -> (Answer, [u64; 3]) {
+        self.listener.pair_handed_in(state);
         let (answer, figures) = self.right.pair_figures(state);
         if self.is(Fault::FiguresBesideRefusal) && !answer.passed() {
             return (answer, [state.supply, 0, 0]);
@@ -515,6 +670,7 @@ impl Part for Wrong {
     }
 
     fn pair_balance(&mut self, state: &PairState, ledger: u8, account: u16) -> (Answer, u64) {
+        self.listener.pair_handed_in(state);
         if self.is(Fault::LedgerTwoIsFar) {
             return self.right.pair_balance(state, ledger.min(1), account);
         }
@@ -527,12 +683,15 @@ impl Part for Wrong {
     }
 
     fn home_open(&mut self, home: &[u64], fars: usize, far_total: u64) -> (Answer, Box<HomeState>) {
-        self.right.home_open(home, fars, far_total)
+        let (answer, state) = self.right.home_open(home, fars, far_total);
+        self.listener.home_opened(&state);
+        (answer, state)
     }
 
     fn home_check_record(&mut self, state: &HomeState, bytes: &[u8]) -> (Answer, Box<HomeState>) {
         self.listener.note(bytes);
         self.listener.note_state(state);
+        self.listener.home_handed_in(state);
         let bytes = self.record(bytes);
         let (mut answer, next) = self.right.home_check_record(state, bytes);
         if answer.number() == 3 {
@@ -545,15 +704,19 @@ impl Part for Wrong {
 
     fn home_check_list(&mut self, state: &HomeState, bytes: &[u8]) -> (Answer, Box<HomeState>) {
         self.listener.note(bytes);
+        self.listener.home_handed_in(state);
         let (answer, next) = self.right.home_check_list(state, self.list(bytes));
+        self.listener.home_listed(&next);
         (self.place(answer), next)
     }
 
     fn home_figures(&mut self, state: &HomeState) -> (Answer, [u64; 2]) {
+        self.listener.home_handed_in(state);
         self.right.home_figures(state)
     }
 
     fn home_balance(&mut self, state: &HomeState, account: u16) -> (Answer, u64) {
+        self.listener.home_handed_in(state);
         self.right.home_balance(state, account)
     }
 

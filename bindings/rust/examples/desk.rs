@@ -1,15 +1,16 @@
-//! A paying desk that sees the home ledger alone. It takes records one by one, hands goods over on passed and says why not otherwise,
-//! keeps its state in a file and takes it up again.
+//! A paying desk that sees the home ledger alone. It takes records one by one, hands goods over where a record passed and pays the
+//! desk, says why not otherwise, keeps its state in a file and takes it up again.
 //!
 //!     cargo run --example desk STATE_FILE
 //!
 //! The file has the layout's version in 4 bytes, the state, and the SHA-256 of both. What guards a stored state:
 //! - The digest finds damage, and a change by anyone who cannot write the digest too.
-//! - Refusal 3 finds a state whose numbers do not fit together, as one balance raised. It does not see two balances exchanged.
-//! - Neither finds a forger who rewrites state and digest to fit, or who puts an older file back. Keep the latest digest where nobody
-//!   else can write it.
+//! - Refusal 3 says that a state's numbers fit together, and no more. It does not see two balances exchanged, a balance raised together
+//!   with the supply or at the far pool's cost, held records left out, so that they pass again, or an older state put back.
+//! - Neither finds a forger who rewrites state and digest to fit, or who puts an older pair of them back. Keep the latest digest where
+//!   nobody else can write it.
 
-use moatbetony::{sha256, state_version, version, Answer, HomeValidator, Kind, Ledger, Record, VERSION};
+use moatbetony::{sha256, state_version, Answer, HomeValidator, Kind, Ledger, Record};
 use std::error::Error;
 use std::fs::{self, File};
 use std::io::Write;
@@ -17,7 +18,13 @@ use std::path::{Path, PathBuf};
 
 type Outcome<T> = Result<T, Box<dyn Error>>;
 
-// Where a state's balances stand in its bytes (include/moatbetony.h). Only somebody who alters a state needs to know.
+// The desk's account, and what its goods cost.
+const OURS: u16 = 1;
+const PRICE: u64 = 30;
+
+// Where a state's count of held records and its balances stand in its bytes (include/moatbetony.h). Only somebody who alters a state
+// needs to know.
+const COUNT: usize = 32;
 const BALANCES: usize = 40;
 
 struct Desk {
@@ -27,20 +34,13 @@ struct Desk {
 
 impl Desk {
     fn open(path: &Path) -> Outcome<Desk> {
-        let desk = Desk { path: path.into(), validator: HomeValidator::open(&[100, 50], 1, 20)? };
+        let desk = Desk { path: path.into(), validator: HomeValidator::open(&[100, 50, 0], 1, 20)? };
         desk.store()?;
         Ok(desk)
     }
 
-    // The old file stays whole until the new one is put in its place.
     fn store(&self) -> Outcome<()> {
-        let mut fresh = self.path.clone().into_os_string();
-        fresh.push(".new");
-        let mut file = File::create(&fresh)?;
-        file.write_all(&sealed(self.validator.as_bytes()))?;
-        file.sync_all()?;
-        fs::rename(fresh, &self.path)?;
-        Ok(())
+        write_file(&self.path, &sealed(self.validator.as_bytes()))
     }
 
     // The stored state, if its layout is the library's and its digest agrees.
@@ -60,13 +60,23 @@ impl Desk {
         }
     }
 
-    // Takes a record as it came over the wire. The state is stored before goods are handed over, so that a desk that is started
-    // again refuses the same record.
-    fn serve(&mut self, label: &str, bytes: &[u8]) -> Outcome<()> {
+    // Takes the bytes that came over the wire, beside what the host's own check of their signature found. That finding goes into byte
+    // 24, over what the sender wrote there. Bytes that are not as long as a record are refused as they are. The state is stored before
+    // goods are handed over, so that a desk that is started again refuses the same record.
+    fn serve(&mut self, label: &str, came_in: &[u8], signature_good: bool) -> Outcome<()> {
+        let mut own = [0; Record::SIZE];
+        let mut bytes = came_in;
+        if came_in.len() == own.len() {
+            own.copy_from_slice(came_in);
+            own[24] = signature_good.into();
+            bytes = &own;
+        }
         match self.validator.check_record(bytes) {
             Answer::Passed => {
                 self.store()?;
-                println!("{label}: passed, handed over");
+                let paid = pays_us(&Record::read(bytes)?);
+                let what = if paid { "handed over" } else { "but does not pay us the price, nothing handed over" };
+                println!("{label}: passed, {what}");
             }
             Answer::Refused { refusal, .. } => {
                 println!("{label}: refused with {}, {refusal}", refusal.number())
@@ -76,29 +86,43 @@ impl Desk {
     }
 
     fn serve_customers(&mut self) -> Outcome<()> {
-        let payment =
-            Record { kind: Kind::Local, ledger: Ledger::Home, sender: 0, receiver: 1, number: 2, amount: 30, verified: true };
-        let arrival = Record { kind: Kind::Arrival, ..payment };
-        let sending = Record { kind: Kind::Sending, sender: 1, receiver: 0, number: 3, ..payment };
-        self.serve("a payment of 30", &Record { number: 1, ..payment }.encode()?)?;
-        self.serve("the same record again", &Record { number: 1, ..payment }.encode()?)?;
-        self.serve("a payment of 500", &Record { amount: 500, ..payment }.encode()?)?;
-        self.serve("a payment to account 9", &Record { receiver: 9, ..payment }.encode()?)?;
-        self.serve("a payment with a bad signature", &Record { verified: false, ..payment }.encode()?)?;
-        self.serve("a payment cut off after 31 bytes", &payment.encode()?[..31])?;
-        self.serve("a record of the far ledger", &Record { ledger: Ledger::Far, receiver: 0, ..payment }.encode()?)?;
-        self.serve("an arrival of 21, above the far pool of 20", &Record { amount: 21, ..arrival }.encode()?)?;
-        self.serve("a sending of 30", &sending.encode()?)?;
-        self.serve("an arrival of 50, now in the far pool", &Record { amount: 50, ..arrival }.encode()?)?;
-        self.serve("an arrival of 1 more", &Record { number: 4, amount: 1, ..arrival }.encode()?)?;
+        let home = |kind, sender, receiver, number, amount| wire(kind, Ledger::Home, sender, receiver, number, amount);
+        self.serve("a payment of 30", &payment(1, 30)?, true)?;
+        self.serve("the same record again", &payment(1, 30)?, true)?;
+        self.serve("a payment of 500", &payment(2, 500)?, true)?;
+        self.serve("a payment to account 9", &home(Kind::Local, 0, 9, 2, 30)?, true)?;
+        self.serve("a payment with a bad signature", &payment(2, 30)?, false)?;
+        self.serve("a payment cut off after 31 bytes", &payment(2, 30)?[..31], true)?;
+        self.serve("a record of the far ledger", &wire(Kind::Local, Ledger::Far, 0, 0, 2, 30)?, true)?;
+        self.serve("a payment of 1", &payment(2, 1)?, true)?;
+        self.serve("a payment to somebody else", &home(Kind::Local, 0, 2, 3, 30)?, true)?;
+        self.serve("a payment of the customer to itself", &home(Kind::Local, 0, 0, 4, 30)?, true)?;
+        self.serve("a payment of our account to itself", &home(Kind::Local, OURS, OURS, 5, 30)?, true)?;
+        self.serve("an arrival of 21, above the far pool of 20", &home(Kind::Arrival, 0, OURS, 6, 21)?, true)?;
+        self.serve("a sending of 30", &home(Kind::Sending, OURS, 0, 7, 30)?, true)?;
+        self.serve("an arrival of 50, now in the far pool", &home(Kind::Arrival, 0, OURS, 6, 50)?, true)?;
+        self.serve("an arrival of 1 more", &home(Kind::Arrival, 0, OURS, 8, 1)?, true)?;
 
-        let ten = Record { number: 5, amount: 10, ..payment };
-        let list = [ten.encode()?, Record { number: 6, amount: 500, ..ten }.encode()?].concat();
-        if let Answer::Refused { refusal, place } = self.validator.check_list(&list) {
+        // Two records that the host found good.
+        let mut list = [payment(9, 10)?, payment(10, 500)?];
+        for record in &mut list {
+            record[24] = 1;
+        }
+        if let Answer::Refused { refusal, place } = self.validator.check_list(&list.concat()) {
             println!("a list of 10 and 500: refused with {} at record {place}, nothing of it is kept", refusal.number());
         }
         Ok(())
     }
+}
+
+// Whether a record that passed pays the desk the price. One account paying itself, or somebody else, passes too.
+fn pays_us(record: &Record) -> bool {
+    let comes_in = match record.kind {
+        Kind::Local => record.sender != OURS,
+        Kind::Sending => false,
+        Kind::Arrival => true,
+    };
+    record.ledger == Ledger::Home && comes_in && record.receiver == OURS && record.amount >= PRICE
 }
 
 // The file of a state: the layout's version, the state, and the digest of both.
@@ -110,13 +134,31 @@ fn sealed(state: &[u8]) -> Vec<u8> {
     bytes
 }
 
-fn payment(number: u64, amount: u64) -> Outcome<[u8; Record::SIZE]> {
-    let record = Record { kind: Kind::Local, ledger: Ledger::Home, sender: 0, receiver: 1, number, amount, verified: true };
-    Ok(record.encode()?)
+// The old file stays whole until the new one is put in its place; once the folder is written to the disk, the new one stays there.
+fn write_file(path: &Path, bytes: &[u8]) -> Outcome<()> {
+    let mut fresh = path.to_path_buf().into_os_string();
+    fresh.push(".new");
+    let mut file = File::create(&fresh)?;
+    file.write_all(bytes)?;
+    file.sync_all()?;
+    fs::rename(fresh, path)?;
+    let folder = path.parent().filter(|folder| !folder.as_os_str().is_empty());
+    File::open(folder.unwrap_or(Path::new(".")))?.sync_all()?;
+    Ok(())
 }
 
-// Stores a good state, alters it in its file, with a digest made anew or not, and lets the desk take it up and serve a customer.
-fn tamper(good: &Desk, label: &str, change: fn(&mut [u8]), with_digest: bool) -> Outcome<()> {
+// A record as its sender wrote it, who always says that the signature is good.
+fn wire(kind: Kind, ledger: Ledger, sender: u16, receiver: u16, number: u64, amount: u64) -> Outcome<[u8; Record::SIZE]> {
+    Ok(Record { kind, ledger, sender, receiver, number, amount, verified: true }.encode()?)
+}
+
+fn payment(number: u64, amount: u64) -> Outcome<[u8; Record::SIZE]> {
+    wire(Kind::Local, Ledger::Home, 0, OURS, number, amount)
+}
+
+// Stores a good state, alters it in its file, with a digest made anew or not, and lets the desk take it up and serve a payment of 30
+// under a number.
+fn tamper(good: &Desk, label: &str, change: fn(&mut [u8]), with_digest: bool, number: u64) -> Outcome<()> {
     good.store()?;
     let mut bytes = fs::read(&good.path)?;
     let end = bytes.len() - 32;
@@ -124,10 +166,10 @@ fn tamper(good: &Desk, label: &str, change: fn(&mut [u8]), with_digest: bool) ->
     if with_digest {
         bytes = sealed(&bytes[4..end]);
     }
-    fs::write(&good.path, bytes)?;
+    write_file(&good.path, &bytes)?;
 
     match Desk::take_up(&good.path)? {
-        Some(mut desk) => desk.serve(label, &payment(9, 1)?)?,
+        Some(mut desk) => desk.serve(label, &payment(number, 30)?, true)?,
         None => println!("{label}: the digest differs, not taken up"),
     }
     Ok(())
@@ -143,11 +185,13 @@ fn exchange_balances(state: &mut [u8]) {
     state[BALANCES..BALANCES + 16].rotate_left(8);
 }
 
+fn leave_records_out(state: &mut [u8]) {
+    state[COUNT..COUNT + 8].fill(0);
+}
+
 fn main() -> Outcome<()> {
     let path = PathBuf::from(std::env::args_os().nth(1).ok_or("usage: desk STATE_FILE")?);
-    if version() != VERSION {
-        return Err("library and crate do not belong together".into());
-    }
+    let (yesterdays, fresh) = (1, 11);
 
     let mut desk = Desk::open(&path)?;
     let first_file = fs::read(&path)?;
@@ -158,17 +202,21 @@ fn main() -> Outcome<()> {
 
     let mut desk = Desk::take_up(&path)?.ok_or("the stored state was not taken up")?;
     desk.print_figures("the next day, taken up from the file");
-    desk.serve("yesterday's payment of 30 again", &payment(1, 30)?)?;
+    desk.serve("yesterday's payment of 30 again", &payment(yesterdays, 30)?, true)?;
 
-    println!("a payment of 1, after somebody altered the file:");
-    tamper(&desk, "a balance raised", raise_a_balance, false)?;
-    tamper(&desk, "a balance raised, and the digest made anew", raise_a_balance, true)?;
-    tamper(&desk, "two balances exchanged", exchange_balances, false)?;
-    tamper(&desk, "two balances exchanged, and the digest made anew", exchange_balances, true)?;
-    fs::write(&path, first_file)?;
+    println!("a payment of 30, after somebody altered the file:");
+    tamper(&desk, "a balance raised", raise_a_balance, false, fresh)?;
+    tamper(&desk, "a balance raised, and the digest made anew", raise_a_balance, true, fresh)?;
+    tamper(&desk, "two balances exchanged", exchange_balances, false, fresh)?;
+    tamper(&desk, "two balances exchanged, and the digest made anew", exchange_balances, true, fresh)?;
+    let label = "held records left out, and yesterday's payment again";
+    tamper(&desk, label, leave_records_out, false, yesterdays)?;
+    let label = "held records left out, the digest made anew, and yesterday's payment again";
+    tamper(&desk, label, leave_records_out, true, yesterdays)?;
+    write_file(&path, &first_file)?;
     let mut desk = Desk::take_up(&path)?.ok_or("the first file was not taken up")?;
-    desk.serve("the first file put back, and yesterday's payment of 30 again", &payment(1, 30)?)?;
-    println!("refusal 3 does not see two balances exchanged, which the digest does.");
+    desk.serve("the first file put back, and yesterday's payment again", &payment(yesterdays, 30)?, true)?;
+    println!("refusal 3 does not see two balances exchanged or held records left out, which the digest does.");
     println!("neither sees who makes the digest anew or puts an older file back:");
     println!("keep the latest digest where nobody else can write it.");
     Ok(())

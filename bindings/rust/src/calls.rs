@@ -1,10 +1,19 @@
 //! The C calls with slices and references. The only module with `unsafe`.
 //!
-//! What holds of every call here. A slice lends its pointer and its length, so the library reads (for `out`: writes) within it, during
-//! the call alone; an empty slice's pointer is not followed. States and results cross by value and are plain integers, so any bits
-//! will do. The library takes every value, keeps nothing and has no global data.
+//! What holds of every call here. The archive is the one that `ffi` declares: but for the two versions, every call asks that first. A
+//! slice lends its pointer and its length, so the library reads (for `out`: writes) within it, during the call alone; an empty slice's
+//! pointer is not followed. States and results cross by value and are plain integers, so any bits will do. The library takes every
+//! value, keeps nothing and has no data that is written.
 
-use crate::ffi;
+use crate::{ffi, STATE_VERSION, VERSION};
+use std::sync::OnceLock;
+
+/// Panics, each time, if the archive is not of this crate's version. It is asked once.
+fn belongs() {
+    static BELONGS: OnceLock<bool> = OnceLock::new();
+    let belongs = *BELONGS.get_or_init(|| version() == VERSION && state_version() == STATE_VERSION);
+    assert!(belongs, "libmoatbetony.a and this crate do not belong together");
+}
 
 pub(crate) fn version() -> u32 {
     // SAFETY: no argument.
@@ -16,57 +25,68 @@ pub(crate) fn state_version() -> u32 {
     unsafe { ffi::moatbetony_state_version() }
 }
 
-pub(crate) fn pair_open(homes: &[u64], fars: &[u64]) -> ffi::PairTold {
+pub(crate) fn pair_open(home_balances: &[u64], far_balances: &[u64]) -> ffi::PairTold {
+    belongs();
     // SAFETY: both slices are lent with their lengths.
-    unsafe { ffi::moatbetony_pair_open(homes.as_ptr(), homes.len(), fars.as_ptr(), fars.len()) }
+    unsafe { ffi::moatbetony_pair_open(home_balances.as_ptr(), home_balances.len(), far_balances.as_ptr(), far_balances.len()) }
 }
 
 pub(crate) fn pair_check_record(state: &ffi::PairValidator, bytes: &[u8]) -> ffi::PairTold {
+    belongs();
     // SAFETY: the slice is lent with its length.
     unsafe { ffi::moatbetony_pair_check_record(*state, bytes.as_ptr(), bytes.len()) }
 }
 
 pub(crate) fn pair_check_list(state: &ffi::PairValidator, bytes: &[u8]) -> ffi::PairTold {
+    belongs();
     // SAFETY: the slice is lent with its length.
     unsafe { ffi::moatbetony_pair_check_list(*state, bytes.as_ptr(), bytes.len()) }
 }
 
 pub(crate) fn pair_figures(state: &ffi::PairValidator) -> ffi::PairFiguresTold {
+    belongs();
     // SAFETY: values alone.
     unsafe { ffi::moatbetony_pair_figures(*state) }
 }
 
 pub(crate) fn pair_balance(state: &ffi::PairValidator, ledger: u8, account: u16) -> ffi::BalanceTold {
+    belongs();
     // SAFETY: values alone.
     unsafe { ffi::moatbetony_pair_balance(*state, ledger, account) }
 }
 
-pub(crate) fn home_open(homes: &[u64], fars: usize, far_total: u64) -> ffi::HomeTold {
+pub(crate) fn home_open(home_balances: &[u64], far_accounts: usize, far_total: u64) -> ffi::HomeTold {
+    belongs();
     // SAFETY: the slice is lent with its length.
-    unsafe { ffi::moatbetony_home_open(homes.as_ptr(), homes.len(), fars, far_total) }
+    unsafe { ffi::moatbetony_home_open(home_balances.as_ptr(), home_balances.len(), far_accounts, far_total) }
 }
 
 pub(crate) fn home_check_record(state: &ffi::HomeValidator, bytes: &[u8]) -> ffi::HomeTold {
+    belongs();
     // SAFETY: the slice is lent with its length.
     unsafe { ffi::moatbetony_home_check_record(*state, bytes.as_ptr(), bytes.len()) }
 }
 
 pub(crate) fn home_check_list(state: &ffi::HomeValidator, bytes: &[u8]) -> ffi::HomeTold {
+    belongs();
     // SAFETY: the slice is lent with its length.
     unsafe { ffi::moatbetony_home_check_list(*state, bytes.as_ptr(), bytes.len()) }
 }
 
 pub(crate) fn home_figures(state: &ffi::HomeValidator) -> ffi::HomeFiguresTold {
+    belongs();
     // SAFETY: values alone.
     unsafe { ffi::moatbetony_home_figures(*state) }
 }
 
 pub(crate) fn home_balance(state: &ffi::HomeValidator, account: u16) -> ffi::BalanceTold {
+    belongs();
     // SAFETY: values alone.
     unsafe { ffi::moatbetony_home_balance(*state, account) }
 }
 
 pub(crate) fn record_read(bytes: &[u8]) -> ffi::RecordTold {
+    belongs();
     // SAFETY: the slice is lent with its length.
     unsafe { ffi::moatbetony_record_read(bytes.as_ptr(), bytes.len()) }
 }
@@ -80,41 +100,49 @@ pub(crate) fn record_encode(
     amount: u64,
     verdict: u8,
 ) -> ffi::EncodedTold {
+    belongs();
     // SAFETY: values alone.
     unsafe { ffi::moatbetony_record_encode(kind, ledger, sender, receiver, number, amount, verdict) }
 }
 
-pub(crate) fn block_judge(block: &[u8], k: u64, before: u64) -> ffi::Told {
+pub(crate) fn block_judge(block: &[u8], number: u64, before: u64) -> ffi::Told {
+    belongs();
     // SAFETY: the slice is lent with its length.
-    unsafe { ffi::moatbetony_block_judge(block.as_ptr(), block.len(), k, before) }
+    unsafe { ffi::moatbetony_block_judge(block.as_ptr(), block.len(), number, before) }
 }
 
-pub(crate) fn block_judge_record(block: &[u8], k: u64, before: u64, place: u64) -> ffi::Told {
+pub(crate) fn block_judge_record(block: &[u8], number: u64, before: u64, place: u64) -> ffi::Told {
+    belongs();
     // SAFETY: the slice is lent with its length.
-    unsafe { ffi::moatbetony_block_judge_record(block.as_ptr(), block.len(), k, before, place) }
+    unsafe { ffi::moatbetony_block_judge_record(block.as_ptr(), block.len(), number, before, place) }
 }
 
-pub(crate) fn block_record(block: &[u8], k: u64, before: u64, place: u64) -> ffi::PartTold {
+pub(crate) fn block_record(block: &[u8], number: u64, before: u64, place: u64) -> ffi::PartTold {
+    belongs();
     // SAFETY: the slice is lent with its length.
-    unsafe { ffi::moatbetony_block_record(block.as_ptr(), block.len(), k, before, place) }
+    unsafe { ffi::moatbetony_block_record(block.as_ptr(), block.len(), number, before, place) }
 }
 
-pub(crate) fn block_count(block: &[u8], k: u64, before: u64) -> ffi::CountTold {
+pub(crate) fn block_count(block: &[u8], number: u64, before: u64) -> ffi::CountTold {
+    belongs();
     // SAFETY: the slice is lent with its length.
-    unsafe { ffi::moatbetony_block_count(block.as_ptr(), block.len(), k, before) }
+    unsafe { ffi::moatbetony_block_count(block.as_ptr(), block.len(), number, before) }
 }
 
-pub(crate) fn block_balances(block: &[u8], k: u64, before: u64) -> ffi::BalancesTold {
+pub(crate) fn block_balances(block: &[u8], number: u64, before: u64) -> ffi::BalancesTold {
+    belongs();
     // SAFETY: the slice is lent with its length.
-    unsafe { ffi::moatbetony_block_balances(block.as_ptr(), block.len(), k, before) }
+    unsafe { ffi::moatbetony_block_balances(block.as_ptr(), block.len(), number, before) }
 }
 
-pub(crate) fn block_write(out: &mut [u8], k: u64, kind: u8, items: &[u8]) -> ffi::Told {
+pub(crate) fn block_write(out: &mut [u8], number: u64, kind: u8, items: &[u8]) -> ffi::Told {
+    belongs();
     // SAFETY: both slices are lent with their lengths, the output for writing; being borrowed so, they do not overlap.
-    unsafe { ffi::moatbetony_block_write(out.as_mut_ptr(), out.len(), k, kind, items.as_ptr(), items.len()) }
+    unsafe { ffi::moatbetony_block_write(out.as_mut_ptr(), out.len(), number, kind, items.as_ptr(), items.len()) }
 }
 
 pub(crate) fn sha256(message: &[u8]) -> ffi::DigestTold {
+    belongs();
     // SAFETY: the slice is lent with its length.
     unsafe { ffi::moatbetony_sha256(message.as_ptr(), message.len()) }
 }

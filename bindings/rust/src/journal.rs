@@ -1,8 +1,8 @@
 //! The journal: blocks of 512 bytes, each with its own SHA-256 check. Block 0 holds home balances, block 1 far balances, all others
 //! records.
 //!
-//! In every call `k` is the number of the block that is wanted, from 0, and `before` the count of items of the block before it, which is
-//! not looked at for blocks 0 to 2. The place of a refusal is `k`. A missing block is an empty one.
+//! In every call `number` is that of the block that is wanted, from 0, and `before` the count of items of the block before it, which is
+//! not looked at for blocks 0 to 2. The place of a refusal is `number`. A missing block is an empty one.
 //!
 //! ```
 //! use moatbetony::journal::{self, BlockKind};
@@ -23,10 +23,10 @@
 //! let fars = journal::opening_balances(&blocks[1], 1, 0)?;
 //! let mut pair = PairValidator::open(&homes, &fars)?;
 //! let mut before = 0;
-//! for (block, k) in blocks[2..].iter().zip(2..) {
-//!     let count = journal::count(block, k, before)?;
+//! for (block, number) in blocks[2..].iter().zip(2..) {
+//!     let count = journal::count(block, number, before)?;
 //!     for place in 0..count {
-//!         let record = journal::record_part(block, k, before, place)?;
+//!         let record = journal::record_part(block, number, before, place)?;
 //!         println!("{}", pair.check_record(record));
 //!     }
 //!     before = count;
@@ -61,10 +61,10 @@ pub enum BlockKind {
 }
 
 impl BlockKind {
-    /// The kind of block number `k`.
+    /// The kind of the block with this number.
     #[must_use]
-    pub fn of(k: u64) -> BlockKind {
-        match k {
+    pub fn of(number: u64) -> BlockKind {
+        match number {
             0 => BlockKind::HomeBalances,
             1 => BlockKind::FarBalances,
             _ => BlockKind::Records,
@@ -83,13 +83,13 @@ impl BlockKind {
 }
 
 /// Judges a block, and not the records in it. Refusals, in order: 11, 12, 13, 14.
-pub fn judge(block: &[u8], k: u64, before: u64) -> Answer {
-    Answer::of(calls::block_judge(block, k, before))
+pub fn judge(block: &[u8], number: u64, before: u64) -> Answer {
+    Answer::of(calls::block_judge(block, number, before))
 }
 
 /// Judges a block and the place, from 0, at which a record of it is wanted. Refusals, in order: 11, 12, 13, 14, 4.
-pub fn judge_record(block: &[u8], k: u64, before: u64, place: u64) -> Answer {
-    Answer::of(calls::block_judge_record(block, k, before, place))
+pub fn judge_record(block: &[u8], number: u64, before: u64, place: u64) -> Answer {
+    Answer::of(calls::block_judge_record(block, number, before, place))
 }
 
 /// The record at a place: that part of the block, and no copy.
@@ -97,8 +97,8 @@ pub fn judge_record(block: &[u8], k: u64, before: u64, place: u64) -> Answer {
 /// # Errors
 ///
 /// As [`judge_record`].
-pub fn record_part(block: &[u8], k: u64, before: u64, place: u64) -> Result<&[u8], Refusal> {
-    let told = calls::block_record(block, k, before, place);
+pub fn record_part(block: &[u8], number: u64, before: u64, place: u64) -> Result<&[u8], Refusal> {
+    let told = calls::block_record(block, number, before, place);
     value(told.answer, ())?;
     Ok(&block[told.start..][..told.length])
 }
@@ -108,8 +108,8 @@ pub fn record_part(block: &[u8], k: u64, before: u64, place: u64) -> Result<&[u8
 /// # Errors
 ///
 /// As [`judge`].
-pub fn count(block: &[u8], k: u64, before: u64) -> Result<u64, Refusal> {
-    let told = calls::block_count(block, k, before);
+pub fn count(block: &[u8], number: u64, before: u64) -> Result<u64, Refusal> {
+    let told = calls::block_count(block, number, before);
     value(told.answer, told.count)
 }
 
@@ -117,15 +117,15 @@ pub fn count(block: &[u8], k: u64, before: u64) -> Result<u64, Refusal> {
 ///
 /// # Errors
 ///
-/// As [`judge`], then [`Refusal::BlockRequest`] where `k` is 2 or more.
-pub fn opening_balances(block: &[u8], k: u64, before: u64) -> Result<Vec<u64>, Refusal> {
-    let told = calls::block_balances(block, k, before);
+/// As [`judge`], then [`Refusal::BlockRequest`] where `number` is 2 or more.
+pub fn opening_balances(block: &[u8], number: u64, before: u64) -> Result<Vec<u64>, Refusal> {
+    let told = calls::block_balances(block, number, before);
     value(told.answer, ())?;
     Ok(told.balances.iter().zip(0..told.count).map(|(&balance, _)| balance).collect())
 }
 
-/// Writes block `k` of a kind into 512 bytes: balances of 8 bytes, or records of 32, which are not judged. Refusal 4 leaves the output
-/// as it came.
-pub fn write_block(out: &mut [u8], k: u64, kind: BlockKind, items: &[u8]) -> Answer {
-    Answer::of(calls::block_write(out, k, kind.byte(), items))
+/// Writes block `number` of a kind into 512 bytes: balances of 8 bytes, or records of 32, which are not judged. Refusal 4 leaves the
+/// output as it came.
+pub fn write_block(out: &mut [u8], number: u64, kind: BlockKind, items: &[u8]) -> Answer {
+    Answer::of(calls::block_write(out, number, kind.byte(), items))
 }

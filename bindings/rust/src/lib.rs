@@ -1,8 +1,8 @@
 //! Moatbetony: a proved checker of two linked ledgers that trade one credit, a home ledger and a far ledger run by people nobody here
 //! has met. This crate is the safe Rust side of its C library.
 //!
-//! A desk that sees home alone opens a [`HomeValidator`], hands in each record of 32 bytes, and hands goods over on
-//! [`Answer::Passed`]:
+//! A desk that sees home alone opens a [`HomeValidator`], hands in each record of 32 bytes, and hands goods over where the answer is
+//! [`Answer::Passed`] and the record pays the desk:
 //!
 //! ```
 //! use moatbetony::{Answer, HomeValidator, Kind, Ledger, Record};
@@ -10,21 +10,37 @@
 //! // Home balances of two accounts; one far account, with 20.
 //! let mut desk = HomeValidator::open(&[100, 50], 1, 20)?;
 //!
-//! // A customer pays 30 from account 0 into the desk's account 1. The host has checked the signature.
-//! let payment = Record {
-//!     kind: Kind::Local, ledger: Ledger::Home, sender: 0, receiver: 1, number: 1, amount: 30, verified: true,
-//! };
-//! match desk.check_record(&payment.encode()?) {
-//!     Answer::Passed => println!("handed over"),
+//! // What came in: a customer pays 30 from account 0 into the desk's account 1.
+//! # let sent = Record {
+//! #     kind: Kind::Local, ledger: Ledger::Home, sender: 0, receiver: 1, number: 1, amount: 30, verified: true,
+//! # };
+//! # let (mut bytes, signature_good) = (sent.encode()?, true);
+//! // What the desk's own check of the signature found, over whatever the sender wrote there.
+//! bytes[24] = signature_good.into();
+//! match desk.check_record(&bytes) {
+//!     Answer::Passed => {
+//!         let record = Record::read(&bytes)?;
+//!         let comes_in = record.kind == Kind::Arrival || record.kind == Kind::Local && record.sender != 1;
+//!         if record.ledger == Ledger::Home && comes_in && record.receiver == 1 && record.amount >= 30 {
+//!             println!("handed over");
+//!         }
+//!     }
 //!     Answer::Refused { refusal, .. } => println!("not handed over: {refusal} ({})", refusal.number()),
 //! }
 //! assert_eq!(desk.balance(1)?, 80);
 //!
 //! // The same record once more is refused, and moves nothing.
-//! assert!(!desk.check_record(&payment.encode()?).is_passed());
+//! assert!(!desk.check_record(&bytes).is_passed());
 //! assert_eq!(desk.balance(1)?, 80);
 //! # Ok::<(), moatbetony::Refusal>(())
 //! ```
+//!
+//! Signatures are not checked here. Byte 24 of a record says what the caller's own check of its signature found (1 good, 0 bad). Write
+//! it yourself, over whatever came in, before the record is handed in: a record whose byte 24 its sender wrote is one that nobody has
+//! checked.
+//!
+//! Passed says that the record is in order and its credit has moved. Whether it pays you, and enough, you read with [`Record::read`]: a
+//! local or an arrival on home, to your account, from another one if it is a local, of the price.
 //!
 //! A validator takes any bytes, always answers, and on a refusal is as it was. Its state can be stored and taken up again:
 //!
@@ -41,11 +57,19 @@
 //! # Ok::<(), moatbetony::Refusal>(())
 //! ```
 //!
+//! Every call judges its state first (refusal 3). 3 says that a state's numbers fit together, and no more. It does not see two balances
+//! exchanged, a balance raised together with the supply (home: or at the far pool's cost), held records left out, so that they pass
+//! again, or an older state put back. Keep the latest digest of a stored state where nobody else can write it, and store a new state
+//! before goods are handed over on it.
+//!
 //! What is proved is the library's code, for every input. This crate, like every caller, is not covered by the proofs: it turns slices
 //! into pointers and lengths, and numbers into enums. A thread that calls needs 256 KB of stack for a [`PairValidator`] and 128 KB for a
 //! [`HomeValidator`]; Rust's own threads have 2 MB. Any number of threads may call at once, each with a validator of its own.
 //!
-//! The crate links `libmoatbetony.a` from the folder that `MOATBETONY_LIB_DIR` names at build time.
+//! The crate links `libmoatbetony.a` from the folder that `MOATBETONY_LIB_DIR` names at build time. The archive of another version may
+//! have other arguments and other states, so the first call compares [`version`] and [`state_version`] with [`VERSION`] and
+//! [`STATE_VERSION`]; where they differ, it and every later call but these two panic with "libmoatbetony.a and this crate do not belong
+//! together".
 
 #![deny(missing_docs)]
 #![deny(unsafe_code)]
@@ -78,13 +102,13 @@ pub const CAPACITY: usize = 512;
 /// The most credit that both ledgers hold, and the most that a record moves: 2^63-1.
 pub const MAX_SUPPLY: u64 = (1 << 63) - 1;
 
-/// The version of the library that is linked. Equal to [`VERSION`] if it and this crate belong together.
+/// The version of the library that is linked. Equal to [`VERSION`] if it and this crate belong together; never panics.
 #[must_use]
 pub fn version() -> u32 {
     calls::version()
 }
 
-/// The linked library's layout of the two states.
+/// The linked library's layout of the two states. Equal to [`STATE_VERSION`] if it and this crate belong together; never panics.
 #[must_use]
 pub fn state_version() -> u32 {
     calls::state_version()

@@ -89,7 +89,11 @@ pub struct Record {
     pub number: u64,
     /// The amount, 1 to 2^63-1.
     pub amount: u64,
-    /// Whether the host found its signature good (document 01: the verdict).
+    /// Whether the caller's own check found its signature good (the networks' word: the verdict).
+    ///
+    /// Signatures are not checked here. Byte 24 of a record says what the caller's own check of its signature found (1 good, 0 bad).
+    /// Write it yourself, over whatever came in, before the record is handed in: a record whose byte 24 its sender wrote is one that
+    /// nobody has checked.
     pub verified: bool,
 }
 
@@ -97,7 +101,7 @@ impl Record {
     /// The bytes of a record.
     pub const SIZE: usize = RECORD_SIZE;
 
-    /// Reads 32 bytes.
+    /// Reads 32 bytes. What it gives for [`verified`](Self::verified) is byte 24 as it stands.
     ///
     /// # Errors
     ///

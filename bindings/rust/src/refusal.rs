@@ -5,11 +5,15 @@ use std::fmt;
 
 /// What a call answers: passed, or one refusal with its place.
 ///
-/// Hand goods over on [`Answer::Passed`] and on nothing else.
+/// Hand nothing over on a refusal, and on [`Answer::Passed`] only what the record pays for.
 #[must_use = "goods are handed over on Passed alone"]
 #[derive(Clone, Copy, Debug, PartialEq, Eq, Hash)]
 pub enum Answer {
     /// The record, list, block or write is in order, and was taken.
+    ///
+    /// Passed says that the record is in order and its credit has moved. Whether it pays you, and enough, you read with
+    /// [`Record::read`](crate::Record::read): a local or an arrival on home, to your account, from another one if it is a local, of
+    /// the price.
     Passed,
     /// It is not, and nothing was altered.
     Refused {
@@ -77,8 +81,9 @@ macro_rules! refusals {
     ($($name:ident = $number:literal, $text:literal, $who:literal;)*) => {
         /// Why a call was refused.
         ///
-        /// Numbers and their meanings never change. Later versions of the library may add numbers, which an older crate tells as
-        /// [`Refusal::Other`].
+        /// A number keeps its subject and is never given to another. When it is given may change with the rules of a later version,
+        /// and a later version may add numbers, also for a part of what an older one told; CHANGELOG.md names each. A number that
+        /// this version of the crate does not know is [`Refusal::Other`].
         #[non_exhaustive]
         #[derive(Clone, Copy, Debug, PartialEq, Eq, Hash)]
         pub enum Refusal {
@@ -101,7 +106,7 @@ macro_rules! refusals {
                 }
             }
 
-            /// The refusal's number, as in the C interface, in listings and in `docs/REFUSALS.md`.
+            /// The refusal's number, as in the C interface, in listings and in REFUSALS.md of the documentation.
             #[must_use]
             pub fn number(self) -> u32 {
                 match self {

@@ -20,11 +20,11 @@ pub struct PairFigures {
 pub struct HomeFigures {
     /// The balances of home.
     pub home: u64,
-    /// The far pool (document 01: far due): the far opening total, plus what home has sent, less what has arrived.
+    /// The far pool (the networks' word: far due): the far opening total, plus what home has sent, less what has arrived.
     pub pool: u64,
 }
 
-/// The checker that sees the records of both ledgers in one order (document 01: pair book).
+/// The checker that sees the records of both ledgers in one order (the networks' word: pair book).
 ///
 /// ```
 /// use moatbetony::{Answer, Kind, Ledger, PairFigures, PairValidator, Record, Refusal};
@@ -46,8 +46,8 @@ pub struct PairValidator {
     state: Box<ffi::PairValidator>,
 }
 
-/// The checker that sees the home ledger's records alone (document 01: guard). However the far ledger is run, it never lets more arrive
-/// than the far opening total and what home has sent.
+/// The checker that sees the home ledger's records alone (the networks' word: guard). However the far ledger is run, it never lets
+/// more arrive than the far opening total and what home has sent.
 ///
 /// ```
 /// use moatbetony::{HomeFigures, HomeValidator, Kind, Ledger, Record, Refusal};
@@ -75,7 +75,8 @@ macro_rules! validator {
             /// The bytes of a state.
             pub const STATE_SIZE: usize = size_of::<ffi::$name>();
 
-            /// Checks one record, and moves its credit if it passes. A refusal alters nothing.
+            /// Checks one record, and moves its credit if it passes. A refusal alters nothing. Its signature is what byte 24 says:
+            /// see [`Record::verified`](crate::Record::verified).
             ///
             #[doc = $refusals]
             pub fn check_record(&mut self, record: &[u8]) -> Answer {
@@ -94,7 +95,8 @@ macro_rules! validator {
                 Answer::of(told.answer)
             }
 
-            /// The state's bytes, to be stored. Store [`STATE_VERSION`](crate::STATE_VERSION) and a digest with them.
+            /// The state's bytes, to be stored. Store [`STATE_VERSION`](crate::STATE_VERSION) and a digest with them, and keep the
+            /// latest digest where nobody else can write it.
             #[must_use]
             pub fn as_bytes(&self) -> &[u8] {
                 calls::bytes_of(&*self.state)
@@ -102,9 +104,10 @@ macro_rules! validator {
 
             /// Takes up stored bytes, whatever they hold; `None` if they are not [`STATE_SIZE`](Self::STATE_SIZE) long.
             ///
-            /// Every call judges the state first and answers [`Refusal::State`] where its numbers do not fit together. What that does
-            /// not see, as two balances exchanged or an older state put back, is accepted: compare a digest before, and keep the latest
-            /// one where nobody else can write it.
+            /// Every call judges the state first (refusal 3, [`Refusal::State`]). 3 says that a state's numbers fit together, and no
+            /// more. It does not see two balances exchanged, a balance raised together with the supply (home: or at the far pool's
+            /// cost), held records left out, so that they pass again, or an older state put back. Compare a digest before, and keep
+            /// the latest one where nobody else can write it.
             #[must_use]
             pub fn from_bytes(bytes: &[u8]) -> Option<Self> {
                 Some($name { state: calls::from_bytes(bytes)? })
@@ -141,8 +144,8 @@ impl PairValidator {
     /// # Errors
     ///
     /// [`Refusal::AccountCount`], then [`Refusal::Supply`].
-    pub fn open(homes: &[u64], fars: &[u64]) -> Result<PairValidator, Refusal> {
-        let told = calls::pair_open(homes, fars);
+    pub fn open(home_balances: &[u64], far_balances: &[u64]) -> Result<PairValidator, Refusal> {
+        let told = calls::pair_open(home_balances, far_balances);
         value(told.answer, ())?;
         Ok(PairValidator { state: Box::new(told.state) })
     }
@@ -174,8 +177,8 @@ impl HomeValidator {
     /// # Errors
     ///
     /// [`Refusal::AccountCount`], then [`Refusal::Supply`].
-    pub fn open(homes: &[u64], fars: usize, far_total: u64) -> Result<HomeValidator, Refusal> {
-        let told = calls::home_open(homes, fars, far_total);
+    pub fn open(home_balances: &[u64], far_accounts: usize, far_total: u64) -> Result<HomeValidator, Refusal> {
+        let told = calls::home_open(home_balances, far_accounts, far_total);
         value(told.answer, ())?;
         Ok(HomeValidator { state: Box::new(told.state) })
     }
@@ -218,8 +221,8 @@ impl fmt::Debug for HomeValidator {
         f.debug_struct("HomeValidator")
             .field("supply", &self.state.supply)
             .field("pool", &self.state.pool)
-            .field("homes", &self.state.homes)
-            .field("fars", &self.state.fars)
+            .field("home_accounts", &self.state.home_accounts)
+            .field("far_accounts", &self.state.far_accounts)
             .field("count", &self.state.count)
             .finish_non_exhaustive()
     }

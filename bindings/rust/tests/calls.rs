@@ -168,7 +168,7 @@ fn states_as_bytes() {
 #[test]
 fn states_print_short() {
     assert_eq!(format!("{:?}", pair()), "PairValidator { supply: 170, accounts: [2, 1], counts: [0, 0], .. }");
-    assert_eq!(format!("{:?}", home()), "HomeValidator { supply: 170, pool: 20, homes: 2, fars: 1, count: 0, .. }");
+    assert_eq!(format!("{:?}", home()), "HomeValidator { supply: 170, pool: 20, home_accounts: 2, far_accounts: 1, count: 0, .. }");
 }
 
 #[test]

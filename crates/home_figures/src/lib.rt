@@ -29,8 +29,8 @@ pub fn figures(state: HomeValidator) -> HomeFigures
     if !is_accepted(
         state.supply,
         state.pool,
-        state.homes,
-        state.fars,
+        state.home_accounts,
+        state.far_accounts,
         state.count,
         &state.balances,
         &state.kinds,
@@ -68,8 +68,8 @@ pub fn balance(state: HomeValidator, account: u16) -> Balance
     if !is_accepted(
         state.supply,
         state.pool,
-        state.homes,
-        state.fars,
+        state.home_accounts,
+        state.far_accounts,
         state.count,
         &state.balances,
         &state.kinds,
@@ -84,6 +84,6 @@ pub fn balance(state: HomeValidator, account: u16) -> Balance
     ) {
         return balance_refused(3);
     }
-    let open = state.homes;
+    let open = state.home_accounts;
     balance_among(&state.balances, 0, open, account)
 }

@@ -42,8 +42,8 @@ homeStored s r e =
     record {
       supply = s .supply;
       pool = s .pool + e .taken - e .given;
-      homes = s .homes;
-      fars = s .fars;
+      «home_accounts» = s .«home_accounts»;
+      «far_accounts» = s .«far_accounts»;
       count = s .count + 1;
       balances = set (set (s .balances) (e .from) (getD (s .balances) (e .from) 0 - e .taken)) (e .to)
           (getD (set (s .balances) (e .from) (getD (s .balances) (e .from) 0 - e .taken)) (e .to) 0 + e .given);
@@ -65,8 +65,8 @@ home-stored-is s r e p =
     (λ i. record {
       supply = s .supply;
       pool = sym (pool-moved (s .pool) r (r .kind)) i;
-      homes = s .homes;
-      fars = s .fars;
+      «home_accounts» = s .«home_accounts»;
+      «far_accounts» = s .«far_accounts»;
       count = s .count + 1;
       balances = taken-given (s .balances) 0 r i;
       numbers = set (s .numbers) (s .count) (r .number);
@@ -229,7 +229,7 @@ pub record HomeIndex (s : HomeValidator) (heads nexts : List ℕ) : Type 0 where
 
 -- what judging needs of the columns and of the index
 pub home-fits-of : (s : HomeValidator) → HomeSound (homeTablesOf s) → (heads nexts : List ℕ) → HomeIndex s heads nexts
-    → (s .homes ≤ length (s .balances)) × (s .count ≤ length (s .numbers)) × (chainCount ≤ length heads) × (s .count ≤ length nexts)
+    → (s .«home_accounts» ≤ length (s .balances)) × (s .count ≤ length (s .numbers)) × (chainCount ≤ length heads) × (s .count ≤ length nexts)
     × Indexed (s .numbers) heads nexts 0 0 (s .count)
 home-fits-of s z heads nexts i = (
   rw (z .sized .balances-are) (z .bounds .home-fits),

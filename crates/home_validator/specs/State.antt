@@ -17,8 +17,8 @@ homeTablesOf s =
     record {
       supply = s .supply;
       pool = s .pool;
-      homes = s .homes;
-      fars = s .fars;
+      homes = s .«home_accounts»;
+      fars = s .«far_accounts»;
       count = s .count;
       balances = s .balances;
       columns = record {
@@ -38,8 +38,8 @@ homeStateWith t =
     record {
       supply = t .supply;
       pool = t .pool;
-      homes = t .homes;
-      fars = t .fars;
+      «home_accounts» = t .homes;
+      «far_accounts» = t .fars;
       count = t .count;
       balances = t .balances;
       numbers = t .columns .numbers;

@@ -29,9 +29,9 @@ pub struct HomeValidator {
     // Document 01: far due.
     pub pool: u64,
     // The number of home accounts.
-    pub homes: usize,
+    pub home_accounts: usize,
     // The number of far accounts.
-    pub fars: usize,
+    pub far_accounts: usize,
     // The number of held records.
     pub count: usize,
     pub balances: [u64; Ledger::ACCOUNTS],
@@ -53,16 +53,16 @@ pub struct HomeOutcome {
 impl HomeValidator {
     // An opening with the home balances, the number of far accounts and the far total: 1, 2. Beside a refusal stands the all-zero
     // state, which every call refuses.
-    pub fn open(balances: &[u64], fars: usize, far_total: u64) -> HomeOutcome
-        ensures answers { λ r. ⌜ r .answer ≡ answer (homeOpeningRefusal (now (balances .entry)) fars «far_total») 0 ⌝ }
-        ensures hands_back { λ r. ⌜ r .state ≡ unlessRefused (homeOpeningRefusal (now (balances .entry)) fars «far_total»)
-            (homeOpenedState (now (balances .entry)) fars «far_total») homeZeroState ⌝ }
+    pub fn open(balances: &[u64], far_accounts: usize, far_total: u64) -> HomeOutcome
+        ensures answers { λ r. ⌜ r .answer ≡ answer (homeOpeningRefusal (now (balances .entry)) «far_accounts» «far_total») 0 ⌝ }
+        ensures hands_back { λ r. ⌜ r .state ≡ unlessRefused (homeOpeningRefusal (now (balances .entry)) «far_accounts» «far_total»)
+            (homeOpenedState (now (balances .entry)) «far_accounts» «far_total») homeZeroState ⌝ }
     {
         let mut state = HomeValidator {
             supply: 0,
             pool: 0,
-            homes: 0,
-            fars: 0,
+            home_accounts: 0,
+            far_accounts: 0,
             count: 0,
             balances: [0; Ledger::ACCOUNTS],
             numbers: [0; Ledger::CAPACITY],
@@ -73,7 +73,7 @@ impl HomeValidator {
             ledgers: [0; Ledger::CAPACITY],
             verdicts: [0; Ledger::CAPACITY],
         };
-        let opening = home_opening(balances, fars, far_total);
+        let opening = home_opening(balances, far_accounts, far_total);
         if opening.refusal != 0 {
             return HomeOutcome {
                 answer: Answer::Refused {
@@ -87,8 +87,8 @@ impl HomeValidator {
         copy_numbers(balances, 0, &mut held);
         state.supply = opening.supply;
         state.pool = far_total;
-        state.homes = balances.len();
-        state.fars = fars;
+        state.home_accounts = balances.len();
+        state.far_accounts = far_accounts;
         state.balances = held;
         HomeOutcome {
             answer: Answer::Passed,
@@ -104,8 +104,8 @@ impl HomeValidator {
         let judged = judge_call(
             self.supply,
             self.pool,
-            self.homes,
-            self.fars,
+            self.home_accounts,
+            self.far_accounts,
             self.count,
             &self.balances,
             &self.kinds,
@@ -161,8 +161,8 @@ impl HomeValidator {
         if !is_accepted(
             self.supply,
             self.pool,
-            self.homes,
-            self.fars,
+            self.home_accounts,
+            self.far_accounts,
             self.count,
             &self.balances,
             &self.kinds,
@@ -189,8 +189,8 @@ impl HomeValidator {
         while at < bytes.len() {
             let end = part_end(Record::SIZE, at, bytes.len());
             let judged = judge_bytes(
-                self.homes,
-                self.fars,
+                self.home_accounts,
+                self.far_accounts,
                 self.pool,
                 self.count,
                 &self.balances,

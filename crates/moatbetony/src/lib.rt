@@ -46,7 +46,7 @@ pub extern "C" fn moatbetony_version() -> u32
 pub extern "C" fn moatbetony_state_version() -> u32
     ensures { λ r. ⌜ r ≡ stateVersion ⌝ }
 {
-    1
+    1 // of the states
 }
 
 // ## Answers
@@ -70,14 +70,14 @@ fn tell(a: Answer) -> Told
 
 // ## The pair validator
 
-// An outcome.
+// An answer, and the state to go on with.
 #[repr(C)]
 pub struct PairTold {
     pub answer: Told,
     pub state: PairValidator,
 }
 
-// Figures.
+// An answer, the totals of both ledgers and what is in flight.
 #[repr(C)]
 pub struct PairFiguresTold {
     pub answer: Told,
@@ -86,7 +86,7 @@ pub struct PairFiguresTold {
     pub flight: u64,
 }
 
-// A balance.
+// An answer, and the balance of an account.
 #[repr(C)]
 pub struct BalanceTold {
     pub answer: Told,
@@ -95,12 +95,15 @@ pub struct BalanceTold {
 
 // An opening.
 #[no_mangle]
-pub extern "C" fn moatbetony_pair_open<'a>(homes: &'a [u64], fars: &'a [u64]) -> PairTold
-    ensures { λ r. ⌜ r ≡ pairTold (answer (pairOpeningRefusal (now (homes .entry)) (now (fars .entry))) 0)
-        (unlessRefused (pairOpeningRefusal (now (homes .entry)) (now (fars .entry))) (openedState (now (homes .entry)) (now (fars .entry)))
+pub extern "C" fn moatbetony_pair_open<'a>(
+    home_balances: &'a [u64],
+    far_balances: &'a [u64],
+) -> PairTold
+    ensures { λ r. ⌜ r ≡ pairTold (answer (pairOpeningRefusal (now («home_balances» .entry)) (now («far_balances» .entry))) 0)
+        (unlessRefused (pairOpeningRefusal (now («home_balances» .entry)) (now («far_balances» .entry))) (openedState (now («home_balances» .entry)) (now («far_balances» .entry)))
         zeroState) ⌝ }
 {
-    let o = PairValidator::open(homes, fars);
+    let o = PairValidator::open(home_balances, far_balances);
     let a = o.answer;
     let state = o.state;
     PairTold {
@@ -173,14 +176,14 @@ pub extern "C" fn moatbetony_pair_balance(
 
 // ## The home validator
 
-// An outcome.
+// An answer, and the state to go on with.
 #[repr(C)]
 pub struct HomeTold {
     pub answer: Told,
     pub state: HomeValidator,
 }
 
-// Figures.
+// An answer, the home total and the far pool.
 #[repr(C)]
 pub struct HomeFiguresTold {
     pub answer: Told,
@@ -190,12 +193,16 @@ pub struct HomeFiguresTold {
 
 // An opening.
 #[no_mangle]
-pub extern "C" fn moatbetony_home_open(homes: &[u64], fars: usize, far_total: u64) -> HomeTold
-    ensures { λ r. ⌜ r ≡ homeTold (answer (homeOpeningRefusal (now (homes .entry)) fars «far_total») 0)
-        (unlessRefused (homeOpeningRefusal (now (homes .entry)) fars «far_total»)
-        (homeOpenedState (now (homes .entry)) fars «far_total») homeZeroState) ⌝ }
+pub extern "C" fn moatbetony_home_open(
+    home_balances: &[u64],
+    far_accounts: usize,
+    far_total: u64,
+) -> HomeTold
+    ensures { λ r. ⌜ r ≡ homeTold (answer (homeOpeningRefusal (now («home_balances» .entry)) «far_accounts» «far_total») 0)
+        (unlessRefused (homeOpeningRefusal (now («home_balances» .entry)) «far_accounts» «far_total»)
+        (homeOpenedState (now («home_balances» .entry)) «far_accounts» «far_total») homeZeroState) ⌝ }
 {
-    let o = HomeValidator::open(homes, fars, far_total);
+    let o = HomeValidator::open(home_balances, far_accounts, far_total);
     let a = o.answer;
     let state = o.state;
     HomeTold {
@@ -386,32 +393,37 @@ pub struct BalancesTold {
 
 // Judges a block.
 #[no_mangle]
-pub extern "C" fn moatbetony_block_judge(block: &[u8], k: u64, before: u64) -> Told
-    ensures { λ r. ⌜ r ≡ told (answer (blockRefusal (now (block .entry)) k before) k) ⌝ }
+pub extern "C" fn moatbetony_block_judge(block: &[u8], number: u64, before: u64) -> Told
+    ensures { λ r. ⌜ r ≡ told (answer (blockRefusal (now (block .entry)) number before) number) ⌝ }
 {
-    tell(journal_reader::judge(block, k, before))
+    tell(journal_reader::judge(block, number, before))
 }
 
 // Judges a block and a place.
 #[no_mangle]
 pub extern "C" fn moatbetony_block_judge_record(
     block: &[u8],
-    k: u64,
+    number: u64,
     before: u64,
     place: u64,
 ) -> Told
-    ensures { λ r. ⌜ r ≡ told (answer (recordRefusal (now (block .entry)) k before place) k) ⌝ }
+    ensures { λ r. ⌜ r ≡ told (answer (recordRefusal (now (block .entry)) number before place) number) ⌝ }
 {
-    tell(journal_reader::judge_record(block, k, before, place))
+    tell(journal_reader::judge_record(block, number, before, place))
 }
 
 // Where the record at a place stands in its block: the bytes there are the part that is handed out within the language.
 #[no_mangle]
-pub extern "C" fn moatbetony_block_record(block: &[u8], k: u64, before: u64, place: u64) -> PartTold
-    ensures stands { λ r. ⌜ r ≡ partTold (recordRefusal (now (block .entry)) k before place) k place ⌝ }
-    ensures holds { λ r. ⌜ take (r .length) (drop (r .start) (now (block .entry))) ≡ partOf (now (block .entry)) k before place ⌝ }
+pub extern "C" fn moatbetony_block_record(
+    block: &[u8],
+    number: u64,
+    before: u64,
+    place: u64,
+) -> PartTold
+    ensures stands { λ r. ⌜ r ≡ partTold (recordRefusal (now (block .entry)) number before place) number place ⌝ }
+    ensures holds { λ r. ⌜ take (r .length) (drop (r .start) (now (block .entry))) ≡ partOf (now (block .entry)) number before place ⌝ }
 {
-    let answer = journal_reader::judge_record(block, k, before, place);
+    let answer = journal_reader::judge_record(block, number, before, place);
     let Answer::Passed = answer else {
         return PartTold {
             answer: tell(answer),
@@ -428,10 +440,10 @@ pub extern "C" fn moatbetony_block_record(block: &[u8], k: u64, before: u64, pla
 
 // The count of a block's items.
 #[no_mangle]
-pub extern "C" fn moatbetony_block_count(block: &[u8], k: u64, before: u64) -> CountTold
-    ensures { λ r. ⌜ r ≡ countTold (countOf (now (block .entry)) k before) ⌝ }
+pub extern "C" fn moatbetony_block_count(block: &[u8], number: u64, before: u64) -> CountTold
+    ensures { λ r. ⌜ r ≡ countTold (countOf (now (block .entry)) number before) ⌝ }
 {
-    let c = journal_reader::item_count(block, k, before);
+    let c = journal_reader::item_count(block, number, before);
     let a = c.answer;
     CountTold {
         answer: tell(a),
@@ -441,10 +453,10 @@ pub extern "C" fn moatbetony_block_count(block: &[u8], k: u64, before: u64) -> C
 
 // The opening balances of a block.
 #[no_mangle]
-pub extern "C" fn moatbetony_block_balances(block: &[u8], k: u64, before: u64) -> BalancesTold
-    ensures { λ r. ⌜ r ≡ balancesTold (openingOf (now (block .entry)) k before) ⌝ }
+pub extern "C" fn moatbetony_block_balances(block: &[u8], number: u64, before: u64) -> BalancesTold
+    ensures { λ r. ⌜ r ≡ balancesTold (openingOf (now (block .entry)) number before) ⌝ }
 {
-    let o = journal_reader::opening_balances(block, k, before);
+    let o = journal_reader::opening_balances(block, number, before);
     let a = o.answer;
     let balances = o.balances;
     BalancesTold {
@@ -456,11 +468,16 @@ pub extern "C" fn moatbetony_block_balances(block: &[u8], k: u64, before: u64) -
 
 // Writes a block.
 #[no_mangle]
-pub extern "C" fn moatbetony_block_write(out: &mut [u8], k: u64, kind: u8, items: &[u8]) -> Told
-    ensures answers { λ r. ⌜ r ≡ told (answer (writeRefusal (length (now (out .entry))) k kind (length (now (items .entry)))) k) ⌝ }
-    ensures leaves { λ _. ⌜ now (out .exit) ≡ written (now (out .entry)) k kind (now (items .entry)) ⌝ }
+pub extern "C" fn moatbetony_block_write(
+    out: &mut [u8],
+    number: u64,
+    kind: u8,
+    items: &[u8],
+) -> Told
+    ensures answers { λ r. ⌜ r ≡ told (answer (writeRefusal (length (now (out .entry))) number kind (length (now (items .entry)))) number) ⌝ }
+    ensures leaves { λ _. ⌜ now (out .exit) ≡ written (now (out .entry)) number kind (now (items .entry)) ⌝ }
 {
-    tell(journal_writer::write(out, k, kind, items))
+    tell(journal_writer::write(out, number, kind, items))
 }
 
 // ## SHA-256

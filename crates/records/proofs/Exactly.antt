@@ -8,6 +8,7 @@ use lib.Dec.{eqb}
 use lib.ListN.{length, drop, drop-of-length-le}
 use Rattle.ledgers.specs.Ledgers.{ledgerByte, ledgerAt, kindByte, kindAt, ledgerOf}
 use Rattle.ledgers.specs.Limits.{maxAmount}
+use Rattle.record_fields.specs.Fields.{fieldBytes}
 use Rattle.records.proofs.Formed.{Formed, formed-facts, facts-formed, read-formed, formed-reads}
 use Rattle.records.specs.Records.{Record, Read, recordIn, reading, encoding, Encodable, Readable, ReadsExactly, EncodingReads}
 use Rattle.records.specs.Records.{EncodedOnce}
@@ -84,7 +85,7 @@ module _ (b : List ℕ) (y : Bytes b) (f : Formed b) where
 
   -- they are the encoding of the record in them
   pub formed-encoded : b ≡ encoding (recordIn b)
-  unfolding encoding recordIn bytesOf
+  unfolding encoding fieldBytes recordIn bytesOf
   formed-encoded =
       let l : Ledger = ledgerAt (field 1 1 b) in
       let k = kind-byte (field 0 1 b) l (f .kind-some) (f .kind-most) in
@@ -144,52 +145,52 @@ verdict-back false = (refl, omega arith)
 module _ (r : Record) (g : Encodable r) where
   -- the fields of an encoding, one by one
   f-length : length (encoding r) ≡ 32
-  unfolding encoding bytesOf
+  unfolding encoding fieldBytes bytesOf
   f-length = refl
 
   -- byte 0
   f-kind : field 0 1 (encoding r) ≡ kindByte (r .kind)
-  unfolding field encoding bytesOf valueAfter
+  unfolding field encoding fieldBytes bytesOf valueAfter
   f-kind = omega arith
 
   -- byte 1
   f-ledger : field 1 1 (encoding r) ≡ ledgerByte (ledgerOf (r .kind))
-  unfolding field encoding bytesOf valueAfter
+  unfolding field encoding fieldBytes bytesOf valueAfter
   f-ledger = omega arith
 
   -- bytes 2-3
   f-sender : field 2 2 (encoding r) ≡ r .sender
-  unfolding field encoding bytesOf
+  unfolding field encoding fieldBytes bytesOf
   f-sender = value-back 2 (r .sender) (g .sender-fits)
 
   -- bytes 4-5
   f-receiver : field 4 2 (encoding r) ≡ r .receiver
-  unfolding field encoding bytesOf
+  unfolding field encoding fieldBytes bytesOf
   f-receiver = value-back 2 (r .receiver) (g .receiver-fits)
 
   -- bytes 6-7
   f-first : field 6 2 (encoding r) ≡ 0
-  unfolding field encoding bytesOf valueAfter
+  unfolding field encoding fieldBytes bytesOf valueAfter
   f-first = refl
 
   -- bytes 8-15
   f-number : field 8 8 (encoding r) ≡ r .number
-  unfolding field encoding bytesOf
+  unfolding field encoding fieldBytes bytesOf
   f-number = value-back 8 (r .number) (g .number-fits)
 
   -- bytes 16-23
   f-amount : field 16 8 (encoding r) ≡ r .amount
-  unfolding field encoding bytesOf
+  unfolding field encoding fieldBytes bytesOf
   f-amount = value-back 8 (r .amount) (g .amount-fits)
 
   -- byte 24
   f-verdict : field 24 1 (encoding r) ≡ cond (r .verified) 1 0
-  unfolding field encoding bytesOf valueAfter
+  unfolding field encoding fieldBytes bytesOf valueAfter
   f-verdict = omega arith
 
   -- bytes 25-31
   f-last : field 25 7 (encoding r) ≡ 0
-  unfolding field encoding bytesOf valueAfter
+  unfolding field encoding fieldBytes bytesOf valueAfter
   f-last = refl
 
   -- the record in the encoding

@@ -1,12 +1,13 @@
 -- The record of 32 bytes (document 01, "The record"): its reading and its encoding. Assumes nothing.
 use Prim.Native.Nat.{ℕ, _<_, _≤_, _^_}
 use mathlib.Core.Bool.{Bool, cond}
-use mathlib.Core.List.{List, [], _∷_, _++_}
+use mathlib.Core.List.{List, [], _∷_}
 use mathlib.Core.Logic.{_↔_}
 use mathlib.Core.Path.{_≡_}
 use lib.Dec.{eqb, ltb, leb}
-use lib.ListN.{length, replicate}
-use Rattle.wire.specs.BigEndian.{Bytes, every, field, bytesOf}
+use lib.ListN.{length}
+use Rattle.record_fields.specs.Fields.{fieldBytes}
+use Rattle.wire.specs.BigEndian.{Bytes, every, field}
 use Rattle.ledgers.specs.Limits.{maxAmount}
 use Rattle.ledgers.specs.Ledgers.{ledgerByte, ledgerAt, kindByte, kindAt, ledgerOf}
 pub use Rattle.records.specs.declared.Record.{Record}
@@ -53,13 +54,8 @@ reading b = cond (formed b) (Read (recordIn b)) Unreadable
 -- the 32 bytes of a record
 unfoldable pub encoding : Record → List ℕ
 encoding r =
-    kindByte (r .kind)
-    ∷ ledgerByte (ledgerOf (r .kind))
-    ∷ (bytesOf 2 (r .sender)
-    ++ (bytesOf 2 (r .receiver)
-    ++ (0 ∷ 0 ∷ (bytesOf 8 (r .number)
-    ++ (bytesOf 8 (r .amount)
-    ++ (cond (r .verified) 1 0 ∷ replicate 7 0))))))
+    fieldBytes (kindByte (r .kind)) (ledgerByte (ledgerOf (r .kind))) (r .sender) (r .receiver) (r .number) (r .amount)
+    (cond (r .verified) 1 0)
 
 -- ## Reading and encoding
 

@@ -6,10 +6,9 @@ ghost use Rattle.ledgers.specs.Ledgers.{ledgerAt, kindAt};
 ghost use Rattle.records.specs.Records.{formed, recordIn, reading, encoding};
 use ledgers::Kind;
 use ledgers::Ledger;
+use record_fields::field_bytes;
 use wire::u16_at;
-use wire::u16_bytes;
 use wire::u64_at;
-use wire::u64_bytes;
 
 // A record that was read.
 pub struct Record {
@@ -130,44 +129,15 @@ impl Record {
         ensures { λ r. ⌜ r ≡ encoding self ⌝ }
     {
         let k = self.kind;
-        let s = u16_bytes(self.sender);
-        let r = u16_bytes(self.receiver);
-        let n = u64_bytes(self.number);
-        let a = u64_bytes(self.amount);
         let v = verdict_byte(self.verified);
-        [
+        field_bytes(
             k.byte(),
             k.ledger().byte(),
-            s[0],
-            s[1],
-            r[0],
-            r[1],
-            0,
-            0,
-            n[0],
-            n[1],
-            n[2],
-            n[3],
-            n[4],
-            n[5],
-            n[6],
-            n[7],
-            a[0],
-            a[1],
-            a[2],
-            a[3],
-            a[4],
-            a[5],
-            a[6],
-            a[7],
+            self.sender,
+            self.receiver,
+            self.number,
+            self.amount,
             v,
-            0,
-            0,
-            0,
-            0,
-            0,
-            0,
-            0,
-        ]
+        )
     }
 }

@@ -14,6 +14,7 @@ use lib.Seq.{drop-cons}
 use Rattle.answers.proofs.Answers.{or-else-zero}
 use Rattle.ledgers.specs.Ledgers.{ledgerByte, kindByte, ledgerOf}
 use Rattle.ledgers.specs.Limits.{maxAmount}
+use Rattle.record_fields.specs.Fields.{fieldBytes}
 use Rattle.records.proofs.Exactly.{encoding-reads, reads-exactly}
 use Rattle.records.proofs.Formed.{read-formed}
 use Rattle.records.specs.Records.{recordIn, reading, encoding, Readable, ReadsExactly, EncodingReads}
@@ -40,7 +41,7 @@ farRecord k s r n a = record { kind = k; sender = s; receiver = r; number = n; a
 
 -- the encoding of a record is bytes
 bytes-encoding : (r : Record) → Bytes (encoding r)
-unfolding encoding All
+unfolding encoding fieldBytes All
 bytes-encoding r = (
   kinds (r .kind),
   (

@@ -1,7 +1,5 @@
-//! The library, called over its C boundary, as a part that the second validator can compare with itself. An empty slice goes as a
-//! null pointer.
-
-use std::ptr;
+//! The library, called over its C boundary, as a part that the second validator can compare with itself. What is lent lies flush
+//! against a closed page, and an empty slice goes as a null pointer.
 
 use second_validator::answer::Answer;
 use second_validator::journal::Balances;
@@ -10,8 +8,22 @@ use second_validator::runner::calls::Part;
 use second_validator::states::{HomeState, PairState};
 
 use crate::ffi::{self, HomeValidator, PairValidator};
+use crate::guarded::Guarded;
 
-pub struct Library;
+/// With room for the slices of a call.
+pub struct Library {
+    first: Guarded,
+    second: Guarded,
+}
+
+impl Library {
+    pub fn new() -> Library {
+        Library {
+            first: Guarded::new(1 << 16),
+            second: Guarded::new(1 << 16),
+        }
+    }
+}
 
 /// An answer as it crosses. One that passed with a place is no answer of the papers, and differs from every one of theirs.
 fn answer(told: ffi::Told) -> Answer {
@@ -27,134 +39,61 @@ fn answer(told: ffi::Told) -> Answer {
     }
 }
 
-fn start<T>(slice: &[T]) -> *const T {
-    if slice.is_empty() {
-        ptr::null()
-    } else {
-        slice.as_ptr()
-    }
-}
-
-fn start_mut(slice: &mut [u8]) -> *mut u8 {
-    if slice.is_empty() {
-        ptr::null_mut()
-    } else {
-        slice.as_mut_ptr()
-    }
-}
-
-/// The same fields in a state of another type.
+/// A state of another type: the fields of the same name, and those given.
 macro_rules! state {
-    ($from:expr, $to:ident { $($field:ident),* }) => {
-        $to { $($field: $from.$field),* }
+    ($from:expr, $to:ident { $($field:ident),* } $(, $name:ident: $value:expr)*) => {
+        $to { $($field: $from.$field,)* $($name: $value,)* }
     };
 }
 
-fn pair_in(state: &PairState) -> PairValidator {
-    state!(
-        state,
-        PairValidator {
-            supply,
-            accounts,
-            counts,
-            balances,
-            numbers,
-            amounts,
-            senders,
-            receivers,
-            kinds,
-            ledgers,
-            verdicts
-        }
-    )
+#[rustfmt::skip]
+fn pair_in(s: &PairState) -> PairValidator {
+    state!(s, PairValidator { supply, accounts, counts, balances, numbers, amounts, senders, receivers, kinds, ledgers, verdicts })
 }
 
+#[rustfmt::skip]
 fn pair_out(told: ffi::PairTold) -> (Answer, Box<PairState>) {
-    let state = told.state;
-    (
-        answer(told.answer),
-        Box::new(state!(
-            state,
-            PairState {
-                supply,
-                accounts,
-                counts,
-                balances,
-                numbers,
-                amounts,
-                senders,
-                receivers,
-                kinds,
-                ledgers,
-                verdicts
-            }
-        )),
-    )
+    let s = told.state;
+    let state = state!(s, PairState { supply, accounts, counts, balances, numbers, amounts, senders, receivers, kinds, ledgers, verdicts });
+    (answer(told.answer), Box::new(state))
 }
 
-fn home_in(state: &HomeState) -> HomeValidator {
-    state!(
-        state,
-        HomeValidator {
-            supply,
-            pool,
-            homes,
-            fars,
-            count,
-            balances,
-            numbers,
-            amounts,
-            senders,
-            receivers,
-            kinds,
-            ledgers,
-            verdicts
-        }
-    )
+#[rustfmt::skip]
+fn home_in(s: &HomeState) -> HomeValidator {
+    state!(s, HomeValidator { supply, pool, count, balances, numbers, amounts, senders, receivers, kinds, ledgers, verdicts },
+        home_accounts: s.homes, far_accounts: s.fars)
 }
 
+#[rustfmt::skip]
 fn home_out(told: ffi::HomeTold) -> (Answer, Box<HomeState>) {
-    let state = told.state;
-    (
-        answer(told.answer),
-        Box::new(state!(
-            state,
-            HomeState {
-                supply,
-                pool,
-                homes,
-                fars,
-                count,
-                balances,
-                numbers,
-                amounts,
-                senders,
-                receivers,
-                kinds,
-                ledgers,
-                verdicts
-            }
-        )),
-    )
+    let s = told.state;
+    let state = state!(s, HomeState { supply, pool, count, balances, numbers, amounts, senders, receivers, kinds, ledgers, verdicts },
+        homes: s.home_accounts, fars: s.far_accounts);
+    (answer(told.answer), Box::new(state))
 }
 
 // SAFETY of every call below: a pointer and its length are those of one slice, lent for the call; states and numbers go by value.
 impl Part for Library {
     fn pair_open(&mut self, home: &[u64], far: &[u64]) -> (Answer, Box<PairState>) {
         pair_out(unsafe {
-            ffi::moatbetony_pair_open(start(home), home.len(), start(far), far.len())
+            ffi::moatbetony_pair_open(
+                self.first.lend(home),
+                home.len(),
+                self.second.lend(far),
+                far.len(),
+            )
         })
     }
 
     fn pair_check_record(&mut self, state: &PairState, bytes: &[u8]) -> (Answer, Box<PairState>) {
         pair_out(unsafe {
-            ffi::moatbetony_pair_check_record(pair_in(state), start(bytes), bytes.len())
+            ffi::moatbetony_pair_check_record(pair_in(state), self.first.lend(bytes), bytes.len())
         })
     }
 
     fn pair_check_list(&mut self, state: &PairState, bytes: &[u8]) -> (Answer, Box<PairState>) {
         pair_out(unsafe {
-            ffi::moatbetony_pair_check_list(pair_in(state), start(bytes), bytes.len())
+            ffi::moatbetony_pair_check_list(pair_in(state), self.first.lend(bytes), bytes.len())
         })
     }
 
@@ -169,18 +108,20 @@ impl Part for Library {
     }
 
     fn home_open(&mut self, home: &[u64], fars: usize, far_total: u64) -> (Answer, Box<HomeState>) {
-        home_out(unsafe { ffi::moatbetony_home_open(start(home), home.len(), fars, far_total) })
+        home_out(unsafe {
+            ffi::moatbetony_home_open(self.first.lend(home), home.len(), fars, far_total)
+        })
     }
 
     fn home_check_record(&mut self, state: &HomeState, bytes: &[u8]) -> (Answer, Box<HomeState>) {
         home_out(unsafe {
-            ffi::moatbetony_home_check_record(home_in(state), start(bytes), bytes.len())
+            ffi::moatbetony_home_check_record(home_in(state), self.first.lend(bytes), bytes.len())
         })
     }
 
     fn home_check_list(&mut self, state: &HomeState, bytes: &[u8]) -> (Answer, Box<HomeState>) {
         home_out(unsafe {
-            ffi::moatbetony_home_check_list(home_in(state), start(bytes), bytes.len())
+            ffi::moatbetony_home_check_list(home_in(state), self.first.lend(bytes), bytes.len())
         })
     }
 
@@ -195,19 +136,9 @@ impl Part for Library {
     }
 
     fn record_read(&mut self, bytes: &[u8]) -> (Answer, Held) {
-        let told = unsafe { ffi::moatbetony_record_read(start(bytes), bytes.len()) };
-        let held = state!(
-            told,
-            Held {
-                kind,
-                ledger,
-                sender,
-                receiver,
-                number,
-                amount,
-                verdict
-            }
-        );
+        let told = unsafe { ffi::moatbetony_record_read(self.first.lend(bytes), bytes.len()) };
+        #[rustfmt::skip]
+        let held = state!(told, Held { kind, ledger, sender, receiver, number, amount, verdict });
         (answer(told.answer), held)
     }
 
@@ -221,12 +152,20 @@ impl Part for Library {
     }
 
     fn block_judge(&mut self, block: &[u8], number: u64, before: u64) -> Answer {
-        answer(unsafe { ffi::moatbetony_block_judge(start(block), block.len(), number, before) })
+        answer(unsafe {
+            ffi::moatbetony_block_judge(self.first.lend(block), block.len(), number, before)
+        })
     }
 
     fn block_judge_record(&mut self, block: &[u8], number: u64, before: u64, place: u64) -> Answer {
         answer(unsafe {
-            ffi::moatbetony_block_judge_record(start(block), block.len(), number, before, place)
+            ffi::moatbetony_block_judge_record(
+                self.first.lend(block),
+                block.len(),
+                number,
+                before,
+                place,
+            )
         })
     }
 
@@ -238,14 +177,15 @@ impl Part for Library {
         place: u64,
     ) -> (Answer, [usize; 2]) {
         let told = unsafe {
-            ffi::moatbetony_block_record(start(block), block.len(), number, before, place)
+            ffi::moatbetony_block_record(self.first.lend(block), block.len(), number, before, place)
         };
         (answer(told.answer), [told.start, told.length])
     }
 
     fn block_count(&mut self, block: &[u8], number: u64, before: u64) -> (Answer, u64) {
-        let told =
-            unsafe { ffi::moatbetony_block_count(start(block), block.len(), number, before) };
+        let told = unsafe {
+            ffi::moatbetony_block_count(self.first.lend(block), block.len(), number, before)
+        };
         (answer(told.answer), told.count)
     }
 
@@ -255,25 +195,22 @@ impl Part for Library {
         number: u64,
         before: u64,
     ) -> (Answer, (u64, Balances)) {
-        let told =
-            unsafe { ffi::moatbetony_block_balances(start(block), block.len(), number, before) };
+        let told = unsafe {
+            ffi::moatbetony_block_balances(self.first.lend(block), block.len(), number, before)
+        };
         (answer(told.answer), (told.count, told.balances))
     }
 
     fn block_write(&mut self, output: &mut [u8], number: u64, kind: u8, items: &[u8]) -> Answer {
-        answer(unsafe {
-            ffi::moatbetony_block_write(
-                start_mut(output),
-                output.len(),
-                number,
-                kind,
-                start(items),
-                items.len(),
-            )
-        })
+        let (out, from) = (self.first.lend(output), self.second.lend(items));
+        let told = unsafe {
+            ffi::moatbetony_block_write(out, output.len(), number, kind, from, items.len())
+        };
+        self.first.take_back(output);
+        answer(told)
     }
 
     fn sha256(&mut self, bytes: &[u8]) -> [u8; 32] {
-        unsafe { ffi::moatbetony_sha256(start(bytes), bytes.len()) }.bytes
+        unsafe { ffi::moatbetony_sha256(self.first.lend(bytes), bytes.len()) }.bytes
     }
 }

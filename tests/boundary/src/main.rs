@@ -8,6 +8,7 @@ use second_validator::runner::calls::compare;
 
 #[path = "../../../bindings/rust/src/ffi.rs"]
 mod ffi;
+mod guarded;
 mod library;
 
 const SEED: u64 = 20_240_607;
@@ -22,7 +23,7 @@ fn main() -> ExitCode {
     };
     let version = unsafe { (ffi::moatbetony_version(), ffi::moatbetony_state_version()) };
     println!("library version {}, state version {}", version.0, version.1);
-    let report = compare(&mut library::Library, seed, calls, ENOUGH);
+    let report = compare(&mut library::Library::new(), seed, calls, ENOUGH);
     print!("{report}");
     ExitCode::from(u8::from(report.differences != 0))
 }

@@ -169,6 +169,17 @@ fn archive_defines_the_exports() {
     }
 }
 
+// Every call of the binding but the two versions first asks whether archive and crate belong together.
+#[test]
+fn binding_asks_before_it_calls() {
+    let calls = source("bindings/rust/src/calls.rs");
+    let bodies: Vec<&str> = calls.split("\npub(crate) fn ").filter(|body| body.contains("ffi::moatbetony_")).collect();
+    assert_eq!(bodies.len(), calls.matches("ffi::moatbetony_").count(), "a function has one call");
+    let unasked: Vec<&str> = bodies.iter().filter(|body| !body.contains(" {\n    belongs();\n")).copied().collect();
+    assert_eq!(bodies.len(), 21);
+    assert!(unasked.len() == 2 && unasked.iter().all(|body| body.starts_with("version()") || body.starts_with("state_version()")));
+}
+
 // With this text replaced, a complaint names the item.
 fn is_found(path: &'static str, from: &str, to: &str, item: &str) {
     let complaints = Sources::with(path, from, to).complaints();
@@ -180,7 +191,11 @@ fn differences_in_the_header_are_found() {
     let found = |from: &str, to: &str, item: &str| is_found(HEADER, from, to, item);
     // widths
     found("uint8_t ledger, uint16_t account", "uint8_t ledger, uint32_t account", "moatbetony_pair_balance: parameter 3");
-    found("size_t fars, uint64_t far_total", "uint32_t fars, uint64_t far_total", "moatbetony_home_open: parameter 3");
+    found(
+        "size_t far_accounts, uint64_t far_total",
+        "uint32_t far_accounts, uint64_t far_total",
+        "moatbetony_home_open: parameter 3",
+    );
     found("    uint32_t number; /*", "    uint64_t number; /*", "Told: field 1");
     found("uint16_t receivers[512]", "uint32_t receivers[512]", "HomeValidator: field 10");
     found("uint64_t numbers[512]", "uint64_t numbers[511]", "HomeValidator: field 7");
@@ -210,7 +225,7 @@ fn differences_in_the_header_are_found() {
         "uint32_t moatbetony_version(void);\nuint32_t moatbetony_more(void);",
         "moatbetony_more: in the header, and missing in the exports",
     );
-    found("size_t fars, uint64_t far_total", "size_t fars", "moatbetony_home_open: parameter 4");
+    found("size_t far_accounts, uint64_t far_total", "size_t far_accounts", "moatbetony_home_open: parameter 4");
     found("    uint64_t far;\n", "", "PairFiguresTold: field 3");
     found(
         "moatbetony_home_figures_t moatbetony_home_figures(",
@@ -224,7 +239,7 @@ fn differences_in_the_binding_are_found() {
     let found = |from: &str, to: &str, item: &str| is_found(FFI, from, to, item);
     found("ledger: u8, account: u16", "ledger: u8, account: u8", "moatbetony_pair_balance: parameter 3");
     found("ledger: u8, account: u16", "account: u16, ledger: u8", "moatbetony_pair_balance: parameter 2");
-    found("fars: usize, far_total: u64", "fars: u32, far_total: u64", "moatbetony_home_open: parameter 3");
+    found("        far_accounts: usize,", "        far_accounts: u32,", "moatbetony_home_open: parameter 3");
     found("out: *mut u8", "out: *const u8", "moatbetony_block_write: parameter 1");
     found(
         "pub(crate) senders: [u16; 512],\n    pub(crate) receivers: [u16; 512],",
@@ -248,8 +263,13 @@ fn differences_in_the_binding_are_found() {
 #[test]
 fn differences_in_the_exports_are_found() {
     let found = |path: &'static str, from: &str, to: &str, item: &str| is_found(path, from, to, item);
-    found(EXPORTS, "fars: usize, far_total: u64", "far_total: u64, fars: usize", "moatbetony_home_open: parameter 3");
-    found(EXPORTS, "fars: usize, far_total: u64", "fars: u64, far_total: u64", "moatbetony_home_open: parameter 3");
+    found(
+        EXPORTS,
+        "    far_accounts: usize,\n    far_total: u64,",
+        "    far_total: u64,\n    far_accounts: usize,",
+        "moatbetony_home_open: parameter 3",
+    );
+    found(EXPORTS, "    far_accounts: usize,", "    far_accounts: u64,", "moatbetony_home_open: parameter 3");
     found(
         EXPORTS,
         "    pub start: usize,\n    pub length: usize,",
@@ -275,7 +295,7 @@ fn differences_in_the_exports_are_found() {
         "    pub ledgers: [u8; PLACES],\n    pub kinds: [u8; PLACES],",
         "PairValidator: field 9",
     );
-    found(HOME, "    pub fars: usize,", "    pub fars: u32,", "HomeValidator: field 4");
+    found(HOME, "    pub far_accounts: usize,", "    pub far_accounts: u32,", "HomeValidator: field 4");
     found(HOME, "#[repr(C)]", "", "HomeValidator: in the header, and missing in the exports");
     found(LEDGERS, "CAPACITY: usize = 512", "CAPACITY: usize = 1730", "HomeValidator: field 7");
     found(LEDGERS, "ACCOUNTS: usize = 56", "ACCOUNTS: usize = 57", "BalancesTold: field 3");

@@ -26,7 +26,7 @@ returns : tie.Need-returns
 returns c =
     let c3 = c .before .before .before in
     let a = c3 .before .before .args in
-    part-refused (a .block .now) (a .k) (a .before) (a .place) (c .tell .ensures) (c3 .judge-record .ensures) (c .before .enum-told2 .given .1)
+    part-refused (a .block .now) (a .number) (a .before) (a .place) (c .tell .ensures) (c3 .judge-record .ensures) (c .before .enum-told2 .given .1)
 
 tell-requires-2 : tie.Need-tell-requires-2
 tell-requires-2 c κs = search needs
@@ -36,27 +36,27 @@ mul-t9 c =
     let c3 = c .before .before .before in
     let a = c3 .before .before .args in
     let b = a .block .now in
-    let n : ℕ = recordRefusal b (a .k) (a .before) (a .place) in
-    let z : n ≡ 0 = passed-zero n (a .k) (sym (c3 .judge-record .ensures) ∙ c .before .enum-told .given .1) in
-    omega (arith, placed b (a .k) (a .before) (a .place) z .low)
+    let n : ℕ = recordRefusal b (a .number) (a .before) (a .place) in
+    let z : n ≡ 0 = passed-zero n (a .number) (sym (c3 .judge-record .ensures) ∙ c .before .enum-told .given .1) in
+    omega (arith, placed b (a .number) (a .before) (a .place) z .low)
 
 add-t10 : tie.Need-add-t10
 add-t10 c =
     let c3 = c .before .before .before in
     let a = c3 .before .before .args in
     let b = a .block .now in
-    let n : ℕ = recordRefusal b (a .k) (a .before) (a .place) in
-    let z : n ≡ 0 = passed-zero n (a .k) (sym (c3 .judge-record .ensures) ∙ c .before .enum-told .given .1) in
-    omega (arith, placed b (a .k) (a .before) (a .place) z .low)
+    let n : ℕ = recordRefusal b (a .number) (a .before) (a .place) in
+    let z : n ≡ 0 = passed-zero n (a .number) (sym (c3 .judge-record .ensures) ∙ c .before .enum-told .given .1) in
+    omega (arith, placed b (a .number) (a .before) (a .place) z .low)
 
 returns-2 : tie.Need-returns-2
 returns-2 c =
     let c3 = c .before .before .before in
     let a = c3 .before .before .args in
     let b = a .block .now in
-    let n : ℕ = recordRefusal b (a .k) (a .before) (a .place) in
-    let z : n ≡ 0 = passed-zero n (a .k) (sym (c3 .judge-record .ensures) ∙ c .before .enum-told .given .1) in
-    part-passed b (a .k) (a .before) (a .place) (c .tell2 .ensures) (c3 .judge-record .ensures) z
+    let n : ℕ = recordRefusal b (a .number) (a .before) (a .place) in
+    let z : n ≡ 0 = passed-zero n (a .number) (sym (c3 .judge-record .ensures) ∙ c .before .enum-told .given .1) in
+    part-passed b (a .number) (a .before) (a .place) (c .tell2 .ensures) (c3 .judge-record .ensures) z
 
 pub moatbetony-block-record-spec : {M : Type 1} → statement M
 moatbetony-block-record-spec =

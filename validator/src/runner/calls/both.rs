@@ -58,6 +58,11 @@ impl<'a> Both<'a> {
         self.scenario = scenario;
     }
 
+    /// The seed of the comparison.
+    pub fn seed(&self) -> u64 {
+        self.report.seed
+    }
+
     /// The index of the scenario in its family.
     pub fn scenario(&self) -> u64 {
         self.scenario

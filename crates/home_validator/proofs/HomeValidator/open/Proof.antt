@@ -23,7 +23,7 @@ homesAt c = c .before .before .args .balances .now
 
 -- the number of far accounts
 abbrev farsAt : tie.After-home-opening → ℕ
-farsAt c = c .before .before .args .fars
+farsAt c = c .before .before .args .far-accounts
 
 -- the far total
 abbrev farTotalAt : tie.After-home-opening → ℕ

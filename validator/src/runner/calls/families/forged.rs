@@ -1,35 +1,50 @@
-//! Forged states: good ones of all sizes with one field altered, with two or
-//! more altered so that they agree in some way, with anything beyond the
-//! counts, and states of no meaning at all; then a call on them.
+//! Forged states: good ones of all sizes with one field altered, with each pair
+//! of fields altered, with two or more altered so that they agree in some way,
+//! with anything beyond the counts, and states of no meaning at all; then a
+//! call on them.
 
 use super::checker::{reached, Checker, Reached};
+use super::sweeps::{sweep, sweep_pairs};
 use crate::record::MAX_AMOUNT;
 use crate::rules::{CAPACITY, MAX_ACCOUNTS};
 use crate::runner::calls::fields::{Field, Fields};
 use crate::runner::calls::Both;
 use crate::runner::rng::Rng;
+use std::ops::Range;
 
 /// The kinds of records, as they stand in a state.
 const LOCAL: u64 = 1;
 const SENDING: u64 = 2;
 const ARRIVAL: u64 = 3;
 
-/// The steps that a scenario goes on through the fields.
-const SWEPT: u64 = 20;
+/// The steps that a scenario goes on through the fields, and through their
+/// pairs.
+const SWEPT: u64 = 18;
+const PAIRS_SWEPT: u64 = 12;
 
 pub fn scenario<C: Checker>(both: &mut Both, rng: &mut Rng) {
     let base = reached::<C>(both, rng);
-    let first = both.scenario() * SWEPT;
-    for step in first..first + SWEPT {
+    let (scenario, seed) = (both.scenario(), both.seed());
+    for step in steps(scenario, SWEPT) {
         let mut branch = base.branch(rng);
         sweep(rng, &mut *branch.state, step);
         call(both, rng, &mut branch);
     }
-    for _ in 0..20 {
+    for step in steps(scenario, PAIRS_SWEPT) {
+        let mut branch = base.branch(rng);
+        sweep_pairs(rng, &mut *branch.state, step, seed);
+        call(both, rng, &mut branch);
+    }
+    for _ in 0..18 {
         let mut branch = base.branch(rng);
         forge(rng, &mut *branch.state);
         call(both, rng, &mut branch);
     }
+}
+
+/// The steps of a scenario, which begin where those of the one before end.
+fn steps(scenario: u64, length: u64) -> Range<u64> {
+    scenario * length..(scenario + 1) * length
 }
 
 /// A call on a forged state, and another where it goes on.
@@ -65,11 +80,11 @@ fn forge<S: Fields>(rng: &mut Rng, state: &mut S) {
 }
 
 /// The count of held records of a ledger, as far as the columns reach.
-fn count<S: Fields>(state: &S, ledger: usize) -> usize {
+pub(super) fn count<S: Fields>(state: &S, ledger: usize) -> usize {
     (state.get(Field::Counts, ledger) as usize).min(CAPACITY)
 }
 
-fn accounts<S: Fields>(state: &S, ledger: usize) -> usize {
+pub(super) fn accounts<S: Fields>(state: &S, ledger: usize) -> usize {
     (state.get(Field::Accounts, ledger) as usize).min(MAX_ACCOUNTS)
 }
 
@@ -79,7 +94,7 @@ fn some_ledger<S: Fields>(rng: &mut Rng, _: &S) -> usize {
 
 /// A place of a part that has `length` places, `used` of them in use: the
 /// first, the last in use, the first beyond, the last, or any.
-fn some_place(rng: &mut Rng, used: usize, length: usize) -> usize {
+pub(super) fn some_place(rng: &mut Rng, used: usize, length: usize) -> usize {
     let any = rng.index(length);
     let in_use = rng.index(used.max(1));
     let places = [
@@ -138,47 +153,6 @@ fn exchange<S: Fields>(state: &mut S, field: Field, one: usize, other: usize) {
     let (first, second) = (state.get(field, one), state.get(field, other));
     state.set(field, one, second);
     state.set(field, other, first);
-}
-
-/// The entries that the sweep alters: all single ones, and of each ledger's
-/// part of an array the first, the last in use, the first beyond, the last.
-fn swept<S: Fields>(state: &S) -> Vec<(Field, usize)> {
-    let mut entries = Vec::new();
-    for &field in S::FIELDS {
-        let (length, used): (usize, fn(&S, usize) -> usize) = match field {
-            Field::Balances => (MAX_ACCOUNTS, accounts),
-            _ if field.is_column() => (CAPACITY, count),
-            _ => {
-                entries.extend((0..S::length(field)).map(|entry| (field, entry)));
-                continue;
-            }
-        };
-        for ledger in 0..S::LEDGERS {
-            let used = used(state, ledger);
-            for place in [0, used.saturating_sub(1), used, length - 1] {
-                entries.push((field, ledger * length + place.min(length - 1)));
-            }
-        }
-    }
-    entries
-}
-
-/// Each entry of `swept` in turn gets each of some values.
-fn sweep<S: Fields>(rng: &mut Rng, state: &mut S, step: u64) {
-    let entries = swept(state);
-    let (field, entry) = entries[(step / 8) as usize % entries.len()];
-    let old = state.get(field, entry);
-    let values = [
-        0,
-        1,
-        old.wrapping_add(1),
-        old.wrapping_sub(1),
-        u64::MAX,
-        1 << 63,
-        old ^ (1 << 63),
-        rng.word(),
-    ];
-    state.set(field, entry, values[(step % 8) as usize]);
 }
 
 /// One entry of one field is altered.

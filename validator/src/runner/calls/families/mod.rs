@@ -7,6 +7,7 @@ pub mod forged;
 pub mod looks;
 pub mod plain;
 pub mod runs;
+pub mod sweeps;
 
 use super::Both;
 use crate::runner::rng::Rng;
