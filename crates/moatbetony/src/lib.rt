@@ -62,10 +62,9 @@ pub struct Told {
 fn tell(a: Answer) -> Told
     ensures { λ r. ⌜ r ≡ told a ⌝ }
 {
-    Told {
-        number: a.number(),
-        place: a.place(),
-    }
+    let number = a.number();
+    let place = a.place();
+    Told { number, place }
 }
 
 // ## The pair validator
