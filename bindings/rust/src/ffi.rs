@@ -126,38 +126,18 @@ extern "C" {
         far_balances: *const u64,
         far_balances_len: usize,
     ) -> PairTold;
-    pub(crate) fn moatbetony_pair_check_record(
-        state: PairValidator,
-        bytes: *const u8,
-        bytes_len: usize,
-    ) -> PairTold;
-    pub(crate) fn moatbetony_pair_check_list(
-        state: PairValidator,
-        bytes: *const u8,
-        bytes_len: usize,
-    ) -> PairTold;
+    pub(crate) fn moatbetony_pair_check_record(state: PairValidator, bytes: *const u8, bytes_len: usize) -> PairTold;
+    pub(crate) fn moatbetony_pair_check_list(state: PairValidator, bytes: *const u8, bytes_len: usize) -> PairTold;
     pub(crate) fn moatbetony_pair_figures(state: PairValidator) -> PairFiguresTold;
-    pub(crate) fn moatbetony_pair_balance(
-        state: PairValidator,
-        ledger: u8,
-        account: u16,
-    ) -> BalanceTold;
+    pub(crate) fn moatbetony_pair_balance(state: PairValidator, ledger: u8, account: u16) -> BalanceTold;
     pub(crate) fn moatbetony_home_open(
         home_balances: *const u64,
         home_balances_len: usize,
         far_accounts: usize,
         far_total: u64,
     ) -> HomeTold;
-    pub(crate) fn moatbetony_home_check_record(
-        state: HomeValidator,
-        bytes: *const u8,
-        bytes_len: usize,
-    ) -> HomeTold;
-    pub(crate) fn moatbetony_home_check_list(
-        state: HomeValidator,
-        bytes: *const u8,
-        bytes_len: usize,
-    ) -> HomeTold;
+    pub(crate) fn moatbetony_home_check_record(state: HomeValidator, bytes: *const u8, bytes_len: usize) -> HomeTold;
+    pub(crate) fn moatbetony_home_check_list(state: HomeValidator, bytes: *const u8, bytes_len: usize) -> HomeTold;
     pub(crate) fn moatbetony_home_figures(state: HomeValidator) -> HomeFiguresTold;
     pub(crate) fn moatbetony_home_balance(state: HomeValidator, account: u16) -> BalanceTold;
     pub(crate) fn moatbetony_record_read(bytes: *const u8, bytes_len: usize) -> RecordTold;
@@ -170,38 +150,11 @@ extern "C" {
         amount: u64,
         verdict: u8,
     ) -> EncodedTold;
-    pub(crate) fn moatbetony_block_judge(
-        block: *const u8,
-        block_len: usize,
-        number: u64,
-        before: u64,
-    ) -> Told;
-    pub(crate) fn moatbetony_block_judge_record(
-        block: *const u8,
-        block_len: usize,
-        number: u64,
-        before: u64,
-        place: u64,
-    ) -> Told;
-    pub(crate) fn moatbetony_block_record(
-        block: *const u8,
-        block_len: usize,
-        number: u64,
-        before: u64,
-        place: u64,
-    ) -> PartTold;
-    pub(crate) fn moatbetony_block_count(
-        block: *const u8,
-        block_len: usize,
-        number: u64,
-        before: u64,
-    ) -> CountTold;
-    pub(crate) fn moatbetony_block_balances(
-        block: *const u8,
-        block_len: usize,
-        number: u64,
-        before: u64,
-    ) -> BalancesTold;
+    pub(crate) fn moatbetony_block_judge(block: *const u8, block_len: usize, number: u64, before: u64) -> Told;
+    pub(crate) fn moatbetony_block_judge_record(block: *const u8, block_len: usize, number: u64, before: u64, place: u64) -> Told;
+    pub(crate) fn moatbetony_block_record(block: *const u8, block_len: usize, number: u64, before: u64, place: u64) -> PartTold;
+    pub(crate) fn moatbetony_block_count(block: *const u8, block_len: usize, number: u64, before: u64) -> CountTold;
+    pub(crate) fn moatbetony_block_balances(block: *const u8, block_len: usize, number: u64, before: u64) -> BalancesTold;
     pub(crate) fn moatbetony_block_write(
         out: *mut u8,
         out_len: usize,

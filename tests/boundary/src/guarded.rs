@@ -10,14 +10,7 @@ const READ_WRITE: i32 = 1 | 2;
 const PRIVATE_ANONYMOUS: i32 = 0x02 | 0x20;
 
 extern "C" {
-    fn mmap(
-        at: *mut c_void,
-        length: usize,
-        access: i32,
-        flags: i32,
-        file: i32,
-        offset: i64,
-    ) -> *mut c_void;
+    fn mmap(at: *mut c_void, length: usize, access: i32, flags: i32, file: i32, offset: i64) -> *mut c_void;
     fn mprotect(at: *mut c_void, length: usize, access: i32) -> i32;
     fn munmap(at: *mut c_void, length: usize) -> i32;
 }
@@ -33,20 +26,9 @@ impl Guarded {
         let room = most.div_ceil(PAGE).max(1) * PAGE;
         // SAFETY: new pages of our own, of which the last is closed.
         unsafe {
-            let start = mmap(
-                ptr::null_mut(),
-                room + PAGE,
-                READ_WRITE,
-                PRIVATE_ANONYMOUS,
-                -1,
-                0,
-            )
-            .cast::<u8>();
+            let start = mmap(ptr::null_mut(), room + PAGE, READ_WRITE, PRIVATE_ANONYMOUS, -1, 0).cast::<u8>();
             assert!(start as isize != -1, "no memory");
-            assert!(
-                mprotect(start.add(room).cast(), PAGE, NO_ACCESS) == 0,
-                "no closed page"
-            );
+            assert!(mprotect(start.add(room).cast(), PAGE, NO_ACCESS) == 0, "no closed page");
             Guarded { start, room }
         }
     }
@@ -71,13 +53,7 @@ impl Guarded {
     /// The bytes as a call left them.
     pub fn take_back(&self, into: &mut [u8]) {
         // SAFETY: they were lent from here.
-        unsafe {
-            ptr::copy_nonoverlapping(
-                self.start.add(self.room - into.len()),
-                into.as_mut_ptr(),
-                into.len(),
-            )
-        }
+        unsafe { ptr::copy_nonoverlapping(self.start.add(self.room - into.len()), into.as_mut_ptr(), into.len()) }
     }
 }
 

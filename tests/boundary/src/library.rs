@@ -18,24 +18,15 @@ pub struct Library {
 
 impl Library {
     pub fn new() -> Library {
-        Library {
-            first: Guarded::new(1 << 16),
-            second: Guarded::new(1 << 16),
-        }
+        Library { first: Guarded::new(1 << 16), second: Guarded::new(1 << 16) }
     }
 }
 
 /// An answer as it crosses. One that passed with a place is no answer of the papers, and differs from every one of theirs.
 fn answer(told: ffi::Told) -> Answer {
     match told {
-        ffi::Told {
-            number: 0,
-            place: 0,
-        } => Answer::Passed,
-        ffi::Told { number, place } => Answer::Refused {
-            number: u8::try_from(number).unwrap_or(u8::MAX),
-            place,
-        },
+        ffi::Told { number: 0, place: 0 } => Answer::Passed,
+        ffi::Told { number, place } => Answer::Refused { number: u8::try_from(number).unwrap_or(u8::MAX), place },
     }
 }
 
@@ -75,26 +66,15 @@ fn home_out(told: ffi::HomeTold) -> (Answer, Box<HomeState>) {
 // SAFETY of every call below: a pointer and its length are those of one slice, lent for the call; states and numbers go by value.
 impl Part for Library {
     fn pair_open(&mut self, home: &[u64], far: &[u64]) -> (Answer, Box<PairState>) {
-        pair_out(unsafe {
-            ffi::moatbetony_pair_open(
-                self.first.lend(home),
-                home.len(),
-                self.second.lend(far),
-                far.len(),
-            )
-        })
+        pair_out(unsafe { ffi::moatbetony_pair_open(self.first.lend(home), home.len(), self.second.lend(far), far.len()) })
     }
 
     fn pair_check_record(&mut self, state: &PairState, bytes: &[u8]) -> (Answer, Box<PairState>) {
-        pair_out(unsafe {
-            ffi::moatbetony_pair_check_record(pair_in(state), self.first.lend(bytes), bytes.len())
-        })
+        pair_out(unsafe { ffi::moatbetony_pair_check_record(pair_in(state), self.first.lend(bytes), bytes.len()) })
     }
 
     fn pair_check_list(&mut self, state: &PairState, bytes: &[u8]) -> (Answer, Box<PairState>) {
-        pair_out(unsafe {
-            ffi::moatbetony_pair_check_list(pair_in(state), self.first.lend(bytes), bytes.len())
-        })
+        pair_out(unsafe { ffi::moatbetony_pair_check_list(pair_in(state), self.first.lend(bytes), bytes.len()) })
     }
 
     fn pair_figures(&mut self, state: &PairState) -> (Answer, [u64; 3]) {
@@ -108,21 +88,15 @@ impl Part for Library {
     }
 
     fn home_open(&mut self, home: &[u64], fars: usize, far_total: u64) -> (Answer, Box<HomeState>) {
-        home_out(unsafe {
-            ffi::moatbetony_home_open(self.first.lend(home), home.len(), fars, far_total)
-        })
+        home_out(unsafe { ffi::moatbetony_home_open(self.first.lend(home), home.len(), fars, far_total) })
     }
 
     fn home_check_record(&mut self, state: &HomeState, bytes: &[u8]) -> (Answer, Box<HomeState>) {
-        home_out(unsafe {
-            ffi::moatbetony_home_check_record(home_in(state), self.first.lend(bytes), bytes.len())
-        })
+        home_out(unsafe { ffi::moatbetony_home_check_record(home_in(state), self.first.lend(bytes), bytes.len()) })
     }
 
     fn home_check_list(&mut self, state: &HomeState, bytes: &[u8]) -> (Answer, Box<HomeState>) {
-        home_out(unsafe {
-            ffi::moatbetony_home_check_list(home_in(state), self.first.lend(bytes), bytes.len())
-        })
+        home_out(unsafe { ffi::moatbetony_home_check_list(home_in(state), self.first.lend(bytes), bytes.len()) })
     }
 
     fn home_figures(&mut self, state: &HomeState) -> (Answer, [u64; 2]) {
@@ -143,69 +117,36 @@ impl Part for Library {
     }
 
     fn record_encode(&mut self, f: &Held) -> (Answer, [u8; RECORD]) {
-        let told = unsafe {
-            ffi::moatbetony_record_encode(
-                f.kind, f.ledger, f.sender, f.receiver, f.number, f.amount, f.verdict,
-            )
-        };
+        let told = unsafe { ffi::moatbetony_record_encode(f.kind, f.ledger, f.sender, f.receiver, f.number, f.amount, f.verdict) };
         (answer(told.answer), told.bytes)
     }
 
     fn block_judge(&mut self, block: &[u8], number: u64, before: u64) -> Answer {
-        answer(unsafe {
-            ffi::moatbetony_block_judge(self.first.lend(block), block.len(), number, before)
-        })
+        answer(unsafe { ffi::moatbetony_block_judge(self.first.lend(block), block.len(), number, before) })
     }
 
     fn block_judge_record(&mut self, block: &[u8], number: u64, before: u64, place: u64) -> Answer {
-        answer(unsafe {
-            ffi::moatbetony_block_judge_record(
-                self.first.lend(block),
-                block.len(),
-                number,
-                before,
-                place,
-            )
-        })
+        answer(unsafe { ffi::moatbetony_block_judge_record(self.first.lend(block), block.len(), number, before, place) })
     }
 
-    fn block_record(
-        &mut self,
-        block: &[u8],
-        number: u64,
-        before: u64,
-        place: u64,
-    ) -> (Answer, [usize; 2]) {
-        let told = unsafe {
-            ffi::moatbetony_block_record(self.first.lend(block), block.len(), number, before, place)
-        };
+    fn block_record(&mut self, block: &[u8], number: u64, before: u64, place: u64) -> (Answer, [usize; 2]) {
+        let told = unsafe { ffi::moatbetony_block_record(self.first.lend(block), block.len(), number, before, place) };
         (answer(told.answer), [told.start, told.length])
     }
 
     fn block_count(&mut self, block: &[u8], number: u64, before: u64) -> (Answer, u64) {
-        let told = unsafe {
-            ffi::moatbetony_block_count(self.first.lend(block), block.len(), number, before)
-        };
+        let told = unsafe { ffi::moatbetony_block_count(self.first.lend(block), block.len(), number, before) };
         (answer(told.answer), told.count)
     }
 
-    fn block_balances(
-        &mut self,
-        block: &[u8],
-        number: u64,
-        before: u64,
-    ) -> (Answer, (u64, Balances)) {
-        let told = unsafe {
-            ffi::moatbetony_block_balances(self.first.lend(block), block.len(), number, before)
-        };
+    fn block_balances(&mut self, block: &[u8], number: u64, before: u64) -> (Answer, (u64, Balances)) {
+        let told = unsafe { ffi::moatbetony_block_balances(self.first.lend(block), block.len(), number, before) };
         (answer(told.answer), (told.count, told.balances))
     }
 
     fn block_write(&mut self, output: &mut [u8], number: u64, kind: u8, items: &[u8]) -> Answer {
         let (out, from) = (self.first.lend(output), self.second.lend(items));
-        let told = unsafe {
-            ffi::moatbetony_block_write(out, output.len(), number, kind, from, items.len())
-        };
+        let told = unsafe { ffi::moatbetony_block_write(out, output.len(), number, kind, from, items.len()) };
         self.first.take_back(output);
         answer(told)
     }

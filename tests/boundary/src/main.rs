@@ -6,6 +6,7 @@ use std::time::{SystemTime, UNIX_EPOCH};
 
 use second_validator::runner::calls::compare;
 
+#[rustfmt::skip] // laid out by its own crate
 #[path = "../../../bindings/rust/src/ffi.rs"]
 mod ffi;
 mod guarded;
@@ -33,10 +34,7 @@ fn options(arguments: &[String]) -> Option<(u64, u64)> {
     for option in arguments.chunks(2) {
         match option {
             [name, value] if name == "--seed" && value == "random" => {
-                seed = SystemTime::now()
-                    .duration_since(UNIX_EPOCH)
-                    .ok()?
-                    .as_nanos() as u64;
+                seed = SystemTime::now().duration_since(UNIX_EPOCH).ok()?.as_nanos() as u64;
             }
             [name, value] if name == "--seed" => seed = value.parse().ok()?,
             [name, value] if name == "--calls" => calls = value.parse().ok()?,
