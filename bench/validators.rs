@@ -1,6 +1,10 @@
 // Times the validators' published calls in echoes, at full tables. An echo takes a state by value and hands it back, as every call
 // does, and does nothing else. States are made by the calls themselves, and each call's answer is looked at before it is timed.
+// Each call hands its state back at another place of a page than the one before: how fast a processor copies can depend on how far
+// apart source and target lie, and a fixed distance would time that.
 use std::hint::black_box;
+use std::marker::PhantomData;
+use std::mem::MaybeUninit;
 use std::ops::Range;
 use std::time::Instant;
 
@@ -74,26 +78,27 @@ pub struct HomeFigures {
     pool: u64,
 }
 
-// A slice is a pointer and a length.
+// A slice is a pointer and a length. A returned struct is written where a pointer before the arguments says, as the calling convention
+// has it; where it is named here, the caller chooses the place.
 extern "C" {
     fn moatbetony_pair_open(homes: *const u64, h: usize, fars: *const u64, f: usize) -> Told<Pair>;
-    fn moatbetony_pair_check_record(state: Pair, bytes: *const u8, n: usize) -> Told<Pair>;
-    fn moatbetony_pair_check_list(state: Pair, bytes: *const u8, n: usize) -> Told<Pair>;
+    fn moatbetony_pair_check_record(out: *mut Told<Pair>, state: Pair, bytes: *const u8, n: usize) -> *mut Told<Pair>;
+    fn moatbetony_pair_check_list(out: *mut Told<Pair>, state: Pair, bytes: *const u8, n: usize) -> *mut Told<Pair>;
     fn moatbetony_pair_figures(state: Pair) -> PairFigures;
-    fn bench_pair_echo(state: Pair) -> Told<Pair>;
+    fn bench_pair_echo(out: *mut Told<Pair>, state: Pair) -> *mut Told<Pair>;
     fn moatbetony_home_open(balances: *const u64, h: usize, fars: usize, far_total: u64) -> Told<Home>;
-    fn moatbetony_home_check_record(state: Home, bytes: *const u8, n: usize) -> Told<Home>;
-    fn moatbetony_home_check_list(state: Home, bytes: *const u8, n: usize) -> Told<Home>;
+    fn moatbetony_home_check_record(out: *mut Told<Home>, state: Home, bytes: *const u8, n: usize) -> *mut Told<Home>;
+    fn moatbetony_home_check_list(out: *mut Told<Home>, state: Home, bytes: *const u8, n: usize) -> *mut Told<Home>;
     fn moatbetony_home_figures(state: Home) -> HomeFigures;
-    fn bench_home_echo(state: Home) -> Told<Home>;
+    fn bench_home_echo(out: *mut Told<Home>, state: Home) -> *mut Told<Home>;
 }
 
 trait Validator: Copy {
     const NAME: &'static str;
     fn open() -> Told<Self>;
-    fn one(&self, bytes: &[u8]) -> Told<Self>;
-    fn list(&self, bytes: &[u8]) -> Told<Self>;
-    fn echo(&self) -> Told<Self>;
+    fn one(&self, out: &mut MaybeUninit<Told<Self>>, bytes: &[u8]);
+    fn list(&self, out: &mut MaybeUninit<Told<Self>>, bytes: &[u8]);
+    fn echo(&self, out: &mut MaybeUninit<Told<Self>>);
     // The sum of its figures, and the refusal.
     fn figures(&self) -> (u64, u32);
     // The records that it is handed.
@@ -111,16 +116,16 @@ impl Validator for Pair {
         unsafe { moatbetony_pair_open(balances.as_ptr(), ACCOUNTS, balances.as_ptr(), ACCOUNTS) }
     }
     #[inline(always)]
-    fn one(&self, bytes: &[u8]) -> Told<Pair> {
-        unsafe { moatbetony_pair_check_record(*self, bytes.as_ptr(), bytes.len()) }
+    fn one(&self, out: &mut MaybeUninit<Told<Pair>>, bytes: &[u8]) {
+        unsafe { moatbetony_pair_check_record(out.as_mut_ptr(), *self, bytes.as_ptr(), bytes.len()) };
     }
     #[inline(always)]
-    fn list(&self, bytes: &[u8]) -> Told<Pair> {
-        unsafe { moatbetony_pair_check_list(*self, bytes.as_ptr(), bytes.len()) }
+    fn list(&self, out: &mut MaybeUninit<Told<Pair>>, bytes: &[u8]) {
+        unsafe { moatbetony_pair_check_list(out.as_mut_ptr(), *self, bytes.as_ptr(), bytes.len()) };
     }
     #[inline(always)]
-    fn echo(&self) -> Told<Pair> {
-        unsafe { bench_pair_echo(*self) }
+    fn echo(&self, out: &mut MaybeUninit<Told<Pair>>) {
+        unsafe { bench_pair_echo(out.as_mut_ptr(), *self) };
     }
     #[inline(always)]
     fn figures(&self) -> (u64, u32) {
@@ -163,16 +168,16 @@ impl Validator for Home {
         unsafe { moatbetony_home_open(balances.as_ptr(), ACCOUNTS, ACCOUNTS, ACCOUNTS as u64 * BALANCE) }
     }
     #[inline(always)]
-    fn one(&self, bytes: &[u8]) -> Told<Home> {
-        unsafe { moatbetony_home_check_record(*self, bytes.as_ptr(), bytes.len()) }
+    fn one(&self, out: &mut MaybeUninit<Told<Home>>, bytes: &[u8]) {
+        unsafe { moatbetony_home_check_record(out.as_mut_ptr(), *self, bytes.as_ptr(), bytes.len()) };
     }
     #[inline(always)]
-    fn list(&self, bytes: &[u8]) -> Told<Home> {
-        unsafe { moatbetony_home_check_list(*self, bytes.as_ptr(), bytes.len()) }
+    fn list(&self, out: &mut MaybeUninit<Told<Home>>, bytes: &[u8]) {
+        unsafe { moatbetony_home_check_list(out.as_mut_ptr(), *self, bytes.as_ptr(), bytes.len()) };
     }
     #[inline(always)]
-    fn echo(&self) -> Told<Home> {
-        unsafe { bench_home_echo(*self) }
+    fn echo(&self, out: &mut MaybeUninit<Told<Home>>) {
+        unsafe { bench_home_echo(out.as_mut_ptr(), *self) };
     }
     #[inline(always)]
     fn figures(&self) -> (u64, u32) {
@@ -266,7 +271,9 @@ impl History {
         assert!(opened.number == 0);
         let mut state = Box::new(opened.state);
         for list in bytes_for::<V>(&self.records).chunks(32 * 100) {
-            let told = state.list(list);
+            let mut room = Room::new();
+            state.list(room.next(), list);
+            let told = room.told();
             assert!(told.number == 0, "refusal {} at {} of a list", told.number, told.place);
             *state = told.state;
         }
@@ -323,27 +330,53 @@ fn lists<V: Validator>() -> [(Box<V>, Vec<u8>); 2] {
     [(half, bytes_for::<V>(&later.records)), (history.state(), bytes_for::<V>(&arrivals))]
 }
 
+// Room for what a call hands back, which moves through a page.
+struct Room<V> {
+    words: Vec<u64>,
+    at: usize,
+    what: PhantomData<V>,
+}
+
+impl<V> Room<V> {
+    const PAGE: usize = 512;
+
+    fn new() -> Room<V> {
+        let words = vec![0; Self::PAGE + size_of::<Told<V>>().div_ceil(8)];
+        Room { words, at: 0, what: PhantomData }
+    }
+
+    // The next place, 272 bytes on.
+    fn next(&mut self) -> &mut MaybeUninit<Told<V>> {
+        self.at = (self.at + 34) % Self::PAGE;
+        black_box(unsafe { &mut *self.words[self.at..].as_mut_ptr().cast() })
+    }
+
+    // What stands at the last place, once a call has written there.
+    fn told(&self) -> &Told<V> {
+        unsafe { &*self.words[self.at..].as_ptr().cast() }
+    }
+}
+
 // A call that is timed, with its result left where it stands.
 type Call<'a> = Box<dyn FnMut() + 'a>;
 
 fn echo<V: Validator>(state: &V) -> Call<'_> {
-    Box::new(move || {
-        black_box(&black_box(state).echo());
-    })
+    let mut room = Room::new();
+    Box::new(move || black_box(state).echo(room.next()))
 }
 
 fn one<'a, V: Validator>(state: &'a V, bytes: &'a [u8], answer: u32) -> Call<'a> {
-    assert!(state.one(bytes).number == answer);
-    Box::new(move || {
-        black_box(&black_box(state).one(black_box(bytes)));
-    })
+    let mut room = Room::new();
+    state.one(room.next(), bytes);
+    assert!(room.told().number == answer);
+    Box::new(move || black_box(state).one(room.next(), black_box(bytes)))
 }
 
 fn list<'a, V: Validator>(state: &'a V, bytes: &'a [u8]) -> Call<'a> {
-    assert!(state.list(bytes).number == 0);
-    Box::new(move || {
-        black_box(&black_box(state).list(black_box(bytes)));
-    })
+    let mut room = Room::new();
+    state.list(room.next(), bytes);
+    assert!(room.told().number == 0);
+    Box::new(move || black_box(state).list(room.next(), black_box(bytes)))
 }
 
 fn figures<V: Validator>(state: &V) -> Call<'_> {
@@ -421,7 +454,7 @@ fn measure<V: Validator>() {
     let [(half, mixed), (sent, arrivals)] = lists::<V>();
     measure_list("of all kinds", &*half, &mixed);
     measure_list("of arrivals", &*sent, &arrivals);
-    measure_hostile::<V>("2^11", |k| (k << 11) + 5);
+    measure_hostile::<V>("2^12", |k| (k << 12) + 5);
     measure_hostile::<V>("2^16", |k| (k << 16) + 5);
     measure_hostile::<V>("2^32", |k| (k << 32) + 5);
 }

@@ -8,7 +8,7 @@ use answers::Answer;
 use balances::Balance;
 use balances::balance_among;
 use balances::balance_refused;
-use home_tables::is_accepted;
+use home_checks::is_accepted;
 use home_validator::HomeValidator;
 use ledgers::Ledger;
 use number_index::CHAINS;

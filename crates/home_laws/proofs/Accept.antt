@@ -6,8 +6,9 @@ use native.Mathlib.Omega.{arith}
 use lib.ListN.{getD, length}
 use lib.Seq.{length-take-le}
 use borrow.Author.Tests.{eq-eqb, eqb-true, le-leb}
-use Rattle.home_tables.proofs.Bounds.{HomeBounds, home-bounds-facts}
-use Rattle.home_tables.specs.Judging.{acceptsHomeAt, accountsOn}
+use Rattle.home_checks.proofs.Bounds.{HomeBounds, home-bounds-facts}
+use Rattle.home_checks.specs.Accepting.{acceptsHomeAt}
+use Rattle.home_tables.specs.Judging.{accountsOn}
 use Rattle.home_tables.specs.Tables.{HomeSized, HomeTables, acceptsHome, homeBounds, homeIn, homeViewOf}
 use Rattle.ledgers.specs.Limits.{accountLimit, capacity, maxAmount}
 use Rattle.ledgers.specs.declared.Ledger.{Ledger}

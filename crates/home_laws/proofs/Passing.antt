@@ -12,7 +12,7 @@ use lib.Seq.{getD-take}
 use borrow.Author.Tests.{eqb-true, ltb-false, ltb-true}
 use Rattle.answers.proofs.Answers.{or-else-zero}
 use Rattle.home_laws.proofs.Accept.{length-home-balances, length-home-held}
-use Rattle.home_tables.proofs.Bounds.{HomeBounds, facts-home-bounds, home-bounds-facts}
+use Rattle.home_checks.proofs.Bounds.{HomeBounds, facts-home-bounds, home-bounds-facts}
 use Rattle.home_tables.specs.Tables.{HomeSized, HomeTables, acceptsHome, homeIn, homeViewOf, homeWith}
 use Rattle.ledgers.specs.Limits.{accountLimit, capacity, maxAmount}
 use Rattle.ledgers.specs.declared.Kind.{Kind}

@@ -1,3 +1,2 @@
 -- Laws of the tables of the home ledger. Assumes nothing.
-pub mod Bounds
 pub mod Judging

@@ -8,7 +8,7 @@ use lib.Dec.{eqb}
 use lib.ListN.{drop, getD, length, length-replicate, replicate, take}
 use lib.Seq.{take-append-seam}
 use borrow.Author.Tests.{eq-eqb, leb-true}
-use Rattle.home_tables.proofs.Bounds.{HomeBounds}
+use Rattle.home_checks.proofs.Bounds.{HomeBounds}
 use Rattle.home_laws.proofs.Passing.{HomeSound}
 use Rattle.home_tables.specs.Tables.{HomeSized, acceptsHome, homeBounds, homeIn, homeOpenedTables, homeViewOf, homeZeroTables}
 use Rattle.home_validator.specs.State.{homeOpenedState, homeStateWith}

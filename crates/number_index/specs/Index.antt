@@ -12,7 +12,7 @@ use Rattle.tables.specs.Places.{anyAt}
 
 -- the number of chains
 abbrev pub chainCount : ℕ
-chainCount = 2048
+chainCount = 4096
 
 -- the value at a place counted from another one
 abbrev pub valueFrom : List ℕ → ℕ → ℕ → ℕ

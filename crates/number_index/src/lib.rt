@@ -15,7 +15,7 @@ use tables::sent;
 use tables::used;
 
 // The number of chains.
-pub const CHAINS: usize = 2048;
+pub const CHAINS: usize = 4096;
 // The steps down a chain after which the places are scanned instead.
 const STEPS: usize = 8;
 
@@ -124,6 +124,47 @@ pub fn is_sent<'a>(
     false
 }
 
+// Whether the last place of a number's chain, where most are found, has the sending.
+fn is_sent_last<'a>(
+    kinds: &'a [u8],
+    senders: &'a [u16],
+    receivers: &'a [u16],
+    numbers: &'a [u64],
+    amounts: &'a [u64],
+    heads: &'a [u16],
+    nexts: &'a [u16],
+    base: usize,
+    from: usize,
+    n: usize,
+    number: u64,
+    sender: u16,
+    receiver: u16,
+    amount: u64,
+) -> bool
+    requires { ⌜ (from + n ≤ length (now kinds)) × (from + n ≤ length (now senders)) × (from + n ≤ length (now receivers))
+        × (from + n ≤ length (now numbers)) × (from + n ≤ length (now amounts)) × (base + chainCount ≤ length (now heads))
+        × (from + n ≤ length (now nexts)) × Indexed (now numbers) (now heads) (now nexts) base from n ⌝ }
+    ensures { λ b. ⌜ (b ≡ true → anyAt (sendsAt (now (kinds .entry)) (now (senders .entry)) (now (receivers .entry))
+        (now (numbers .entry)) (now (amounts .entry)) number sender receiver amount) from n ≡ true) ⌝ }
+{
+    let at = as_index(heads[base + low_bits(number)]);
+    if at == 0 {
+        return false;
+    }
+    sends(
+        kinds,
+        senders,
+        receivers,
+        numbers,
+        amounts,
+        number,
+        sender,
+        receiver,
+        amount,
+        from + at - 1,
+    )
+}
+
 // The number at place n joins the index of the n before it.
 pub fn add<'a>(
     heads: &'a mut [u16],
@@ -201,7 +242,11 @@ pub fn all_backed<'a>(
     let mut i = own;
     while i < end {
         if kinds[i] == Kind::RECEIVING {
-            if !is_sent(
+            let number = numbers[i];
+            let sender = senders[i];
+            let receiver = receivers[i];
+            let amount = amounts[i];
+            if !is_sent_last(
                 kinds,
                 senders,
                 receivers,
@@ -212,12 +257,29 @@ pub fn all_backed<'a>(
                 base,
                 from,
                 n,
-                numbers[i],
-                senders[i],
-                receivers[i],
-                amounts[i],
+                number,
+                sender,
+                receiver,
+                amount,
             ) {
-                return false;
+                if !is_sent(
+                    kinds,
+                    senders,
+                    receivers,
+                    numbers,
+                    amounts,
+                    heads,
+                    nexts,
+                    base,
+                    from,
+                    n,
+                    number,
+                    sender,
+                    receiver,
+                    amount,
+                ) {
+                    return false;
+                }
             }
         }
         i += 1;

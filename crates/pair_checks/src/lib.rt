@@ -15,9 +15,8 @@ use entries::Judgement;
 use entries::is_count_allowed;
 use entries::refused;
 use exact_sums::Wide;
-use exact_sums::add_amounts;
 use exact_sums::add_balances;
-use ledgers::Kind;
+use exact_sums::add_flows;
 use ledgers::Ledger;
 use number_index::CHAINS;
 use number_index::all_backed;
@@ -187,24 +186,17 @@ fn adds_up<'a>(
         f,
         add_balances(balances, 0, h, zero),
     );
-    let home_sent = add_amounts(kinds, amounts, 0, n, Kind::SENDING, held);
-    let sent = add_amounts(
+    let home = add_flows(kinds, amounts, 0, n, held, zero.add(supply));
+    let both = add_flows(
         kinds,
         amounts,
         Ledger::CAPACITY,
         m,
-        Kind::SENDING,
-        home_sent,
+        home.sent,
+        home.received,
     );
-    let home_received = add_amounts(kinds, amounts, 0, n, Kind::RECEIVING, zero.add(supply));
-    let received = add_amounts(
-        kinds,
-        amounts,
-        Ledger::CAPACITY,
-        m,
-        Kind::RECEIVING,
-        home_received,
-    );
+    let sent = both.sent;
+    let received = both.received;
     if sent.high != received.high {
         return false;
     }

@@ -34,40 +34,43 @@ loop-holds c = (search needs, search needs, from-start (allAt _) _ _)
 shared-slice-read-if1 : tie.Need-shared-slice-read-if1 Inv-loop μ-loop
 shared-slice-read-if1 c = search needs
 
-mul-is-sent : tie.Need-mul-is-sent Inv-loop μ-loop
-mul-is-sent c = search needs
+mul-number : tie.Need-mul-number Inv-loop μ-loop
+mul-number c = search needs
 
-shared-slice-read-is-sent : tie.Need-shared-slice-read-is-sent Inv-loop μ-loop
-shared-slice-read-is-sent c = search needs
+shared-slice-read-number : tie.Need-shared-slice-read-number Inv-loop μ-loop
+shared-slice-read-number c = search needs
 
-mul-is-sent-2 : tie.Need-mul-is-sent-2 Inv-loop μ-loop
-mul-is-sent-2 c = search needs
+mul-sender : tie.Need-mul-sender Inv-loop μ-loop
+mul-sender c = search needs
 
-shared-slice-read-is-sent-2 : tie.Need-shared-slice-read-is-sent-2 Inv-loop μ-loop
-shared-slice-read-is-sent-2 c = search needs
+shared-slice-read-sender : tie.Need-shared-slice-read-sender Inv-loop μ-loop
+shared-slice-read-sender c = search needs
 
-mul-is-sent-3 : tie.Need-mul-is-sent-3 Inv-loop μ-loop
-mul-is-sent-3 c = search needs
+mul-receiver : tie.Need-mul-receiver Inv-loop μ-loop
+mul-receiver c = search needs
 
-shared-slice-read-is-sent-3 : tie.Need-shared-slice-read-is-sent-3 Inv-loop μ-loop
-shared-slice-read-is-sent-3 c = search needs
+shared-slice-read-receiver : tie.Need-shared-slice-read-receiver Inv-loop μ-loop
+shared-slice-read-receiver c = search needs
 
-mul-is-sent-4 : tie.Need-mul-is-sent-4 Inv-loop μ-loop
-mul-is-sent-4 c = search needs
+mul-amount : tie.Need-mul-amount Inv-loop μ-loop
+mul-amount c = search needs
 
-shared-slice-read-is-sent-4 : tie.Need-shared-slice-read-is-sent-4 Inv-loop μ-loop
-shared-slice-read-is-sent-4 c = search needs
+shared-slice-read-amount : tie.Need-shared-slice-read-amount Inv-loop μ-loop
+shared-slice-read-amount c = search needs
+
+is-sent-last-requires : tie.Need-is-sent-last-requires Inv-loop μ-loop
+is-sent-last-requires c κs = search needs
 
 is-sent-requires : tie.Need-is-sent-requires Inv-loop μ-loop
 is-sent-requires c κs = search needs
 
 returns : tie.Need-returns Inv-loop μ-loop
 returns c =
-    let c9 = c .before .before .before .before .before .before .before .before .before in
-    let a = c9 .before .before .before .before .before .before .before .before .args in
-    let l = c9 .loop in
-    let asked = eq-eqb _ _ (c .before .before .before .before .before .before .if1 .taken) in
-    let lacking = sym (c .before .is-sent .ensures) ∙ not-true _ (c .if2 .taken) in
+    let c11 = c .before .before .before .before .before .before .before .before .before .before .before in
+    let a = c11 .before .before .before .before .before .before .before .before .args in
+    let l = c11 .loop in
+    let asked = eq-eqb _ _ (c .before .before .before .before .before .before .before .before .if1 .taken) in
+    let lacking = sym (c .before .is-sent .ensures) ∙ not-true _ (c .if3 .taken) in
     sym (l .inv .2 ∙ all-here _ (l .i) (a .own + a .m) (search needs) (asked-lacking _ _ asked lacking))
 
 add-i : tie.Need-add-i Inv-loop μ-loop
@@ -83,8 +86,10 @@ loop-again c =
     let p = backedAt (a .kinds .now) (a .senders .now) (a .receivers .now) (a .numbers .now) (a .amounts .now) (a .from) (a .n) in
     let here : p (l .i) ≡ true =
     ⊎-elim
-    (λ w. asked-there (eqb (getD (a .kinds .now) (l .i) 0) 3) _ (sym (w .5 .ensures) ∙ not-false _ (w .6 .left)))
-    (λ w. not-asked _ _ (ne-eqb _ _ (w .left)))
+    (λ w. asked-there (eqb (getD (a .kinds .now) (l .i) 0) 3) _ (sym (w .7 .ensures) ∙ not-false _ (w .8 .left)))
+    (⊎-elim
+    (λ w. asked-there (eqb (getD (a .kinds .now) (l .i) 0) 3) _ (w .5 .ensures (not-false _ (w .6 .left))))
+    (λ w. not-asked _ _ (ne-eqb _ _ (w .left))))
     (c .if1 .came)
     in
     (search needs, search needs, l .inv .2 ∙ all-on p (l .i) (a .own + a .m) (search needs) here)
@@ -104,14 +109,15 @@ all-backed-spec =
     add-end
     loop-holds
     shared-slice-read-if1
-    mul-is-sent
-    shared-slice-read-is-sent
-    mul-is-sent-2
-    shared-slice-read-is-sent-2
-    mul-is-sent-3
-    shared-slice-read-is-sent-3
-    mul-is-sent-4
-    shared-slice-read-is-sent-4
+    mul-number
+    shared-slice-read-number
+    mul-sender
+    shared-slice-read-sender
+    mul-receiver
+    shared-slice-read-receiver
+    mul-amount
+    shared-slice-read-amount
+    is-sent-last-requires
     is-sent-requires
     returns
     add-i

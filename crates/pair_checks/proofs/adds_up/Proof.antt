@@ -1,4 +1,4 @@
--- `pair_tables::adds_up` meets its contract. Assumes nothing.
+-- `pair_checks::adds_up` meets its contract. Assumes nothing.
 use mathlib.Core.Path.{_∙_, ap₂, sym}
 use native.Mathlib.Omega.{arith}
 use lib.Dec.{eqb}
@@ -15,34 +15,43 @@ add-balances-requires c κs = search needs
 add-balances-requires-2 : tie.Need-add-balances-requires-2
 add-balances-requires-2 c κs = search needs
 
-add-amounts-requires : tie.Need-add-amounts-requires
-add-amounts-requires c κs = search needs
-
-add-amounts-requires-2 : tie.Need-add-amounts-requires-2
-add-amounts-requires-2 c κs = search needs
-
 add-requires : tie.Need-add-requires
 add-requires c κs = search needs
 
-add-amounts-requires-3 : tie.Need-add-amounts-requires-3
-add-amounts-requires-3 c κs = search needs
+add-flows-requires : tie.Need-add-flows-requires
+add-flows-requires c κs =
+    let p = c .before .before .before .before .before .before .pre in
+    let held = added-after (c .before .before .add-balances .ensures) (c .before .add-balances2 .ensures) in
+    let supply = c .add .ensures in (
+      omega (arith, p .1, p .5),
+      omega (arith, p .2, p .5),
+      held .low-fits,
+      omega (arith, held .high-most, p .3, p .4, p .5),
+      supply .low-fits,
+      omega (arith, supply .high-most, p .5),
+    )
 
-add-amounts-requires-4 : tie.Need-add-amounts-requires-4
-add-amounts-requires-4 c κs =
-    let c9 = c .before .before .before .before .before .before .before .before .before in
-    let p = c9 .pre in
-    let received = added-after (c .before .add .ensures) (c .add-amounts3 .ensures) in
-    (omega (arith, p .1, p .6), omega (arith, p .2, p .6), received .low-fits, omega (arith, received .high-most, p .5, p .6))
+add-flows-requires-2 : tie.Need-add-flows-requires-2
+add-flows-requires-2 c κs =
+    let p = c .before .before .before .before .before .before .before .pre in
+    let held = added-after (c .before .before .before .add-balances .ensures) (c .before .before .add-balances2 .ensures) in
+    let sent = added-after held (c .add-flows .ensures .0) in
+    let received = added-after (c .before .add .ensures) (c .add-flows .ensures .1) in (
+      omega (arith, p .1, p .6),
+      omega (arith, p .2, p .6),
+      sent .low-fits,
+      omega (arith, sent .high-most, p .3, p .4, p .5, p .6),
+      received .low-fits,
+      omega (arith, received .high-most, p .5, p .6),
+    )
 
 returns : tie.Need-returns
 unfolding addsUpAt
 returns c =
-    let c3 = c .before .before .before in
-    let c6 = c3 .before .before .before in
-    let held = added-after (c6 .before .before .before .add-balances .ensures) (c6 .before .before .add-balances2 .ensures) in
-    let sent = added-after (added-after held (c6 .before .add-amounts .ensures)) (c6 .add-amounts2 .ensures) in
-    let home-received = added-after (c3 .before .before .add .ensures) (c3 .before .add-amounts3 .ensures) in
-    let received = added-after home-received (c3 .add-amounts4 .ensures) in
+    let d = c .before .before .before .before .before in
+    let held = added-after (d .before .before .before .before .add-balances .ensures) (d .before .before .before .add-balances2 .ensures) in
+    let sent = added-after (added-after held (d .before .add-flows .ensures .0)) (d .add-flows2 .ensures .0) in
+    let received = added-after (added-after (d .before .before .add .ensures) (d .before .add-flows .ensures .1)) (d .add-flows2 .ensures .1) in
     sym
     (ap₂ eqb (sym (added-value sent)) (sym (added-value received))
     ∙ high-differs _ _ (sent .low-fits) (received .low-fits) (c .if1 .taken))
@@ -50,12 +59,10 @@ returns c =
 returns-2 : tie.Need-returns-2
 unfolding addsUpAt
 returns-2 c =
-    let c5 = c .before .before .before .before .before in
-    let c8 = c5 .before .before .before in
-    let held = added-after (c8 .before .before .before .add-balances .ensures) (c8 .before .before .add-balances2 .ensures) in
-    let sent = added-after (added-after held (c8 .before .add-amounts .ensures)) (c8 .add-amounts2 .ensures) in
-    let home-received = added-after (c5 .before .before .add .ensures) (c5 .before .add-amounts3 .ensures) in
-    let received = added-after home-received (c5 .add-amounts4 .ensures) in
+    let d = c .before .before .before .before .before .before .before in
+    let held = added-after (d .before .before .before .before .add-balances .ensures) (d .before .before .before .add-balances2 .ensures) in
+    let sent = added-after (added-after held (d .before .add-flows .ensures .0)) (d .add-flows2 .ensures .0) in
+    let received = added-after (added-after (d .before .before .add .ensures) (d .before .add-flows .ensures .1)) (d .add-flows2 .ensures .1) in
     low-compared _ _ (sent .low-fits) (received .low-fits) (c .before .before .if1 .left)
     ∙ ap₂ eqb (added-value sent) (added-value received)
 
@@ -65,10 +72,8 @@ adds-up-spec =
     (tie.spec
     add-balances-requires
     add-balances-requires-2
-    add-amounts-requires
-    add-amounts-requires-2
     add-requires
-    add-amounts-requires-3
-    add-amounts-requires-4
+    add-flows-requires
+    add-flows-requires-2
     returns
     returns-2)

@@ -1,14 +1,14 @@
--- `home_tables::is_accepted` meets its contract. Assumes nothing.
+-- `home_checks::is_accepted` meets its contract. Assumes nothing.
 use mathlib.Core.Path.{_∙_, sym}
 use native.Mathlib.Omega.{arith}
 use borrow.Author.Needs.{needs}
 use borrow.Author.Tests.{not-false, not-true}
-use Rattle.home_tables.proofs.Bounds.{home-bounds-facts}
-use Rattle.home_tables.specs.Judging.{acceptsHomeAt}
+use Rattle.home_checks.proofs.Bounds.{home-bounds-facts}
+use Rattle.home_checks.specs.Accepting.{acceptsHomeAt}
 use Rattle.rules.proofs.Lists.{never-both-tests}
 use Rattle.wire.proofs.Lists.{every-not, every-one, every-skip}
-use Rattle.home_tables.proofs.is_accepted.Statement.{statement}
-use Rattle.home_tables.proofs.is_accepted.Tie as tie
+use Rattle.home_checks.proofs.is_accepted.Statement.{statement}
+use Rattle.home_checks.proofs.is_accepted.Tie as tie
 
 is-bounded-requires : tie.Need-is-bounded-requires
 is-bounded-requires c κs = search needs

@@ -6,8 +6,8 @@ use mathlib.Core.Path.{_∙_, _≡_, ap, sym}
 use native.Mathlib.Omega.{arith}
 use lib.Dec.{eqb}
 use borrow.Author.Tests.{le-leb, leb-true, ne-eqb}
-use Rattle.home_tables.specs.Judging.{acceptsHomeAt}
+use Rattle.home_checks.specs.Accepting.{acceptsHomeAt}
 use Rattle.home_tables.specs.Tables.{homeBounds}
 use Rattle.ledgers.specs.Limits.{accountLimit, capacity, maxAmount}
 use Rattle.rules.specs.PairValidator.{supplyAllowed}
 use Rattle.table_laws.proofs.Openings.{count-facts, facts-count}

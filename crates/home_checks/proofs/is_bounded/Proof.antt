@@ -1,12 +1,12 @@
--- `home_tables::is_bounded` meets its contract. Assumes nothing.
+-- `home_checks::is_bounded` meets its contract. Assumes nothing.
 use mathlib.Core.Path.{_∙_, sym}
 use borrow.Author.Needs.{needs}
 use borrow.Author.Tests.{le-leb, lt-leb, not-false, not-true}
 use Rattle.home_tables.specs.Tables.{homeBounds}
 use Rattle.rules.specs.PairValidator.{supplyAllowed}
 use Rattle.wire.proofs.Lists.{every-not, every-one, every-skip}
-use Rattle.home_tables.proofs.is_bounded.Statement.{statement}
-use Rattle.home_tables.proofs.is_bounded.Tie as tie
+use Rattle.home_checks.proofs.is_bounded.Statement.{statement}
+use Rattle.home_checks.proofs.is_bounded.Tie as tie
 
 is-count-allowed-requires : tie.Need-is-count-allowed-requires
 is-count-allowed-requires c κs = search needs

@@ -1,10 +1,10 @@
--- `home_tables::adds_up` meets its contract. Assumes nothing.
+-- `home_checks::adds_up` meets its contract. Assumes nothing.
 use mathlib.Core.Path.{sym}
 use borrow.Author.Needs.{needs}
-use Rattle.home_tables.proofs.Bounds.{high-passes, low-compares}
+use Rattle.home_checks.proofs.Bounds.{high-passes, low-compares}
 use Rattle.exact_sums.proofs.Sums.{added-after, added-value}
-use Rattle.home_tables.proofs.adds_up.Statement.{statement}
-use Rattle.home_tables.proofs.adds_up.Tie as tie
+use Rattle.home_checks.proofs.adds_up.Statement.{statement}
+use Rattle.home_checks.proofs.adds_up.Tie as tie
 
 add-balances-requires : tie.Need-add-balances-requires
 add-balances-requires c κs = search needs

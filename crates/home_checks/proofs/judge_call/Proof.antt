@@ -1,14 +1,14 @@
--- `home_tables::judge_call` meets its contract. Assumes nothing.
+-- `home_checks::judge_call` meets its contract. Assumes nothing.
 use mathlib.Core.Path.{_∙_, sym}
 use native.Mathlib.Nat.{le-trans}
 use native.Mathlib.Omega.{arith}
 use borrow.Author.Needs.{needs}
 use borrow.Author.Tests.{not-false, not-true}
-use Rattle.home_tables.proofs.Bounds.{accepts-bounds}
+use Rattle.home_checks.proofs.Bounds.{accepts-bounds}
 use Rattle.entries.proofs.Finding.{found-accepted, found-unaccepted}
 use Rattle.home_tables.proofs.Judging.{index-empty}
-use Rattle.home_tables.proofs.judge_call.Statement.{statement}
-use Rattle.home_tables.proofs.judge_call.Tie as tie
+use Rattle.home_checks.proofs.judge_call.Statement.{statement}
+use Rattle.home_checks.proofs.judge_call.Tie as tie
 
 slice-aggregate-is-accepted : tie.Need-slice-aggregate-is-accepted
 slice-aggregate-is-accepted c = search needs

@@ -1,0 +1,2 @@
+-- Laws of the bounds of a state. Assumes nothing.
+pub mod Bounds
