@@ -14,8 +14,8 @@ use Rattle.block_format.proofs.Sizes.{records-limit}
 use Rattle.block_format.specs.Blocks.{recordsOf, statedCount}
 use Rattle.block_listing.specs.Runs.{Bounded, StandsAt, standing}
 use Rattle.block_listing.specs.declared.Run.{Run}
-use Rattle.journal_reader.proofs.Judging.{right-facts}
-use Rattle.journal_reader.specs.Judged.{blockRefusal}
+use Rattle.block_checks.proofs.Checking.{right-facts}
+use Rattle.block_checks.specs.Checked.{blockRefusal}
 use Rattle.lines.specs.Lines.{faultLine}
 use Rattle.listing.proofs.Blocks.{bad-text, right-text}
 use Rattle.listing.specs.Chunks.{stateFigures}

@@ -12,8 +12,8 @@ use Rattle.answers.specs.Answers.{unlessRefused}
 use Rattle.block_format.proofs.Forming.{FormedBlock, formed-block-facts, facts-formed-block}
 use Rattle.block_format.proofs.Sizes.{items-room, kind-byte, limit-byte, count-back}
 use Rattle.block_format.specs.Blocks.{maxBlock, recordsPerBlock, blockNumber, blockKind, statedCount, kindOfBlock, itemSize, itemLimit}
-use Rattle.journal_reader.proofs.Judging.{Right, not-refused}
-use Rattle.journal_reader.specs.Judged.{checked, blockRefusal}
+use Rattle.block_checks.proofs.Checking.{Right, not-refused}
+use Rattle.block_checks.specs.Checked.{checked, blockRefusal}
 use Rattle.journal_writer.proofs.Allowing.{facts-allowed, allowed-answer}
 use Rattle.journal_writer.proofs.Laying.{sealed}
 use Rattle.journal_writer.specs.Written.{header, body, journalBlock, writeRefusal, written}

@@ -13,8 +13,9 @@ use Rattle.block_format.proofs.Forming.{formed-block-facts}
 use Rattle.block_format.proofs.Items.{length-balances, length-records}
 use Rattle.block_format.proofs.Sizes.{balances-size, balances-limit, records-size, records-limit, limit-byte, count-back}
 use Rattle.block_format.specs.Blocks.{maxBlock, recordsPerBlock, statedCount, kindOfBlock, itemSize, itemLimit, recordsOf, balancesOf}
-use Rattle.journal_reader.proofs.Judging.{right-facts}
-use Rattle.journal_reader.specs.Judged.{blockRefusal, placeRefusal, recordRefusal, balancesRefusal, partOf, countOf, openingOf}
+use Rattle.block_checks.proofs.Checking.{right-facts}
+use Rattle.block_checks.specs.Checked.{blockRefusal}
+use Rattle.journal_reader.specs.Judged.{placeRefusal, recordRefusal, balancesRefusal, partOf, countOf, openingOf}
 use Rattle.journal_writer.specs.Written.{body, journalBlock, writeRefusal, written}
 use Rattle.journal.proofs.Blocks.{block-items, bytes-block, itemBytes, block-is, count-is, block-right, block-allowed}
 use Rattle.journal.proofs.Items.{Wide, all-long, length-joined, bytes-joined, joined-only, records-joined, records-whole}

@@ -9,7 +9,8 @@ use Rattle.wire.specs.BigEndian.{All, Bytes, bytesOf}
 use Rattle.ledgers.specs.Limits.{accountLimit}
 use Rattle.block_format.specs.Blocks.{maxBlock, recordsPerBlock, statedCount, kindOfBlock, recordsOf, balancesOf, balanceTable}
 use Rattle.answers.specs.declared.Answer.the-variants.{Passed}
-use Rattle.journal_reader.specs.Judged.{blockRefusal, partOf, countOf, openingOf}
+use Rattle.block_checks.specs.Checked.{blockRefusal}
+use Rattle.journal_reader.specs.Judged.{partOf, countOf, openingOf}
 use Rattle.journal_writer.specs.Written.{journalBlock, writeRefusal, written}
 
 -- ## Document 01's limits

@@ -1,31 +1,14 @@
--- Judging a block (document 01, "Refusals": 11 to 14, and 4 for a place). Assumes nothing.
+-- What the reader's calls answer of a block (document 01, "Refusals": 4 for a place, after 11 to 14) and hand out. Assumes nothing.
 use Prim.Native.Nat.{ℕ}
-use mathlib.Core.Bool.{Bool, not}
 use mathlib.Core.List.{List, []}
-use lib.Dec.{eqb, ltb, leb}
-use lib.ListN.{length, take, drop, replicate}
-use Rattle.wire.specs.BigEndian.{same}
+use lib.Dec.{ltb, leb}
+use lib.ListN.{replicate}
 use Rattle.ledgers.specs.Limits.{accountLimit}
 use Rattle.answers.specs.Answers.{answer, refuse, orElse, unlessRefused}
-use Rattle.sha256_core.specs.Sha256.{sha256}
-use Rattle.block_format.specs.Blocks.{maxBlock, blockNumber, statedCount, blockFormed, recordPart, balanceTable}
+use Rattle.block_checks.specs.Checked.{blockRefusal}
+use Rattle.block_format.specs.Blocks.{statedCount, recordPart, balanceTable}
 pub use Rattle.journal_reader.specs.declared.Counted.{Counted}
 pub use Rattle.journal_reader.specs.declared.Balances.{Balances}
-
--- what 12 asks: bytes 480-511 are the SHA-256 of bytes 0-479
-unfoldable pub checked : List ℕ → Bool
-checked b = same (sha256 (take 480 b)) (drop 480 b)
-
--- the refusal of a block that is wanted as number k after a block of `before` items, or 0: 11 where it is not 512 bytes
--- long (a missing one has none) or wanted above 65,535, then 12, 13 and 14
-unfoldable pub blockRefusal : List ℕ → ℕ → ℕ → ℕ
-blockRefusal b k before =
-    refuse (not (eqb (length b) 512)) 11
-    (refuse (ltb maxBlock k) 11
-    (refuse (not (checked b)) 12
-    (refuse (not (eqb (blockNumber b) k)) 13
-    (refuse (not (blockFormed b k before)) 14
-    0))))
 
 -- the refusal of a place at which a record is wanted: 4 in a block of opening balances, and not below the count
 unfoldable pub placeRefusal : List ℕ → ℕ → ℕ → ℕ

@@ -6,17 +6,14 @@ ghost use lib.ListN.{length};
 ghost use Rattle.answers.specs.Answers.{answer};
 ghost use Rattle.ledgers.specs.Limits.{accountLimit};
 ghost use Rattle.block_format.specs.Blocks.{recordsPerBlock, statedCount, recordPart, balanceTable};
-ghost use Rattle.journal_reader.specs.Judged.{checked, blockRefusal, placeRefusal, recordRefusal, partOf, countOf};
-ghost use Rattle.journal_reader.specs.Judged.{openingOf};
+ghost use Rattle.block_checks.specs.Checked.{blockRefusal};
+ghost use Rattle.journal_reader.specs.Judged.{placeRefusal, recordRefusal, partOf, countOf, openingOf};
 use answers::Answer;
 use answers::first_refusal;
 use answers::refusal_if;
-use block_format::BLOCK_SIZE;
-use block_format::MAX_BLOCK;
-use block_format::is_block_formed;
+use block_checks::block_refusal;
 use block_format::stated_count;
 use ledgers::Ledger;
-use wire::u32_at;
 use wire::u64_at;
 
 // A block's answer, and the count of its items; 0 where it is refused.
@@ -30,29 +27,6 @@ pub struct Balances {
     pub answer: Answer,
     pub count: u64,
     pub balances: [u64; Ledger::ACCOUNTS],
-}
-
-// Whether refusal 12 has nothing against the block.
-fn is_checked(block: &[u8]) -> bool
-    requires { ⌜ length (now block) ≡ 512 ⌝ }
-    ensures { λ r. ⌜ r ≡ checked (now (block .entry)) ⌝ }
-{
-    let d = sha256::digest(&block[..480]);
-    wire::equal(&d, &block[480..])
-}
-
-// The refusal of the block that is wanted as number k, after a block of `before` items; 0 for none.
-fn block_refusal(block: &[u8], k: u64, before: u64) -> u32
-    ensures { λ r. ⌜ r ≡ blockRefusal (now (block .entry)) k before ⌝ }
-{
-    if block.len() != BLOCK_SIZE {
-        return 11;
-    }
-    let low = refusal_if(MAX_BLOCK < k, 11);
-    let check = refusal_if(!is_checked(block), 12);
-    let number = refusal_if(u32_at(block, 0) as u64 != k, 13);
-    let form = refusal_if(!is_block_formed(block, k, before), 14);
-    first_refusal(low, first_refusal(check, first_refusal(number, form)))
 }
 
 // The refusal of a place at which a record of the block is wanted; 0 for none.

@@ -7,8 +7,8 @@ use mathlib.Core.Path.{_∙_, _≡_, ap, refl, sym}
 use native.Mathlib.Omega.{arith}
 use lib.ListN.{length}
 use Rattle.block_format.specs.Blocks.{maxBlock, recordsOf, statedCount}
-use Rattle.journal_reader.proofs.Judging.{right-facts}
-use Rattle.journal_reader.specs.Judged.{blockRefusal}
+use Rattle.block_checks.proofs.Checking.{right-facts}
+use Rattle.block_checks.specs.Checked.{blockRefusal}
 use Rattle.lines.specs.Lines.{faultLine}
 use Rattle.listing.specs.Chunks.{afterBlocks, stateFigures}
 use Rattle.listing.specs.Listing.{Standing, afterBlock, blockText, blocksText, recordLines, stateListed}

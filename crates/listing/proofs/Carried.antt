@@ -5,7 +5,7 @@ use mathlib.Core.List.{List, [], _++_, _∷_}
 use mathlib.Core.Path.{_∙_, _≡_, ap, ap₂, refl, subst, sym}
 use native.Mathlib.Omega.{arith}
 use Rattle.block_format.specs.Blocks.{recordsOf, statedCount}
-use Rattle.journal_reader.specs.Judged.{blockRefusal}
+use Rattle.block_checks.specs.Checked.{blockRefusal}
 use Rattle.ledgers.specs.Limits.{capacity}
 use Rattle.lines.specs.Lines.{recordLine}
 use Rattle.listing.proofs.Blocks.{bad-after, right-after}

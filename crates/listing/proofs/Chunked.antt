@@ -9,7 +9,7 @@ use lib.Dec.{eqb}
 use lib.ListN.{drop, drop-of-length-le, length, length-take, take}
 use borrow.Author.Tests.{eqb-false, eqb-true}
 use Rattle.block_format.specs.Blocks.{balancesOf, maxBlock, statedCount}
-use Rattle.journal_reader.specs.Judged.{blockRefusal}
+use Rattle.block_checks.specs.Checked.{blockRefusal}
 use Rattle.ledgers.specs.Limits.{capacity}
 use Rattle.lines.specs.Lines.{headerLine, openLine}
 use Rattle.listing.proofs.Blocks.{text-append, text-none, text-stopped, went-on}

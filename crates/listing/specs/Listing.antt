@@ -5,7 +5,7 @@ use mathlib.Core.Bool.{Bool, true, false}
 use mathlib.Core.List.{List, [], _∷_, _++_}
 use lib.ListN.{length, take, drop}
 use Rattle.block_format.specs.Blocks.{balancesOf, recordsOf, statedCount}
-use Rattle.journal_reader.specs.Judged.{blockRefusal}
+use Rattle.block_checks.specs.Checked.{blockRefusal}
 use Rattle.ledgers.specs.Limits.{capacity}
 use Rattle.lines.specs.Lines.{faultLine, figuresText, headerLine, openLine, recordLine}
 use Rattle.rules.specs.Calls.{Checker, callOne}

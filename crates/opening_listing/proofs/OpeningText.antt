@@ -12,7 +12,8 @@ use Rattle.answers.specs.Answers.{Tells, answer, numberOf, orElse, unlessRefuse
 use Rattle.answers.specs.declared.Answer.the-variants.{Passed, Refused}
 use Rattle.block_format.proofs.Items.{length-balances}
 use Rattle.block_format.specs.Blocks.{balanceTable, balancesOf, statedCount}
-use Rattle.journal_reader.specs.Judged.{balancesRefusal, blockRefusal, openingOf}
+use Rattle.block_checks.specs.Checked.{blockRefusal}
+use Rattle.journal_reader.specs.Judged.{balancesRefusal, openingOf}
 use Rattle.journal_reader.specs.declared.Balances.{Balances}
 use Rattle.ledgers.specs.Limits.{accountLimit}
 use Rattle.lines.proofs.Puts.{fault-short, header-short, open-short, put-put}

@@ -1,14 +1,14 @@
--- `journal_reader::is_checked` meets its contract. Assumes nothing.
+-- `block_checks::is_checked` meets its contract. Assumes nothing.
 use Prim.Native.Nat.{_-_}
 use mathlib.Core.Path.{ap₂, _∙_}
 use native.Mathlib.Omega.{arith}
 use lib.ListN.{length, drop, length-take, length-drop}
 use lib.Seq.{take-all}
 use borrow.Author.Needs.{needs}
-use Rattle.journal_reader.specs.Judged.{checked}
+use Rattle.block_checks.specs.Checked.{checked}
 use Rattle.wire.specs.BigEndian.{same}
-use Rattle.journal_reader.proofs.is_checked.Statement.{statement}
-use Rattle.journal_reader.proofs.is_checked.Tie as tie
+use Rattle.block_checks.proofs.is_checked.Statement.{statement}
+use Rattle.block_checks.proofs.is_checked.Tie as tie
 
 slice-aggregate-digest : tie.Need-slice-aggregate-digest
 slice-aggregate-digest c =

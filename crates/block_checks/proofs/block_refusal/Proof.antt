@@ -1,4 +1,4 @@
--- `journal_reader::block_refusal` meets its contract. Assumes nothing.
+-- `block_checks::block_refusal` meets its contract. Assumes nothing.
 use Prim.Native.Nat.{ℕ}
 use mathlib.Core.Path.{ap, ap₂, _∙_}
 use mathlib.Core.Bool.{Bool, not}
@@ -7,10 +7,10 @@ use borrow.Author.Tests.{eq-eqb, ne-eqb}
 use borrow.Author.Needs.{needs}
 use Rattle.answers.specs.Answers.{refuse, orElse}
 use Rattle.block_format.specs.Blocks.{maxBlock, blockNumber, blockFormed}
-use Rattle.journal_reader.proofs.Judging.{in-order}
-use Rattle.journal_reader.specs.Judged.{checked, blockRefusal}
-use Rattle.journal_reader.proofs.block_refusal.Statement.{statement}
-use Rattle.journal_reader.proofs.block_refusal.Tie as tie
+use Rattle.block_checks.proofs.Checking.{in-order}
+use Rattle.block_checks.specs.Checked.{checked, blockRefusal}
+use Rattle.block_checks.proofs.block_refusal.Statement.{statement}
+use Rattle.block_checks.proofs.block_refusal.Tie as tie
 
 returns : tie.Need-returns
 unfolding blockRefusal

@@ -1,0 +1,2 @@
+-- Laws of judging a block. Assumes nothing.
+pub mod Checking
