@@ -1,5 +1,6 @@
 -- For every list of records, the answers and figures that a listing folds over it are those of a run of the pair validator
--- (document 01, The runs of demand 3). A listing folds block by block; that this is one list is not stated here. Assumes nothing.
+-- (document 01, The runs of demand 3). A listing folds block by block; that this is one list is ListedWhole (listing_claims). Assumes
+-- nothing.
 use Prim.Native.Nat.{ℕ, _+_}
 use mathlib.Core.List.{List, [], _∷_, _++_}
 use mathlib.Core.Path.{_≡_}

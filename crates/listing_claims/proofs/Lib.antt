@@ -1,0 +1,2 @@
+-- It holds. Assumes nothing.
+pub mod Whole

@@ -1,0 +1,3 @@
+-- What the listing of a whole good journal is. Assumes nothing.
+
+pub mod Whole
