@@ -229,7 +229,8 @@ pub record HomeIndex (s : HomeValidator) (heads nexts : List ℕ) : Type 0 where
 
 -- what judging needs of the columns and of the index
 pub home-fits-of : (s : HomeValidator) → HomeSound (homeTablesOf s) → (heads nexts : List ℕ) → HomeIndex s heads nexts
-    → (s .«home_accounts» ≤ length (s .balances)) × (s .count ≤ length (s .numbers)) × (chainCount ≤ length heads) × (s .count ≤ length nexts)
+    → (s .«home_accounts» ≤ length (s .balances)) × (s .count ≤ length (s .numbers)) × (chainCount ≤ length heads) × (s .count ≤
+    length nexts)
     × Indexed (s .numbers) heads nexts 0 0 (s .count)
 home-fits-of s z heads nexts i = (
   rw (z .sized .balances-are) (z .bounds .home-fits),

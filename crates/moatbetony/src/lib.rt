@@ -100,7 +100,8 @@ pub extern "C" fn moatbetony_pair_open<'a>(
     far_balances: &'a [u64],
 ) -> PairTold
     ensures { λ r. ⌜ r ≡ pairTold (answer (pairOpeningRefusal (now («home_balances» .entry)) (now («far_balances» .entry))) 0)
-        (unlessRefused (pairOpeningRefusal (now («home_balances» .entry)) (now («far_balances» .entry))) (openedState (now («home_balances» .entry)) (now («far_balances» .entry)))
+        (unlessRefused (pairOpeningRefusal (now («home_balances» .entry)) (now («far_balances» .entry)))
+        (openedState (now («home_balances» .entry)) (now («far_balances» .entry)))
         zeroState) ⌝ }
 {
     let o = PairValidator::open(home_balances, far_balances);
@@ -474,7 +475,8 @@ pub extern "C" fn moatbetony_block_write(
     kind: u8,
     items: &[u8],
 ) -> Told
-    ensures answers { λ r. ⌜ r ≡ told (answer (writeRefusal (length (now (out .entry))) number kind (length (now (items .entry)))) number) ⌝ }
+    ensures answers { λ r. ⌜ r ≡ told (answer (writeRefusal (length (now (out .entry))) number kind
+        (length (now (items .entry)))) number) ⌝ }
     ensures leaves { λ _. ⌜ now (out .exit) ≡ written (now (out .entry)) number kind (now (items .entry)) ⌝ }
 {
     tell(journal_writer::write(out, number, kind, items))

@@ -121,3 +121,40 @@ ready-same e p q w a = rw (e, p, q, w) a
 -- a ledger's chains lie among those of both
 pub heads-room : (l : ℕ) (h : List ℕ) → l < 2 → length h ≡ 2 * chainCount → l * chainCount + chainCount ≤ length h
 heads-room l h p q = omega (arith, q)
+
+-- the row of a record within the columns
+pub row-fits : {s : PairValidator} {f h n : List ℕ} → Ready s f h n → {p : ℕ} → p < 2 * capacity
+    → (p < length (s .numbers)) × (p < length (s .amounts)) × (p < length (s .senders)) × (p < length (s .receivers))
+    × (p < length (s .kinds)) × (p < length (s .ledgers)) × (p < length (s .verdicts))
+row-fits a q =
+    let z = a .sized in (
+      rw (z .numbers-are) q,
+      rw (z .amounts-are) q,
+      rw (z .senders-are) q,
+      rw (z .receivers-are) q,
+      rw (z .kinds-are) q,
+      rw (z .ledgers-are) q,
+      rw (z .verdicts-are) q,
+    )
+
+-- columns that hold what a passed record writes: the call's answer and state, and a loop can go on with them
+pub step-stored : (s : PairValidator) {f h n : List ℕ} (a : Ready s f h n) (b : List ℕ) (r : Record) (j : Judged s b r)
+    (l : ℕ) (x : Entry) (q : l ≡ ledgerByte (ledgerOf (r .kind))) (p : x ≡ entryOf r (l * accountLimit))
+    {balances numbers amounts senders receivers kinds ledgers verdicts figures heads nexts : List ℕ}
+    → balances ≡ storedState s r l x .balances
+    → (numbers ≡ storedState s r l x .numbers) × (amounts ≡ storedState s r l x .amounts)
+    × (senders ≡ storedState s r l x .senders) × (receivers ≡ storedState s r l x .receivers)
+    × (kinds ≡ storedState s r l x .kinds) × (ledgers ≡ storedState s r l x .ledgers)
+    × (verdicts ≡ storedState s r l x .verdicts)
+    → figures ≡ movedFigures (s .supply) f l (x .taken) (x .given)
+    → (heads ≡ set h (l * chainCount + r .number % chainCount) (getD (s .counts) l 0 + 1))
+    × (nexts ≡ set n (l * capacity + getD (s .counts) l 0) (getD h (l * chainCount + r .number % chainCount) 0))
+    → (0 ≡ pairChecker .judge s b)
+    × ((lent (s .supply) (s .accounts) (storedState s r l x .counts) balances numbers amounts senders receivers kinds ledgers verdicts
+    ≡ callOne pairChecker s b .state)
+    × Ready (lent (s .supply) (s .accounts) (storedState s r l x .counts) balances numbers amounts senders receivers kinds ledgers
+    verdicts) figures heads nexts)
+step-stored s a b r j l x q p e w g k =
+    let v = stored-lent s r l x refl e (w .0) (w .1) (w .2) (w .3) (w .4) (w .5) (w .6) in
+    let y = step-passed s a b r j l x q p in
+    (y .0, (v ∙ y .1, ready-same v g (k .0) (k .1) (ready-stored s a b r j l x q p)))

@@ -244,3 +244,13 @@ pub stored-indexes : (s : PairValidator) (l x : ℕ) {heads nexts : List ℕ} �
     (set heads (l * chainCount + x % chainCount) (getD (s .counts) l 0 + 1))
     (set nexts (l * capacity + getD (s .counts) l 0) (getD heads (l * chainCount + x % chainCount) 0))
 stored-indexes s l x h k m n o i = indexes-added (s .counts) (s .numbers) l x h k m n o i
+
+-- the same of lists that equal those
+pub indexes-stored : (s : PairValidator) (l x : ℕ) {heads nexts : List ℕ} → Sound (tablesOf s) → l < 2 → getD (s .counts) l 0 < capacity
+    → Indexes (getD (s .counts) 0 0) (getD (s .counts) 1 0) (s .numbers) heads nexts → (firsts links : List ℕ)
+    → (firsts ≡ set heads (l * chainCount + x % chainCount) (getD (s .counts) l 0 + 1))
+    × (links ≡ set nexts (l * capacity + getD (s .counts) l 0) (getD heads (l * chainCount + x % chainCount) 0))
+    → Indexes (getD (set (s .counts) l (getD (s .counts) l 0 + 1)) 0 0) (getD (set (s .counts) l (getD (s .counts) l 0 + 1)) 1 0)
+    (set (s .numbers) (l * capacity + getD (s .counts) l 0) x) firsts links
+indexes-stored s l x z h n i firsts links e =
+    rw (e .0, e .1) (stored-indexes s l x h (z .sized .counts-are) (z .sized .numbers-are) n (z .bounds .home-room) i)

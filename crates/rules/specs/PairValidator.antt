@@ -14,7 +14,8 @@ use Rattle.records.specs.Records.{reading}
 use Rattle.rules.specs.Calls.{Call, one, Checker, call, run, passedRecords, recordsOn, KeepsAccepted}
 use Rattle.rules.specs.Lists.{any, all, total}
 use Rattle.rules.specs.Rules.{Ledger, Home, Far, Record, Reading, Read, Unreadable, PairState, stateOf, accountsOf, opened}
-use Rattle.rules.specs.Rules.{isReceiving, clashes, matches, firstRefusal, judge, judgeReading, judgeBytes, afterBytes, flightBoth, inFlight}
+use Rattle.rules.specs.Rules.{isReceiving, clashes, matches, firstRefusal, judge, judgeReading, judgeBytes, afterBytes}
+use Rattle.rules.specs.Rules.{flightBoth, inFlight}
 use Rattle.wire.specs.BigEndian.{every}
 use Rattle.answers.specs.declared.Answer.the-variants.{Passed, Refused}
 

@@ -26,7 +26,8 @@ returns : tie.Need-returns
 returns c =
     let c3 = c .before .before .before in
     let a = c3 .before .before .args in
-    part-refused (a .block .now) (a .number) (a .before) (a .place) (c .tell .ensures) (c3 .judge-record .ensures) (c .before .enum-told2 .given .1)
+    part-refused (a .block .now) (a .number) (a .before) (a .place) (c .tell .ensures) (c3 .judge-record .ensures) (c .before
+    .enum-told2 .given .1)
 
 tell-requires-2 : tie.Need-tell-requires-2
 tell-requires-2 c κs = search needs

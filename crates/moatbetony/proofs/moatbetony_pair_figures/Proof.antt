@@ -15,7 +15,12 @@ tell-requires c κs = search needs
 returns : tie.Need-returns
 returns c =
     let e = c .before .figures .ensures in
-    λ i. record { answer = (c .tell .ensures ∙ ap (λ (x : PairFigures). told (x .answer)) e) i; home = e i .home; far = e i .far; flight = e i .flight }
+    λ i. record {
+      answer = (c .tell .ensures ∙ ap (λ (x : PairFigures). told (x .answer)) e) i;
+      home = e i .home;
+      far = e i .far;
+      flight = e i .flight;
+    }
 
 pub moatbetony-pair-figures-spec : {M : Type 1} → statement M
 moatbetony-pair-figures-spec = tie.close (tie.spec figures-requires tell-requires returns)

@@ -21,7 +21,8 @@ tell-record-requires : tie.Need-tell-record-requires
 tell-record-requires c κs = search needs
 
 returns-2 : tie.Need-returns-2
-returns-2 c = c .tell-record .ensures ∙ ap recordTold (sym (sym (c .before .before .before .before .read .ensures) ∙ c .before .before .r .given .1))
+returns-2 c = c .tell-record .ensures ∙ ap recordTold (sym (sym (c .before .before .before .before .read .ensures) ∙ c .before
+    .before .r .given .1))
 
 pub moatbetony-record-read-spec : {M : Type 1} → statement M
 moatbetony-record-read-spec =

@@ -49,9 +49,11 @@ returns : tie.Need-returns
 unfolding addsUpAt
 returns c =
     let d = c .before .before .before .before .before in
-    let held = added-after (d .before .before .before .before .add-balances .ensures) (d .before .before .before .add-balances2 .ensures) in
+    let held = added-after (d .before .before .before .before .add-balances .ensures) (d .before .before .before .add-balances2
+    .ensures) in
     let sent = added-after (added-after held (d .before .add-flows .ensures .0)) (d .add-flows2 .ensures .0) in
-    let received = added-after (added-after (d .before .before .add .ensures) (d .before .add-flows .ensures .1)) (d .add-flows2 .ensures .1) in
+    let received = added-after (added-after (d .before .before .add .ensures) (d .before .add-flows .ensures .1)) (d .add-flows2
+    .ensures .1) in
     sym
     (ap₂ eqb (sym (added-value sent)) (sym (added-value received))
     ∙ high-differs _ _ (sent .low-fits) (received .low-fits) (c .if1 .taken))
@@ -60,9 +62,11 @@ returns-2 : tie.Need-returns-2
 unfolding addsUpAt
 returns-2 c =
     let d = c .before .before .before .before .before .before .before in
-    let held = added-after (d .before .before .before .before .add-balances .ensures) (d .before .before .before .add-balances2 .ensures) in
+    let held = added-after (d .before .before .before .before .add-balances .ensures) (d .before .before .before .add-balances2
+    .ensures) in
     let sent = added-after (added-after held (d .before .add-flows .ensures .0)) (d .add-flows2 .ensures .0) in
-    let received = added-after (added-after (d .before .before .add .ensures) (d .before .add-flows .ensures .1)) (d .add-flows2 .ensures .1) in
+    let received = added-after (added-after (d .before .before .add .ensures) (d .before .add-flows .ensures .1)) (d .add-flows2
+    .ensures .1) in
     low-compared _ _ (sent .low-fits) (received .low-fits) (c .before .before .if1 .left)
     ∙ ap₂ eqb (added-value sent) (added-value received)
 

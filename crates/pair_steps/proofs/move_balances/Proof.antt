@@ -40,4 +40,5 @@ returns : tie.Need-returns
 returns c = search needs
 
 pub move-balances-spec : {M : Type 1} → statement M
-move-balances-spec = tie.close (tie.spec mul-paying slice-read-paying sub-balances mul-balances slice-write-balances mul-paid slice-read-paid add-balances mul-balances-2 slice-write-balances-2 same-length returns)
+move-balances-spec = tie.close (tie.spec mul-paying slice-read-paying sub-balances mul-balances slice-write-balances mul-paid
+    slice-read-paid add-balances mul-balances-2 slice-write-balances-2 same-length returns)

@@ -1,11 +1,13 @@
 -- `pair_steps::step` meets its contract. Assumes nothing.
 use mathlib.Core.Path.{_∙_, _≡_, ap, refl, sym}
 use native.Mathlib.Omega.{arith}
-use borrow.Author.Needs.{needs}
+use lib.Dec.{lit<}
+use borrow.Author.Needs.{needs, scaled-fits}
 use Rattle.ledgers.specs.Ledgers.{ledgerByte, ledgerOf}
+use Rattle.ledgers.specs.Limits.{capacity}
+use Rattle.number_index.specs.Index.{chainCount}
 use Rattle.pair_steps.proofs.Figures.{FiguresMove}
-use Rattle.pair_steps.proofs.Stepping.{figures-stored, heads-room, ready-same, ready-sound, ready-stored, step-passed}
-use Rattle.pair_steps.proofs.Stepping.{step-refused, stored-lent}
+use Rattle.pair_steps.proofs.Stepping.{figures-stored, heads-room, ready-sound, row-fits, step-refused, step-stored}
 use Rattle.pair_steps.specs.Steps.{Ready, figuresIn, lent}
 use Rattle.pair_validator.proofs.Stepping.{Judged, Writes, fits-of, judged-of, storedState, writes-of}
 use Rattle.pair_validator.specs.State.{tablesOf, viewOfState}
@@ -53,31 +55,31 @@ judge-bytes-requires c κs =
     )
 
 same-length : tie.Need-same-length
-same-length c = search needs
+same-length c = refl
 
 same-length-2 : tie.Need-same-length-2
-same-length-2 c = search needs
+same-length-2 c = refl
 
 same-length-3 : tie.Need-same-length-3
-same-length-3 c = search needs
+same-length-3 c = refl
 
 same-length-4 : tie.Need-same-length-4
-same-length-4 c = search needs
+same-length-4 c = refl
 
 same-length-5 : tie.Need-same-length-5
-same-length-5 c = search needs
+same-length-5 c = refl
 
 same-length-6 : tie.Need-same-length-6
-same-length-6 c = search needs
+same-length-6 c = refl
 
 same-length-7 : tie.Need-same-length-7
-same-length-7 c = search needs
+same-length-7 c = refl
 
 same-length-8 : tie.Need-same-length-8
-same-length-8 c = search needs
+same-length-8 c = refl
 
 same-length-9 : tie.Need-same-length-9
-same-length-9 c = search needs
+same-length-9 c = refl
 
 returns : tie.Need-returns
 returns c =
@@ -239,18 +241,7 @@ write-row-requires : tie.Need-write-row-requires
 write-row-requires c κs =
     let c16 = c .before .before .before .before .before .before .before .before .before .before .before .before .before .before
     .before .before in
-    let c23 = c16 .before .before .before .before .before .before .before in
-    let p = writes-at c16 .place-fits in
-    let z = (ready-at c23) .sized in (
-      rw (z .numbers-are) p,
-      rw (z .amounts-are) p,
-      rw (z .senders-are) p,
-      rw (z .receivers-are) p,
-      rw (z .kinds-are) p,
-      rw (z
-          .ledgers-are) p,
-      rw (z .verdicts-are) p,
-    )
+    row-fits (ready-at (c16 .before .before .before .before .before .before .before)) (writes-at c16 .place-fits)
 
 add-counts : tie.Need-add-counts
 add-counts c =
@@ -260,7 +251,10 @@ add-counts c =
     omega (arith, writes-at c31 .count-fits)
 
 mul-counts : tie.Need-mul-counts
-mul-counts c = search needs
+mul-counts c = let c31 = c .before .before .before .before .before .before .before .before .before .before .before .before .before
+    .before .before .before .before .before .before .before .before .before .before .before .before .before .before .before .before
+    .before .before in
+    scaled-fits (c31 .before .index .result) 2 8 (writes-at c31 .ledger) (lit< tt)
 
 slice-write-counts : tie.Need-slice-write-counts
 slice-write-counts c =
@@ -271,10 +265,16 @@ slice-write-counts c =
     omega (arith, writes-at c31 .ledger, (ready-at c38) .sized .counts-are)
 
 mul-add : tie.Need-mul-add
-mul-add c = search needs
+mul-add c = let c33 = c .before .before .before .before .before .before .before .before .before .before .before .before .before
+    .before .before .before .before .before .before .before .before .before .before .before .before .before .before .before .before
+    .before .before .before .before in
+    scaled-fits (c33 .before .index .result) 2 chainCount (writes-at c33 .ledger) (lit< tt)
 
 mul-add-2 : tie.Need-mul-add-2
-mul-add-2 c = search needs
+mul-add-2 c = let c33 = c .before .before .before .before .before .before .before .before .before .before .before .before .before
+    .before .before .before .before .before .before .before .before .before .before .before .before .before .before .before .before
+    .before .before .before .before in
+    scaled-fits (c33 .before .index .result) 2 capacity (writes-at c33 .ledger) (lit< tt)
 
 add-requires : tie.Need-add-requires
 add-requires c κs =
@@ -290,40 +290,51 @@ add-requires c κs =
     (heads-room (c34 .index .result) (c63 .args .heads .now) (w .ledger) (i .heads-are), rw (i .nexts-are) (w .place-fits), w .count-fits)
 
 same-length-10 : tie.Need-same-length-10
-same-length-10 c = search needs
+same-length-10 c = c .before .before .before .before .before .before .before .before .before .before .before .before .before
+    .before .before .before .before .before .before .before .before .before .before .before .before .before .before .before .before
+    .before .before .move-figures .kept .1 .0
 
 same-length-11 : tie.Need-same-length-11
 same-length-11 c = search needs
 
 same-length-12 : tie.Need-same-length-12
-same-length-12 c = search needs
+same-length-12 c = c .before .before .before .before .before .before .before .before .before .before .before .before .before
+    .before .before .before .before .before .before .before .before .before .before .before .before .before .before .before .before
+    .before .before .before .before .before .before .move-balances .kept .0
 
 same-length-13 : tie.Need-same-length-13
-same-length-13 c = search needs
+same-length-13 c = c .before .before .before .before .before .before .before .before .before .before .before .before .before
+    .before .before .before .before .before .before .before .before .write-row .kept .0
 
 same-length-14 : tie.Need-same-length-14
-same-length-14 c = search needs
+same-length-14 c = c .before .before .before .before .before .before .before .before .before .before .before .before .before
+    .before .before .before .before .before .before .before .before .write-row .kept .1 .0
 
 same-length-15 : tie.Need-same-length-15
-same-length-15 c = search needs
+same-length-15 c = c .before .before .before .before .before .before .before .before .before .before .before .before .before
+    .before .before .before .before .before .before .before .before .write-row .kept .1 .1 .0
 
 same-length-16 : tie.Need-same-length-16
-same-length-16 c = search needs
+same-length-16 c = c .before .before .before .before .before .before .before .before .before .before .before .before .before
+    .before .before .before .before .before .before .before .before .write-row .kept .1 .1 .1 .0
 
 same-length-17 : tie.Need-same-length-17
-same-length-17 c = search needs
+same-length-17 c = c .before .before .before .before .before .before .before .before .before .before .before .before .before
+    .before .before .before .before .before .before .before .before .write-row .kept .1 .1 .1 .1 .0
 
 same-length-18 : tie.Need-same-length-18
-same-length-18 c = search needs
+same-length-18 c = c .before .before .before .before .before .before .before .before .before .before .before .before .before
+    .before .before .before .before .before .before .before .before .write-row .kept .1 .1 .1 .1 .1 .0
 
 same-length-19 : tie.Need-same-length-19
-same-length-19 c = search needs
+same-length-19 c = c .before .before .before .before .before .before .before .before .before .before .before .before .before
+    .before .before .before .before .before .before .before .before .write-row .kept .1 .1 .1 .1 .1 .1 .0
 
 same-length-20 : tie.Need-same-length-20
-same-length-20 c = search needs
+same-length-20 c = c .before .before .before .before .add .kept .0
 
 same-length-21 : tie.Need-same-length-21
-same-length-21 c = search needs
+same-length-21 c = c .before .before .before .before .add .kept .1 .0
 
 returns-2 : tie.Need-returns-2
 returns-2 c =
@@ -333,23 +344,10 @@ returns-2 c =
     let c31 = c21 .before .before .before .before .before .before .before .before .before .before in
     let c35 = c31 .before .before .before .before in
     let c38 = c35 .before .before .before in
-    let c39 = c38 .before in
-    let c42 = c39 .before .before .before in
-    let c44 = c42 .before .before in
-    let c45 = c44 .before in
-    let c68 = c45 .before .before .before .before .before .before .before .before .before .before .before .before .before .before
-    .before .before .before .before .before .before .before .before .before in
-    let j = judged-at c42 in
-    let l = ledger-at c38 in
-    let x = c38 .entry-of .ensures in
-    let w = c21 .write-row .ensures in
-    let e = stored-lent (lent (c68 .args .supply) (c68 .args .accounts .now) (c68 .args .counts .now) (c68 .args .balances .now)
-    (c68 .args .numbers .now) (c68 .args .amounts .now) (c68 .args .senders .now) (c68 .args .receivers .now) (c68 .args .kinds
-    .now) (c68 .args .ledgers .now) (c68 .args .verdicts .now)) (c44 .judge-bytes .result .read) (c39 .index .result) (c38
-    .entry-of .result) refl (c35 .move-balances .ensures) (w .0) (w .1) (w .2) (w .3) (w .4) (w .5) (w .6) in
-    let p = step-passed _ (ready-at c45) _ _ j _ _ l x in
-    let a = ready-stored _ (ready-at c45) _ _ j _ _ l x in
-    (p .0, (e ∙ p .1, ready-same e (c31 .move-figures .ensures) (c4 .add .ensures .0) (c4 .add .ensures .1) a))
+    let c42 = c38 .before .before .before .before in
+    let c45 = c42 .before .before .before in
+    step-stored _ (ready-at c45) _ _ (judged-at c42) _ _ (ledger-at c38) (c38 .entry-of .ensures) (c35 .move-balances .ensures)
+    (c21 .write-row .ensures) (c31 .move-figures .ensures) (c4 .add .ensures)
 
 pub step-spec : {M : Type 1} → statement M
 step-spec =

@@ -61,4 +61,6 @@ returns : tie.Need-returns
 returns c = search needs
 
 pub write-row-spec : {M : Type 1} → statement M
-write-row-spec = tie.close (tie.spec mul-numbers slice-write-numbers mul-amounts slice-write-amounts mul-senders slice-write-senders mul-receivers slice-write-receivers slice-write-kinds slice-write-ledgers slice-write-verdicts same-length same-length-2 same-length-3 same-length-4 same-length-5 same-length-6 same-length-7 returns)
+write-row-spec = tie.close (tie.spec mul-numbers slice-write-numbers mul-amounts slice-write-amounts mul-senders
+    slice-write-senders mul-receivers slice-write-receivers slice-write-kinds slice-write-ledgers slice-write-verdicts same-length
+    same-length-2 same-length-3 same-length-4 same-length-5 same-length-6 same-length-7 returns)

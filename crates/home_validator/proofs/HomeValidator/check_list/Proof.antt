@@ -2,7 +2,8 @@
 use Prim.Native.Nat.{_-_, _≤_, ℕ}
 use mathlib.Core.Bool.{true}
 use mathlib.Core.List.{List}
-use mathlib.Core.Path.{_∙_, _≡_, ap, sym}
+use mathlib.Core.Path.{_∙_, _≡_, ap, refl, sym}
+use native.Mathlib.Nat.{le-of-lt}
 use native.Mathlib.Omega.{arith}
 use lib.ListN.{drop, length, take}
 use borrow.Author.Needs.{needs}
@@ -31,27 +32,43 @@ Inv-loop bytes self₀ heads₀ nexts₀ before at₀ i₀ self heads nexts at i
 abbrev μ-loop : tie.MeasureT-loop
 μ-loop bytes self₀ heads₀ nexts₀ before at₀ i₀ self heads nexts at i = length bytes - at
 
+-- the columns of the state that came are as long as the ledger needs
+sized-at : (c : tie.Start Inv-loop μ-loop) → HomeSized (homeTablesOf (c .args .t1))
+sized-at c =
+    record {
+      balances-are = search needs;
+      kinds-are = search needs;
+      ledgers-are = search needs;
+      senders-are = search needs;
+      receivers-are = search needs;
+      numbers-are = search needs;
+      amounts-are = search needs;
+      verdicts-are = search needs;
+    }
+
 slice-aggregate-is-accepted : tie.Need-slice-aggregate-is-accepted Inv-loop μ-loop
-slice-aggregate-is-accepted c = search needs
+slice-aggregate-is-accepted c = refl
 
 slice-aggregate-is-accepted-2 : tie.Need-slice-aggregate-is-accepted-2 Inv-loop μ-loop
-slice-aggregate-is-accepted-2 c = search needs
+slice-aggregate-is-accepted-2 c = refl
 
 is-accepted-requires : tie.Need-is-accepted-requires Inv-loop μ-loop
-is-accepted-requires c κs = (
-  search needs,
-  search needs,
-  search needs,
-  search needs,
-  search needs,
-  search needs,
-  search needs,
-  search needs,
-  search needs,
-  search needs,
-  index-empty (c .before .before .before .before .before .before .before .before .before .before .before .before .before .before
-      .before .before .before .before .before .before .args .t1 .numbers),
-)
+is-accepted-requires c κs =
+    let s = c .before .before .before .before .before .before .before .before .before .before .before .before .before .before
+    .before .before .before .before .before .before in
+    let z = sized-at s in (
+      z .balances-are,
+      z .kinds-are,
+      z .ledgers-are,
+      z .senders-are,
+      z .receivers-are,
+      z .numbers-are,
+      z .amounts-are,
+      z .verdicts-are,
+      search needs,
+      search needs,
+      index-empty (s .args .t1 .numbers),
+    )
 
 -- the state that came
 abbrev stateAt : tie.After-is-accepted Inv-loop μ-loop → HomeValidator
@@ -65,23 +82,12 @@ bytesAt c =
     c .before .before .before .before .before .before .before .before .before .before .before .before .before .before .before
     .before .before .before .before .before .before .args .bytes .now
 
--- its columns are as long as the ledger needs
-sized-at : (c : tie.After-is-accepted Inv-loop μ-loop) → HomeSized (homeTablesOf (stateAt c))
-sized-at c =
-    record {
-      balances-are = search needs;
-      kinds-are = search needs;
-      ledgers-are = search needs;
-      senders-are = search needs;
-      receivers-are = search needs;
-      numbers-are = search needs;
-      amounts-are = search needs;
-      verdicts-are = search needs;
-    }
-
 -- it is accepted where the call says so
 accepts-at : (c : tie.After-is-accepted Inv-loop μ-loop) → acceptsHome (homeTablesOf (stateAt c)) ≡ c .is-accepted .result
-accepts-at c = sym (accepts-home-is (homeTablesOf (stateAt c)) (sized-at c)) ∙ sym (c .is-accepted .ensures .0)
+accepts-at c =
+    let z = sized-at (c .before .before .before .before .before .before .before .before .before .before .before .before .before
+    .before .before .before .before .before .before .before .before) in
+    sym (accepts-home-is (homeTablesOf (stateAt c)) z) ∙ sym (c .is-accepted .ensures .0)
 
 returns : tie.Need-returns Inv-loop μ-loop
 returns c =
@@ -94,13 +100,14 @@ loop-holds c =
     let a = c .before .before .before in
     let t : a .is-accepted .result ≡ true = not-false _ (c .if1 .left) in (
       omega arith,
-      home-sound-of (homeTablesOf (stateAt a)) (sized-at a) (accepts-at a ∙ t),
+      home-sound-of (homeTablesOf (stateAt a)) (sized-at (a .before .before .before .before .before .before .before .before .before
+          .before .before .before .before .before .before .before .before .before .before .before .before)) (accepts-at a ∙ t),
       record { heads-are = search needs; nexts-are = search needs; index = a .is-accepted .ensures .1 t },
       parts-start homeChecker (stateAt a) (bytesAt a) (accepts-at a ∙ t),
     )
 
 part-end-requires : tie.Need-part-end-requires Inv-loop μ-loop
-part-end-requires c κs = search needs
+part-end-requires c κs = le-of-lt (c .loop-test .taken)
 
 -- where the record that is taken ends
 shorter-at : (c : tie.After-part-end Inv-loop μ-loop)
@@ -110,10 +117,10 @@ shorter-at c =
     .before))) (omega arith) (c .before .loop-test .taken))
 
 slice-aggregate-judge-bytes : tie.Need-slice-aggregate-judge-bytes Inv-loop μ-loop
-slice-aggregate-judge-bytes c = search needs
+slice-aggregate-judge-bytes c = sym (c .before .before .before .before .before .before .before .before .loop .inv .2 .heads-are)
 
 slice-aggregate-judge-bytes-2 : tie.Need-slice-aggregate-judge-bytes-2 Inv-loop μ-loop
-slice-aggregate-judge-bytes-2 c = search needs
+slice-aggregate-judge-bytes-2 c = sym (c .before .before .before .before .before .before .before .before .before .loop .inv .2 .nexts-are)
 
 sub-judge-bytes : tie.Need-sub-judge-bytes Inv-loop μ-loop
 sub-judge-bytes c = omega (arith, shorter-at (c .before .before .before .before .before .before .before) .starts)

@@ -1,13 +1,15 @@
 -- `pair_validator::PairValidator::check_list` meets its contract. Assumes nothing.
 use Prim.Native.Nat.{_-_, _≤_}
 use mathlib.Core.Bool.{true}
-use mathlib.Core.Path.{_∙_, _≡_, ap, sym}
+use mathlib.Core.Path.{_∙_, _≡_, ap, refl, sym}
 use native.Mathlib.Omega.{arith}
+use lib.Dec.{lit<}
 use lib.ListN.{drop, getD, length, take}
-use borrow.Author.Needs.{needs}
+use borrow.Author.Needs.{needs, scaled-fits}
 use borrow.Author.Tests.{not-false, not-true}
 use Rattle.inputs.proofs.Parts.{Shorter, call-unaccepted, parts, parts-less, parts-start, turn-end}
 use Rattle.ledgers.specs.Ledgers.{ledgerByte}
+use Rattle.ledgers.specs.Limits.{accountLimit, capacity}
 use Rattle.number_index.specs.Index.{chainCount}
 use Rattle.pair_laws.proofs.Accept.{accepts-is}
 use Rattle.pair_tables.proofs.Indexes.{indexes-of-none}
@@ -15,7 +17,7 @@ use Rattle.pair_tables.proofs.Judging.{within-both}
 use Rattle.pair_laws.proofs.Passing.{Sound, sound-of}
 use Rattle.pair_tables.specs.Judging.{Indexes}
 use Rattle.pair_tables.specs.Tables.{Sized, accepts}
-use Rattle.pair_validator.proofs.Stepping.{Judged, Writes, fits-of, judged-of, stored-indexes, stored-sound, turn-stops, turn-stored}
+use Rattle.pair_validator.proofs.Stepping.{Judged, Writes, fits-of, indexes-stored, judged-of, stored-sound, turn-stops, turn-stored}
 use Rattle.pair_validator.proofs.Stepping.{writes-of}
 use Rattle.pair_validator.specs.State.{pairChecker, tablesOf}
 use Rattle.pair_validator.specs.declared.PairValidator.{PairValidator}
@@ -34,31 +36,8 @@ Inv-loop bytes self₀ heads₀ nexts₀ before at₀ i₀ self heads nexts at i
 abbrev μ-loop : tie.MeasureT-loop
 μ-loop bytes self₀ heads₀ nexts₀ before at₀ i₀ self heads nexts at i = length bytes - at
 
-slice-aggregate-is-accepted : tie.Need-slice-aggregate-is-accepted Inv-loop μ-loop
-slice-aggregate-is-accepted c = search needs
-
-slice-aggregate-is-accepted-2 : tie.Need-slice-aggregate-is-accepted-2 Inv-loop μ-loop
-slice-aggregate-is-accepted-2 c = search needs
-
-is-accepted-requires : tie.Need-is-accepted-requires Inv-loop μ-loop
-is-accepted-requires c κs = (
-  search needs,
-  search needs,
-  search needs,
-  search needs,
-  search needs,
-  search needs,
-  search needs,
-  search needs,
-  search needs,
-  search needs,
-  indexes-of-none _,
-)
-
 -- the lengths of the state's arrays
-sized-at : (c : tie.After-is-accepted Inv-loop μ-loop) → Sized (tablesOf (c .before .before .before .before .before .before .before
-    .before .before .before .before .before .before .before .before .before .before .before .before .before .before .before .before
-    .before .before .args .t1))
+sized-at : (c : tie.Start Inv-loop μ-loop) → Sized (tablesOf (c .args .t1))
 sized-at c =
     record {
       accounts-are = search needs;
@@ -73,12 +52,35 @@ sized-at c =
       verdicts-are = search needs;
     }
 
+slice-aggregate-is-accepted : tie.Need-slice-aggregate-is-accepted Inv-loop μ-loop
+slice-aggregate-is-accepted c = refl
+
+slice-aggregate-is-accepted-2 : tie.Need-slice-aggregate-is-accepted-2 Inv-loop μ-loop
+slice-aggregate-is-accepted-2 c = refl
+
+is-accepted-requires : tie.Need-is-accepted-requires Inv-loop μ-loop
+is-accepted-requires c κs =
+    let z = sized-at (c .before .before .before .before .before .before .before .before .before .before .before .before .before
+    .before .before .before .before .before .before .before .before .before .before .before) in (
+      z .accounts-are,
+      z .counts-are,
+      z .balances-are,
+      z .kinds-are,
+      z .ledgers-are,
+      z .senders-are,
+      z .receivers-are,
+      z .numbers-are,
+      z .amounts-are,
+      z .verdicts-are,
+      indexes-of-none _,
+    )
+
 returns : tie.Need-returns Inv-loop μ-loop
 returns c =
     let c28 = c .before .before .before .before .before .before .before .before .before .before .before .before .before .before
     .before .before .before .before .before .before .before .before .before .before .before .before .before .before in
     let s = c28 .args .t1 in
-    let z = sized-at (c .before .before .before) in
+    let z = sized-at c28 in
     let u = call-unaccepted pairChecker s (list (c28 .args .bytes .now))
     (sym (accepts-is (tablesOf s) z) ∙ sym (c .before .before .before .is-accepted .ensures .0) ∙ not-true _ (c .if1 .taken)) in
     (ap (λ (x : Result PairValidator). x .answer) (sym u), ap (λ (x : Result PairValidator). x .state) (sym u))
@@ -88,7 +90,7 @@ loop-holds c =
     let c28 = c .before .before .before .before .before .before .before .before .before .before .before .before .before .before
     .before .before .before .before .before .before .before .before .before .before .before .before .before .before in
     let s = c28 .args .t1 in
-    let z = sized-at (c .before .before .before) in
+    let z = sized-at c28 in
     let t = not-false _ (c .if1 .left) in
     let a : accepts (tablesOf s) ≡ true = sym (accepts-is (tablesOf s) z) ∙ sym (c .before .before .before .is-accepted .ensures
     .0) ∙ t in (
@@ -100,7 +102,7 @@ loop-holds c =
     )
 
 part-end-requires : tie.Need-part-end-requires Inv-loop μ-loop
-part-end-requires c κs = search needs
+part-end-requires c κs = c .before .loop .inv .0
 
 -- the record ends within the bytes
 shorter-at : (c : tie.After-part-end Inv-loop μ-loop) → Shorter (c .before .before .loop .at) (length (c .before .before .before
@@ -110,10 +112,12 @@ shorter-at : (c : tie.After-part-end Inv-loop μ-loop) → Shorter (c .before .b
 shorter-at c = rw (c .part-end .ensures) (parts-less 32 _ _ (omega arith) (c .before .loop-test .taken))
 
 slice-aggregate-judge-bytes : tie.Need-slice-aggregate-judge-bytes Inv-loop μ-loop
-slice-aggregate-judge-bytes c = search needs
+slice-aggregate-judge-bytes c = sym (c .before .before .before .before .before .before .before .before .before .before .before
+    .before .before .before .before .before .before .before .before .before .loop .inv .3 .heads-are)
 
 slice-aggregate-judge-bytes-2 : tie.Need-slice-aggregate-judge-bytes-2 Inv-loop μ-loop
-slice-aggregate-judge-bytes-2 c = search needs
+slice-aggregate-judge-bytes-2 c = sym (c .before .before .before .before .before .before .before .before .before .before .before
+    .before .before .before .before .before .before .before .before .before .before .loop .inv .3 .nexts-are)
 
 sub-judge-bytes : tie.Need-sub-judge-bytes Inv-loop μ-loop
 sub-judge-bytes c =
@@ -180,7 +184,7 @@ index-requires : tie.Need-index-requires Inv-loop μ-loop
 index-requires c κs = search needs
 
 mul-entry-of : tie.Need-mul-entry-of Inv-loop μ-loop
-mul-entry-of c = search needs
+mul-entry-of c = scaled-fits (c .index .result) 2 accountLimit (c .index .ensures .1) (lit< tt)
 
 entry-of-requires : tie.Need-entry-of-requires Inv-loop μ-loop
 entry-of-requires c κs = search needs
@@ -293,10 +297,12 @@ slice-aggregate-add-2 c =
     sym (c36 .loop .inv .3 .nexts-are)
 
 mul-add : tie.Need-mul-add Inv-loop μ-loop
-mul-add c = search needs
+mul-add c = let c8 = c .before .before .before .before .before .before .before .before in
+    scaled-fits (c8 .index .result) 2 chainCount (c8 .index .ensures .1) (lit< tt)
 
 mul-add-2 : tie.Need-mul-add-2 Inv-loop μ-loop
-mul-add-2 c = search needs
+mul-add-2 c = let c8 = c .before .before .before .before .before .before .before .before in
+    scaled-fits (c8 .index .result) 2 capacity (c8 .index .ensures .1) (lit< tt)
 
 add-requires : tie.Need-add-requires Inv-loop μ-loop
 add-requires c κs =
@@ -348,9 +354,7 @@ loop-again c =
       w .ends,
       omega (arith, w .starts, c39 .loop .inv .1),
       stored-sound s _ _ j _ _ l (c10 .entry-of .ensures),
-      rw (c .before .before .add .ensures .0, c .before .before .add .ensures .1)
-          (stored-indexes s _ _ (v .ledger) (z .sized .counts-are) (z .sized .numbers-are) (v .count-fits) (z .bounds .home-room)
-          (c39 .loop .inv .3)),
+      indexes-stored s _ _ z (v .ledger) (v .count-fits) (c39 .loop .inv .3) _ _ (c .before .before .add .ensures),
       c39 .loop .inv .4
           ∙ turn-stored (c68 .args .t1) s z (c39 .loop .i) (c39 .loop .at) (c68 .args .bytes .now) (c37 .part-end .result) (c37
           .part-end .ensures) (c38 .loop-test .taken)
