@@ -34,6 +34,10 @@ figures-text s a = rw (a .figures-are)
 pub three-figures : (s : PairValidator) {f h n : List ℕ} → Ready s f h n → length f ≡ 3
 three-figures s a = ap length (a .figures-are)
 
+-- the place of one of them
+pub figure-in : (i : ℕ) (f : List ℕ) → length f ≡ 3 → i < 3 → i < length f
+figure-in i f e h = rw e h
+
 -- ## The loop
 
 -- a record of a block has 32 bytes
@@ -41,9 +45,17 @@ pub part-long : (b : List ℕ) (i : ℕ) → length b ≡ 512 → i < 14 → len
 unfolding recordPart
 part-long b i l h = omega (arith, length-take 32 (drop (32 + 32 * i) b), length-drop (32 + 32 * i) b)
 
+-- so has a list that equals it
+pub part-read : (b : List ℕ) (i : ℕ) (x : List ℕ) → x ≡ recordPart b i → length b ≡ 512 → i < 14 → length x ≡ 32
+part-read b i x e l h = rw e (part-long b i l h)
+
 -- the first bytes of a list are no more than asked for
 pub take-most : (n : ℕ) (xs : List ℕ) → n ≤ 64 → length (take n xs) ≤ 64
 take-most n xs h = omega (arith, length-take n xs)
+
+-- a text of 64 bytes has room for what is no more
+pub text-room : (n : ℕ) (xs : List ℕ) → n ≤ 64 → length xs ≡ 64 → n ≤ length xs
+text-room n xs h e = rw e h
 
 -- after i records of a block: the text, the state, what goes with it, and the text of its figures
 pub record Listed (block : List ℕ) (first o : ℕ) (d : List ℕ) (start : PairValidator) (i : ℕ) (e : List ℕ) (p : ℕ) (s : PairValidator)

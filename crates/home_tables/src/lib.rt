@@ -15,10 +15,10 @@ use entries::is_receiving;
 use entries::refused;
 use ledgers::Ledger;
 use number_index::is_used;
+use record_refusals::first_refusals;
+use record_refusals::funds_refusal;
 use records::Reading;
 use records::Record;
-use tables::first_refusals;
-use tables::funds_refusal;
 
 // ## Judging a record
 

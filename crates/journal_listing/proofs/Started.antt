@@ -1,9 +1,11 @@
 -- The columns after an accepted opening, and small laws of the program's loop. Assumes nothing.
 use Prim.Native.Nat.{_*_, _≤_, ℕ}
+use mathlib.Core.Bool.{true}
 use mathlib.Core.List.{List, [], _∷_}
 use mathlib.Core.Path.{_∙_, _≡_, ap, refl, subst, sym}
 use native.Mathlib.Omega.{arith}
-use lib.ListN.{length, length-take, replicate, take}
+use lib.ListN.{length, length-replicate, length-take, replicate, take}
+use Rattle.block_listing.specs.Runs.{Bounded}
 use Rattle.block_format.specs.Blocks.{balancesOf}
 use Rattle.ledgers.specs.Limits.{capacity}
 use Rattle.number_index.specs.Index.{chainCount}
@@ -21,6 +23,22 @@ use Rattle.rules.specs.Rules.{flight, inFlight, opened}
 -- the first bytes are no more than there are
 pub take-within : (n : ℕ) (xs : List ℕ) (m : ℕ) → length xs ≤ m → length (take n xs) ≤ m
 take-within n xs m h = omega (arith, length-take n xs)
+
+-- n zeros have room for what is no more than n
+pub room-in : (n m : ℕ) → m ≤ n → m ≤ length (replicate {A = ℕ} n 0)
+room-in n m h = rw (length-replicate {A = ℕ} n 0) h
+
+-- a list that is as long as n zeros
+pub long-as : (n : ℕ) (xs : List ℕ) → length xs ≡ length (replicate {A = ℕ} n 0) → length xs ≡ n
+long-as n xs q = q ∙ length-replicate {A = ℕ} n 0
+
+-- what fits in part of a list fits in it
+pub room-kept : (n m e : ℕ) (xs : List ℕ) → length xs ≡ n → e ≤ m → m ≤ n → e ≤ length xs
+room-kept n m e xs q h k = omega (arith, q)
+
+-- the run that begins after an opening is in bounds
+pub first-bounded : (b : ℕ) → Bounded (record { index = 0; block = 2; before = b; end = 0; going = true })
+first-bounded b = record { records = omega arith; block-fits = omega arith; index-fits = omega arith }
 
 -- at an opening nothing is in flight
 none-in-flight : (homes fars : List ℕ) → inFlight (opened homes fars) ≡ 0

@@ -17,10 +17,10 @@ use ledgers::Ledger;
 use number_index::CHAINS;
 use number_index::is_sent;
 use number_index::is_used;
+use record_refusals::first_refusals;
+use record_refusals::funds_refusal;
 use records::Reading;
 use records::Record;
-use tables::first_refusals;
-use tables::funds_refusal;
 
 // The heads of both ledgers' indexes.
 pub const HEADS: usize = 2 * CHAINS;

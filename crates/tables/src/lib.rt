@@ -1,17 +1,11 @@
-// Tables of held records in columns of numbers, lent as slices: what a record is judged by. A ledger's records stand at n places from
-// a place `from` on; each function says in its `requires` that these lie within the columns.
+// Tables of held records in columns of numbers, lent as slices: whether they hold a number or a sending. A ledger's records stand at n
+// places from a place `from` on; each function says in its `requires` that these lie within the columns.
 ghost use Prim.Native.Nat.{_+_, _<_, _≤_};
 ghost use mathlib.Core.Path.{_≡_};
 ghost use lib.ListN.{length};
 ghost use Rattle.tables.specs.Places.{anyAt};
-ghost use Rattle.tables.specs.Columns.{usedAt, sendsAt, balanceAt, firstBy, fundsAt};
-use answers::first_refusal;
-use answers::refusal_if;
-use entries::as_index;
+ghost use Rattle.tables.specs.Columns.{usedAt, sendsAt};
 use ledgers::Kind;
-use records::Record;
-
-// ## Judging a record
 
 // Whether one of the places has the number.
 pub fn used(numbers: &[u64], from: usize, n: usize, x: u64) -> bool
@@ -28,43 +22,6 @@ pub fn used(numbers: &[u64], from: usize, n: usize, x: u64) -> bool
         i += 1;
     }
     found
-}
-
-// 22 by the accounts of the sender's and the receiver's ledger, 23, 24 where the number is used, then the later refusals, or 0.
-pub fn first_refusals(senders: usize, receivers: usize, r: Record, is_used: bool, later: u32) -> u32
-    ensures { λ k. ⌜ k ≡ firstBy senders receivers r «is_used» later ⌝ }
-{
-    let sender = refusal_if(senders <= as_index(r.sender), 22);
-    let receiver = refusal_if(receivers <= as_index(r.receiver), 22);
-    let signature = refusal_if(!r.verified, 23);
-    let number = refusal_if(is_used, 24);
-    first_refusal(
-        sender,
-        first_refusal(
-            receiver, // before 23
-            first_refusal(signature, first_refusal(number, later)),
-        ),
-    )
-}
-
-// The balance of an account, or 0 where there is no such account.
-pub fn balance_at(balances: &[u64], from: usize, n: usize, i: u16) -> u64
-    requires { ⌜ from + n ≤ length (now balances) ⌝ }
-    ensures { λ b. ⌜ b ≡ balanceAt (now (balances .entry)) from n i ⌝ }
-{
-    let account = as_index(i);
-    if account < n {
-        return balances[from + account];
-    }
-    0
-}
-
-// 25, or 0.
-pub fn funds_refusal(balances: &[u64], from: usize, n: usize, r: Record) -> u32
-    requires { ⌜ from + n ≤ length (now balances) ⌝ }
-    ensures { λ k. ⌜ k ≡ fundsAt (now (balances .entry)) from n r ⌝ }
-{
-    refusal_if(balance_at(balances, from, n, r.sender) < r.amount, 25)
 }
 
 // Whether place i has the sending of a number, sender, receiver and amount.

@@ -6,10 +6,9 @@ use native.Mathlib.Omega.{arith}
 use borrow.Author.Needs.{needs}
 use Rattle.answers.proofs.Answers.{passed-zero}
 use Rattle.block_listing.proofs.Blocks.{Continued, block-stopped, continued}
-use Rattle.block_listing.proofs.Records.{three-figures}
 use Rattle.lines.proofs.Puts.{fault-short}
 use Rattle.lines.specs.Lines.{Put}
-use Rattle.pair_steps.specs.Steps.{Ready, lent}
+use Rattle.pair_steps.specs.Steps.{lent}
 use Rattle.block_listing.proofs.list_block.Statement.{statement}
 use Rattle.block_listing.proofs.list_block.Tie as tie
 
@@ -73,32 +72,6 @@ returns c =
 stated-count-requires : tie.Need-stated-count-requires
 stated-count-requires c κs = search needs
 
--- the state is ready
-ready-in : (c : tie.After-stated-count) → Ready (lent (c .before .before .before .before .before .before .before .before .before
-    .before .before .before .before .before .before .before .before .before .before .args .supply) (c .before .before .before
-    .before .before .before .before .before .before .before .before .before .before .before .before .before .before .before .before
-    .args .accounts .now) (c .before .before .before .before .before .before .before .before .before .before .before .before
-    .before .before .before .before .before .before .before .args .counts .now) (c .before .before .before .before .before .before
-    .before .before .before .before .before .before .before .before .before .before .before .before .before .args .balances .now)
-    (c .before .before .before .before .before .before .before .before .before .before .before .before .before .before .before
-    .before .before .before .before .args .numbers .now) (c .before .before .before .before .before .before .before .before .before
-    .before .before .before .before .before .before .before .before .before .before .args .amounts .now) (c .before .before .before
-    .before .before .before .before .before .before .before .before .before .before .before .before .before .before .before .before
-    .args .senders .now) (c .before .before .before .before .before .before .before .before .before .before .before .before .before
-    .before .before .before .before .before .before .args .receivers .now) (c .before .before .before .before .before .before
-    .before .before .before .before .before .before .before .before .before .before .before .before .before .args .kinds .now) (c
-    .before .before .before .before .before .before .before .before .before .before .before .before .before .before .before .before
-    .before .before .before .args .ledgers .now) (c .before .before .before .before .before .before .before .before .before .before
-    .before .before .before .before .before .before .before .before .before .args .verdicts .now)) (c .before .before .before
-    .before .before .before .before .before .before .before .before .before .before .before .before .before .before .before .before
-    .args .figures .now) (c .before .before .before .before .before .before .before .before .before .before .before .before .before
-    .before .before .before .before .before .before .args .heads .now) (c .before .before .before .before .before .before .before
-    .before .before .before .before .before .before .before .before .before .before .before .before .args .nexts .now)
-ready-in c =
-    let c19 = c .before .before .before .before .before .before .before .before .before .before .before .before .before .before
-    .before .before .before .before .before in
-    c19 .pre .3
-
 -- the block is right
 continued-at : (c : tie.After-stated-count) → Continued (c .before .before .before .before .before .before .before .before .before
     .before .before .before .before .before .before .before .before .before .before .args .run) (lent (c .before .before .before
@@ -155,87 +128,75 @@ same-length-2 c =
 
 same-length-3 : tie.Need-same-length-3
 same-length-3 c =
-    let c28 = c .before .before .before .before .before .before .before .before .before .before .before .before .before .before
-    .before .before .before .before .before .before .before .before .before .before .before .before .before .before in
-    let c42 = c28 .before .before .before .before .before .before .before .before .before .before .before .before .before .before in
-    three-figures _ (c28 .list-records .ensures .1 .1 .0) ∙ sym (three-figures _ (ready-in c42))
+    c .before .before .before .before .before .before .before .before .before .before .before .before .before .before .before
+    .before .before .before .before .before .before .before .before .before .before .before .before .before .list-records .kept .1
+    .1 .1 .1 .1 .1 .1 .0
 
 same-length-4 : tie.Need-same-length-4
 same-length-4 c =
-    let c28 = c .before .before .before .before .before .before .before .before .before .before .before .before .before .before
-    .before .before .before .before .before .before .before .before .before .before .before .before .before .before in
-    let c42 = c28 .before .before .before .before .before .before .before .before .before .before .before .before .before .before in
-    (c28 .list-records .ensures .1 .1 .0) .sized .counts-are ∙ sym (ready-in c42 .sized .counts-are)
+    c .before .before .before .before .before .before .before .before .before .before .before .before .before .before .before
+    .before .before .before .before .before .before .before .before .before .before .before .before .before .list-records .kept .1
+    .1 .1 .1 .1 .1 .1 .1 .1 .0
 
 same-length-5 : tie.Need-same-length-5
 same-length-5 c =
-    let c28 = c .before .before .before .before .before .before .before .before .before .before .before .before .before .before
-    .before .before .before .before .before .before .before .before .before .before .before .before .before .before in
-    let c42 = c28 .before .before .before .before .before .before .before .before .before .before .before .before .before .before in
-    (c28 .list-records .ensures .1 .1 .0) .sized .balances-are ∙ sym (ready-in c42 .sized .balances-are)
+    c .before .before .before .before .before .before .before .before .before .before .before .before .before .before .before
+    .before .before .before .before .before .before .before .before .before .before .before .before .before .list-records .kept .1
+    .1 .1 .1 .1 .1 .1 .1 .1 .1 .0
 
 same-length-6 : tie.Need-same-length-6
 same-length-6 c =
-    let c28 = c .before .before .before .before .before .before .before .before .before .before .before .before .before .before
-    .before .before .before .before .before .before .before .before .before .before .before .before .before .before in
-    let c42 = c28 .before .before .before .before .before .before .before .before .before .before .before .before .before .before in
-    (c28 .list-records .ensures .1 .1 .0) .sized .numbers-are ∙ sym (ready-in c42 .sized .numbers-are)
+    c .before .before .before .before .before .before .before .before .before .before .before .before .before .before .before
+    .before .before .before .before .before .before .before .before .before .before .before .before .before .list-records .kept .1
+    .1 .1 .1 .1 .1 .1 .1 .1 .1 .1 .0
 
 same-length-7 : tie.Need-same-length-7
 same-length-7 c =
-    let c28 = c .before .before .before .before .before .before .before .before .before .before .before .before .before .before
-    .before .before .before .before .before .before .before .before .before .before .before .before .before .before in
-    let c42 = c28 .before .before .before .before .before .before .before .before .before .before .before .before .before .before in
-    (c28 .list-records .ensures .1 .1 .0) .sized .amounts-are ∙ sym (ready-in c42 .sized .amounts-are)
+    c .before .before .before .before .before .before .before .before .before .before .before .before .before .before .before
+    .before .before .before .before .before .before .before .before .before .before .before .before .before .list-records .kept .1
+    .1 .1 .1 .1 .1 .1 .1 .1 .1 .1 .1 .0
 
 same-length-8 : tie.Need-same-length-8
 same-length-8 c =
-    let c28 = c .before .before .before .before .before .before .before .before .before .before .before .before .before .before
-    .before .before .before .before .before .before .before .before .before .before .before .before .before .before in
-    let c42 = c28 .before .before .before .before .before .before .before .before .before .before .before .before .before .before in
-    (c28 .list-records .ensures .1 .1 .0) .sized .senders-are ∙ sym (ready-in c42 .sized .senders-are)
+    c .before .before .before .before .before .before .before .before .before .before .before .before .before .before .before
+    .before .before .before .before .before .before .before .before .before .before .before .before .before .list-records .kept .1
+    .1 .1 .1 .1 .1 .1 .1 .1 .1 .1 .1 .1 .0
 
 same-length-9 : tie.Need-same-length-9
 same-length-9 c =
-    let c28 = c .before .before .before .before .before .before .before .before .before .before .before .before .before .before
-    .before .before .before .before .before .before .before .before .before .before .before .before .before .before in
-    let c42 = c28 .before .before .before .before .before .before .before .before .before .before .before .before .before .before in
-    (c28 .list-records .ensures .1 .1 .0) .sized .receivers-are ∙ sym (ready-in c42 .sized .receivers-are)
+    c .before .before .before .before .before .before .before .before .before .before .before .before .before .before .before
+    .before .before .before .before .before .before .before .before .before .before .before .before .before .list-records .kept .1
+    .1 .1 .1 .1 .1 .1 .1 .1 .1 .1 .1 .1 .1 .0
 
 same-length-10 : tie.Need-same-length-10
 same-length-10 c =
-    let c28 = c .before .before .before .before .before .before .before .before .before .before .before .before .before .before
-    .before .before .before .before .before .before .before .before .before .before .before .before .before .before in
-    let c42 = c28 .before .before .before .before .before .before .before .before .before .before .before .before .before .before in
-    (c28 .list-records .ensures .1 .1 .0) .sized .kinds-are ∙ sym (ready-in c42 .sized .kinds-are)
+    c .before .before .before .before .before .before .before .before .before .before .before .before .before .before .before
+    .before .before .before .before .before .before .before .before .before .before .before .before .before .list-records .kept .1
+    .1 .1 .1 .1 .1 .1 .1 .1 .1 .1 .1 .1 .1 .1 .0
 
 same-length-11 : tie.Need-same-length-11
 same-length-11 c =
-    let c28 = c .before .before .before .before .before .before .before .before .before .before .before .before .before .before
-    .before .before .before .before .before .before .before .before .before .before .before .before .before .before in
-    let c42 = c28 .before .before .before .before .before .before .before .before .before .before .before .before .before .before in
-    (c28 .list-records .ensures .1 .1 .0) .sized .ledgers-are ∙ sym (ready-in c42 .sized .ledgers-are)
+    c .before .before .before .before .before .before .before .before .before .before .before .before .before .before .before
+    .before .before .before .before .before .before .before .before .before .before .before .before .before .list-records .kept .1
+    .1 .1 .1 .1 .1 .1 .1 .1 .1 .1 .1 .1 .1 .1 .1 .0
 
 same-length-12 : tie.Need-same-length-12
 same-length-12 c =
-    let c28 = c .before .before .before .before .before .before .before .before .before .before .before .before .before .before
-    .before .before .before .before .before .before .before .before .before .before .before .before .before .before in
-    let c42 = c28 .before .before .before .before .before .before .before .before .before .before .before .before .before .before in
-    (c28 .list-records .ensures .1 .1 .0) .sized .verdicts-are ∙ sym (ready-in c42 .sized .verdicts-are)
+    c .before .before .before .before .before .before .before .before .before .before .before .before .before .before .before
+    .before .before .before .before .before .before .before .before .before .before .before .before .before .list-records .kept .1
+    .1 .1 .1 .1 .1 .1 .1 .1 .1 .1 .1 .1 .1 .1 .1 .1 .0
 
 same-length-13 : tie.Need-same-length-13
 same-length-13 c =
-    let c28 = c .before .before .before .before .before .before .before .before .before .before .before .before .before .before
-    .before .before .before .before .before .before .before .before .before .before .before .before .before .before in
-    let c42 = c28 .before .before .before .before .before .before .before .before .before .before .before .before .before .before in
-    (c28 .list-records .ensures .1 .1 .0) .indexes .heads-are ∙ sym (ready-in c42 .indexes .heads-are)
+    c .before .before .before .before .before .before .before .before .before .before .before .before .before .before .before
+    .before .before .before .before .before .before .before .before .before .before .before .before .before .list-records .kept .1
+    .1 .1 .1 .1 .1 .1 .1 .1 .1 .1 .1 .1 .1 .1 .1 .1 .1 .0
 
 same-length-14 : tie.Need-same-length-14
 same-length-14 c =
-    let c28 = c .before .before .before .before .before .before .before .before .before .before .before .before .before .before
-    .before .before .before .before .before .before .before .before .before .before .before .before .before .before in
-    let c42 = c28 .before .before .before .before .before .before .before .before .before .before .before .before .before .before in
-    (c28 .list-records .ensures .1 .1 .0) .indexes .nexts-are ∙ sym (ready-in c42 .indexes .nexts-are)
+    c .before .before .before .before .before .before .before .before .before .before .before .before .before .before .before
+    .before .before .before .before .before .before .before .before .before .before .before .before .before .list-records .kept .1
+    .1 .1 .1 .1 .1 .1 .1 .1 .1 .1 .1 .1 .1 .1 .1 .1 .1 .1 .0
 
 returns-2 : tie.Need-returns-2
 returns-2 c =

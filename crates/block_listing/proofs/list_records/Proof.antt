@@ -1,12 +1,16 @@
 -- `block_listing::list_records` meets its contract. Assumes nothing.
 use Prim.Native.Nat.{ℕ, _≤_, _-_}
 use mathlib.Core.Path.{_≡_, _∙_, refl, subst, sym}
+use native.Mathlib.Nat.{lt-of-lt-of-le}
 use native.Mathlib.Omega.{arith}
-use lib.ListN.{getD}
+use mir.Syntax.{w64}
+use lib.Dec.{lit<}
+use lib.ListN.{getD, length}
 use lib.Seq.{length-take-le}
-use borrow.Author.Needs.{needs}
+use borrow.Author.Needs.{fits-under, needs}
 use Rattle.block_format.specs.Blocks.{recordsIn}
-use Rattle.block_listing.proofs.Records.{Listed, listed-next, listed-start, part-long, take-most, three-figures}
+use Rattle.block_listing.proofs.Records.{Listed, figure-in, listed-next, listed-start, part-read}
+use Rattle.block_listing.proofs.Records.{take-most, text-room, three-figures}
 use Rattle.lines.proofs.Puts.{figures-short}
 use Rattle.lines.specs.Lines.{Put}
 use Rattle.listing.specs.Chunks.{stateFigures}
@@ -59,17 +63,27 @@ ready-at c =
     .before .before .before in
     c17 .pre .5
 
+-- there are three figures
+three-at : (c : tie.Start Inv-loop μ-loop) → length (c .args .figures .now) ≡ 3
+three-at c = three-figures _ (c .pre .5)
+
 slice-read-put-figures : tie.Need-slice-read-put-figures Inv-loop μ-loop
 slice-read-put-figures c =
-    omega (arith, three-figures _ (ready-at (c)))
+    let s = c .before .before .before .before .before .before .before .before .before .before .before .before .before .before
+    .before .before .before in
+    figure-in 0 (s .args .figures .now) (three-at s) (lit< tt)
 
 slice-read-put-figures-2 : tie.Need-slice-read-put-figures-2 Inv-loop μ-loop
 slice-read-put-figures-2 c =
-    omega (arith, three-figures _ (ready-at (c .before)))
+    let s = c .before .before .before .before .before .before .before .before .before .before .before .before .before .before
+    .before .before .before .before in
+    figure-in 1 (s .args .figures .now) (three-at s) (lit< tt)
 
 slice-read-put-figures-3 : tie.Need-slice-read-put-figures-3 Inv-loop μ-loop
 slice-read-put-figures-3 c =
-    omega (arith, three-figures _ (ready-at (c .before .before)))
+    let s = c .before .before .before .before .before .before .before .before .before .before .before .before .before .before
+    .before .before .before .before .before in
+    figure-in 2 (s .args .figures .now) (three-at s) (lit< tt)
 
 put-figures-requires : tie.Need-put-figures-requires Inv-loop μ-loop
 put-figures-requires c κs = search needs
@@ -110,23 +124,27 @@ slice-aggregate-put-figures-if c =
     .before .before .before .before .before .before .before .before .before .before in
     sym (c40 .loop .inv .1 .text-long)
 
+-- and three after a record
+three-after : (c : tie.After-step Inv-loop μ-loop) → length (c .step .last .1 .0) ≡ 3
+three-after c = three-figures _ (c .step .ensures .1 .1)
+
 slice-read-put-figures-if : tie.Need-slice-read-put-figures-if Inv-loop μ-loop
 slice-read-put-figures-if c =
-    let c26 = c .before .before .before .before .before .before .before .before .before .before .before .before .before .before
+    let s = c .before .before .before .before .before .before .before .before .before .before .before .before .before .before
     .before .before .before .before .before .before .before .before .before .before .before .before in
-    omega (arith, three-figures _ (c26 .step .ensures .1 .1))
+    figure-in 0 (s .step .last .1 .0) (three-after s) (lit< tt)
 
 slice-read-put-figures-if-2 : tie.Need-slice-read-put-figures-if-2 Inv-loop μ-loop
 slice-read-put-figures-if-2 c =
-    let c27 = c .before .before .before .before .before .before .before .before .before .before .before .before .before .before
+    let s = c .before .before .before .before .before .before .before .before .before .before .before .before .before .before
     .before .before .before .before .before .before .before .before .before .before .before .before .before in
-    omega (arith, three-figures _ (c27 .step .ensures .1 .1))
+    figure-in 1 (s .step .last .1 .0) (three-after s) (lit< tt)
 
 slice-read-put-figures-if-3 : tie.Need-slice-read-put-figures-if-3 Inv-loop μ-loop
 slice-read-put-figures-if-3 c =
-    let c28 = c .before .before .before .before .before .before .before .before .before .before .before .before .before .before
+    let s = c .before .before .before .before .before .before .before .before .before .before .before .before .before .before
     .before .before .before .before .before .before .before .before .before .before .before .before .before .before in
-    omega (arith, three-figures _ (c28 .step .ensures .1 .1))
+    figure-in 2 (s .step .last .1 .0) (three-after s) (lit< tt)
 
 put-figures-if-requires : tie.Need-put-figures-if-requires Inv-loop μ-loop
 put-figures-if-requires c κs =
@@ -145,16 +163,19 @@ add-put-record c =
     omega (arith, c68 .pre .2, c68 .pre .1, c45 .loop-test .taken)
 
 cast-put-record : tie.Need-cast-put-record Inv-loop μ-loop
-cast-put-record c = search needs
+cast-put-record c =
+    let s = c .before .before .before .before .before .before .before .before .before .before .before .before .before .before
+    .before .before .before .before .before .before .before .before .before .before .before .before .before .before .before
+    .before .before .step in
+    fits-under w64 (s .result) 4294967296 (s .ok) tt
 
 array-share-prefix-text : tie.Need-array-share-prefix-text Inv-loop μ-loop
-array-share-prefix-text c =
-    omega (arith, c .before .before .put-figures-if .ensures .1 .1 .0)
+array-share-prefix-text c = let r = c .before .before .put-figures-if in
+    text-room (r .result) (r .last .0) (r .ensures .1 .1 .0) (r .ensures .1 .1 .1)
 
 slice-aggregate-put-record : tie.Need-slice-aggregate-put-record Inv-loop μ-loop
-slice-aggregate-put-record c =
-    let c3 = c .before .before .before in
-    sym (length-take-le _ _ (omega (arith, c3 .put-figures-if .ensures .1 .1 .0, c3 .put-figures-if .ensures .1 .1 .1)))
+slice-aggregate-put-record c = let r = c .before .before .before .put-figures-if in
+    sym (length-take-le (r .result) (r .last .0) (text-room (r .result) (r .last .0) (r .ensures .1 .1 .0) (r .ensures .1 .1 .1)))
 
 put-record-requires : tie.Need-put-record-requires Inv-loop μ-loop
 put-record-requires c κs =
@@ -169,13 +190,9 @@ put-record-requires c κs =
       omega (arith, c69 .pre .3, c69 .pre .1, c46 .loop-test .taken, c47 .loop .inv .1 .room, c47 .loop .inv .1 .puts .size),
       c69
           .pre .4,
-      rw (c45 .judged-part .ensures) (part-long (c69 .args .block .now) (c47 .loop .i) (c69 .pre .0) (omega (
-        arith,
-        c46
-            .loop-test .taken,
-        c69 .pre .1,
-      ))),
-      take-most _ _ (c3 .put-figures-if .ensures .1 .1 .0),
+      part-read (c69 .args .block .now) (c47 .loop .i) (c45 .judged-part .result .now) (c45 .judged-part .ensures) (c69 .pre .0)
+          (lt-of-lt-of-le (c46 .loop-test .taken) (c69 .pre .1)),
+      take-most (c3 .put-figures-if .result) (c3 .put-figures-if .last .0) (c3 .put-figures-if .ensures .1 .1 .0),
     )
 
 add-i : tie.Need-add-i Inv-loop μ-loop
@@ -210,14 +227,14 @@ loop-again c =
       listed-next (c72 .args .block .now) (c72 .args .first) (c72 .args .o) (c72 .args .out
           .now) (lent (c72 .args .supply) (c72 .args .accounts .now) (c72 .args .counts .now) (c72 .args .balances .now) (c72 .args
           .numbers .now) (c72 .args .amounts .now) (c72 .args .senders .now) (c72 .args .receivers .now) (c72 .args .kinds .now) (c72
-          .args .ledgers .now) (c72 .args .verdicts .now)) (c50 .loop .i) _ _ (c50 .loop .inv .1) (c48 .judged-part .ensures) (rw (c48
-          .judged-part .ensures) (part-long (c72 .args .block .now) (c50 .loop .i) (c72 .pre .0) (omega (
-            arith,
-            c49 .loop-test .taken,
-            c72 .pre .1,
-          )))) (c35 .step .ensures .0) (c35 .step .ensures .1 .0) (c35 .step .ensures .1 .1) (c6 .put-figures-if .ensures .0)
-          (c6 .put-figures-if .ensures .1 .0) (c6 .put-figures-if .ensures .1 .1 .0) (c6 .put-figures-if .ensures .1 .1 .1) (take-most _
-          _ (c6 .put-figures-if .ensures .1 .1 .0)) (c .before .before .put-record .ensures),
+          .args .ledgers .now) (c72 .args .verdicts .now)) (c50 .loop .i) (c48 .judged-part .result .now) (c35 .step .result) (c50
+          .loop .inv .1)
+          (c48 .judged-part .ensures) (part-read (c72 .args .block .now) (c50 .loop .i) (c48 .judged-part .result .now)
+          (c48 .judged-part .ensures) (c72 .pre .0) (lt-of-lt-of-le (c49 .loop-test .taken) (c72 .pre .1))) (c35 .step .ensures
+          .0) (c35 .step .ensures .1 .0) (c35 .step .ensures .1 .1) (c6 .put-figures-if .ensures .0)
+          (c6 .put-figures-if .ensures .1 .0) (c6 .put-figures-if .ensures .1 .1 .0) (c6 .put-figures-if .ensures .1 .1 .1)
+          (take-most (c6 .put-figures-if .result)
+          (c6 .put-figures-if .last .0) (c6 .put-figures-if .ensures .1 .1 .0)) (c .before .before .put-record .ensures),
     )
 
 same-length : tie.Need-same-length Inv-loop μ-loop

@@ -1,29 +1,31 @@
 -- `journal_listing::list` meets its contract. Assumes nothing.
-use Prim.Native.Nat.{ℕ, _*_}
-use mathlib.Core.Path.{_∙_, refl, sym}
-use native.Mathlib.Omega.{arith}
-use lib.ListN.{length-replicate}
+use Prim.Native.Nat.{_*_, ℕ}
+use mathlib.Core.Path.{_∙_, _≡_, refl, sym}
+use lib.Dec.{lit≤}
+use lib.ListN.{length, length-replicate}
 use lib.Seq.{length-take-le}
 use borrow.Author.Needs.{needs}
 use borrow.Author.Tests.{not-false}
-use Rattle.journal_listing.proofs.Started.{started}
+use Rattle.journal_listing.proofs.Started.{first-bounded, long-as, room-in, room-kept, started}
+use Rattle.ledgers.specs.Limits.{capacity}
+use Rattle.number_index.specs.Index.{chainCount}
 use Rattle.journal_listing.proofs.list.Statement.{statement}
 use Rattle.journal_listing.proofs.list.Tie as tie
 
 pairs-requires : tie.Need-pairs-requires
-pairs-requires c κs = search needs
+pairs-requires c κs = tt
 
 slice-aggregate-read-full : tie.Need-slice-aggregate-read-full
-slice-aggregate-read-full c = search needs
+slice-aggregate-read-full c = sym (length-replicate {A = ℕ} 512 0)
 
 read-full-requires : tie.Need-read-full-requires
-read-full-requires c κs = search needs
+read-full-requires c κs = tt
 
 slice-aggregate-read-full-2 : tie.Need-slice-aggregate-read-full-2
-slice-aggregate-read-full-2 c = search needs
+slice-aggregate-read-full-2 c = sym (length-replicate {A = ℕ} 512 0)
 
 read-full-requires-2 : tie.Need-read-full-requires-2
-read-full-requires-2 c κs = search needs
+read-full-requires-2 c κs = tt
 
 array-share-prefix-home : tie.Need-array-share-prefix-home
 array-share-prefix-home c = search needs
@@ -38,88 +40,98 @@ slice-aggregate-list-opening-2 : tie.Need-slice-aggregate-list-opening-2
 slice-aggregate-list-opening-2 c = search needs
 
 slice-aggregate-list-opening-3 : tie.Need-slice-aggregate-list-opening-3
-slice-aggregate-list-opening-3 c = search needs
+slice-aggregate-list-opening-3 c = sym (length-replicate {A = ℕ} 114688 0)
 
 slice-aggregate-list-opening-4 : tie.Need-slice-aggregate-list-opening-4
-slice-aggregate-list-opening-4 c = search needs
+slice-aggregate-list-opening-4 c = sym (length-replicate {A = ℕ} 3 0)
 
 slice-aggregate-list-opening-5 : tie.Need-slice-aggregate-list-opening-5
-slice-aggregate-list-opening-5 c = search needs
+slice-aggregate-list-opening-5 c = sym (length-replicate {A = ℕ} 2 0)
 
 slice-aggregate-list-opening-6 : tie.Need-slice-aggregate-list-opening-6
-slice-aggregate-list-opening-6 c = search needs
+slice-aggregate-list-opening-6 c = sym (length-replicate {A = ℕ} 112 0)
 
 list-opening-requires : tie.Need-list-opening-requires
 list-opening-requires c κs =
-    (omega (arith, length-replicate {A = ℕ} (64 * (14 * 128)) 0), refl, refl, refl)
+    (room-in 114688 256 (lit≤ tt), refl, refl, refl)
+
+-- the room for a chunk's lines is as long as before
+room-at : (c : tie.After-list-opening) → length (c .list-opening .last .1 .1 .0) ≡ 114688
+room-at c = long-as 114688 (c .list-opening .last .1 .1 .0) (c .list-opening .kept .1 .1 .0)
 
 array-share-prefix-out : tie.Need-array-share-prefix-out
-array-share-prefix-out c = search needs
+array-share-prefix-out c =
+    let o = c .before .before .before .before in
+    let r = o .list-opening in
+    room-kept 114688 256 (r .result .end) (r .last .1 .1 .0) (room-at o) (r .ensures .1 .1 .1) (lit≤ tt)
 
 slice-aggregate-write-all : tie.Need-slice-aggregate-write-all
 slice-aggregate-write-all c =
-    let c5 = c .before .before .before .before .before in
-    sym (length-take-le _ _ (omega (
-      arith,
-      c5 .list-opening .ensures .1 .1 .1,
-      c5 .list-opening .ensures .0 .size,
-      length-replicate
-          {A = ℕ} (64 * (14 * 128)) 0,
-    )))
+    let o = c .before .before .before .before .before in
+    let r = o .list-opening in
+    sym (length-take-le (r .result .end) (r .last .1 .1 .0)
+    (room-kept 114688 256 (r .result .end) (r .last .1 .1 .0) (room-at o) (r .ensures .1 .1 .1) (lit≤ tt)))
 
 write-all-requires : tie.Need-write-all-requires
-write-all-requires c κs = search needs
+write-all-requires c κs = tt
 
 returns : tie.Need-returns
-returns c = search needs
+returns c = tt
 
 returns-2 : tie.Need-returns-2
-returns-2 c = search needs
+returns-2 c = tt
 
 slice-aggregate-list-rest : tie.Need-slice-aggregate-list-rest
-slice-aggregate-list-rest c = search needs
+slice-aggregate-list-rest c = sym (length-replicate {A = ℕ} 32768 0)
 
 slice-aggregate-list-rest-2 : tie.Need-slice-aggregate-list-rest-2
-slice-aggregate-list-rest-2 c = search needs
+slice-aggregate-list-rest-2 c =
+    sym (room-at (c .before .before .before .before .before .before .before .before .before .before .before .before))
 
 slice-aggregate-list-rest-3 : tie.Need-slice-aggregate-list-rest-3
-slice-aggregate-list-rest-3 c = search needs
+slice-aggregate-list-rest-3 c =
+    sym (c .before .before .before .before .before .before .before .before .before .before .before .before .before .list-opening
+    .kept .1 .1 .1 .0 ∙ length-replicate {A = ℕ} 3 0)
 
 slice-aggregate-list-rest-4 : tie.Need-slice-aggregate-list-rest-4
-slice-aggregate-list-rest-4 c = search needs
+slice-aggregate-list-rest-4 c =
+    sym (c .before .before .before .before .before .before .before .before .before .before .before .before .before .before
+    .list-opening .kept .1 .1 .1 .1 .0 ∙ length-replicate {A = ℕ} 2 0)
 
 slice-aggregate-list-rest-5 : tie.Need-slice-aggregate-list-rest-5
-slice-aggregate-list-rest-5 c = search needs
+slice-aggregate-list-rest-5 c = sym (length-replicate {A = ℕ} 2 0)
 
 slice-aggregate-list-rest-6 : tie.Need-slice-aggregate-list-rest-6
-slice-aggregate-list-rest-6 c = search needs
+slice-aggregate-list-rest-6 c =
+    sym (c .before .before .before .before .before .before .before .before .before .before .before .before .before .before .before
+    .before .list-opening .kept .1 .1 .1 .1 .1 .0 ∙ length-replicate {A = ℕ} 112 0)
 
 slice-aggregate-list-rest-7 : tie.Need-slice-aggregate-list-rest-7
-slice-aggregate-list-rest-7 c = search needs
+slice-aggregate-list-rest-7 c = sym (length-replicate {A = ℕ} (2 * capacity) 0)
 
 slice-aggregate-list-rest-8 : tie.Need-slice-aggregate-list-rest-8
-slice-aggregate-list-rest-8 c = search needs
+slice-aggregate-list-rest-8 c = sym (length-replicate {A = ℕ} (2 * capacity) 0)
 
 slice-aggregate-list-rest-9 : tie.Need-slice-aggregate-list-rest-9
-slice-aggregate-list-rest-9 c = search needs
+slice-aggregate-list-rest-9 c = sym (length-replicate {A = ℕ} (2 * capacity) 0)
 
 slice-aggregate-list-rest-10 : tie.Need-slice-aggregate-list-rest-10
-slice-aggregate-list-rest-10 c = search needs
+slice-aggregate-list-rest-10 c = sym (length-replicate {A = ℕ} (2 * capacity) 0)
 
 slice-aggregate-list-rest-11 : tie.Need-slice-aggregate-list-rest-11
-slice-aggregate-list-rest-11 c = search needs
+slice-aggregate-list-rest-11 c = sym (length-replicate {A = ℕ} (2 * capacity) 0)
 
 slice-aggregate-list-rest-12 : tie.Need-slice-aggregate-list-rest-12
-slice-aggregate-list-rest-12 c = search needs
+slice-aggregate-list-rest-12 c = sym (length-replicate {A = ℕ} (2 * capacity) 0)
 
 slice-aggregate-list-rest-13 : tie.Need-slice-aggregate-list-rest-13
-slice-aggregate-list-rest-13 c = search needs
+slice-aggregate-list-rest-13 c = sym (length-replicate {A = ℕ} (2 * capacity) 0)
 
 slice-aggregate-list-rest-14 : tie.Need-slice-aggregate-list-rest-14
-slice-aggregate-list-rest-14 c = search needs
+slice-aggregate-list-rest-14 c = sym (length-replicate {A = ℕ} (2 * chainCount) 0)
 
 slice-aggregate-list-rest-15 : tie.Need-slice-aggregate-list-rest-15
-slice-aggregate-list-rest-15 c = search needs
+slice-aggregate-list-rest-15 c = sym (length-replicate {A = ℕ} (2 * capacity) 0)
 
 list-rest-requires : tie.Need-list-rest-requires
 list-rest-requires c κs =
@@ -127,19 +139,18 @@ list-rest-requires c κs =
     .before .before in
     let c25 = c16 .before .before .before .before .before .before .before .before .before in
     let c38 = c25 .before .before .before .before .before .before .before .before .before .before .before .before .before in
-    let o = c25 .list-opening .ensures in (
-      record { records = omega arith; block-fits = omega arith; index-fits = omega arith },
+    let o = c25 .list-opening in (
+      first-bounded (o .result .before),
       refl,
-      length-replicate {A = ℕ} (64 *
-          512) 0,
-      o .0 .size ∙ length-replicate {A = ℕ} (64 * (14 * 128)) 0,
+      length-replicate {A = ℕ} 32768 0,
+      room-at c25,
       c38 .pairs .ensures,
-      started _ _ _ _ _ _ (o .1 .0 (not-false
-          _ (c16 .if2 .left))),
+      started _ _ (o .result) (o .last .1 .1 .1 .0) (o .last .1 .1 .1 .1 .0) (o .last .1 .1 .1 .1 .1 .0)
+          (o .ensures .1 .0 (not-false _ (c16 .if2 .left))),
     )
 
 returns-3 : tie.Need-returns-3
-returns-3 c = search needs
+returns-3 c = tt
 
 pub list-spec : {M : Type 1} → statement M
 list-spec =

@@ -4,7 +4,6 @@ use mathlib.Core.Path.{_∙_, sym}
 use native.Mathlib.Omega.{arith}
 use lib.Seq.{length-take-le}
 use borrow.Author.Needs.{needs}
-use Rattle.block_listing.proofs.Records.{three-figures}
 use Rattle.block_listing.specs.Runs.{standing}
 use Rattle.journal_listing.proofs.Started.{take-within}
 use Rattle.journal_listing.proofs.Turning.{resumed-bounded, resumed-end, turned-full, turned-last}
@@ -114,99 +113,75 @@ same-length-2 c =
 
 same-length-3 : tie.Need-same-length-3
 same-length-3 c =
-    let c30 = c .before .before .before .before .before .before .before .before .before .before .before .before .before .before
-    .before .before .before .before .before .before .before .before .before .before .before .before .before .before .before .before
-    in
-    let c31 = c30 .before in
-    three-figures _ (c30 .list-chunk .ensures .1 .1 .0) ∙ sym (three-figures _ (ready-at c31))
+    c .before .before .before .before .before .before .before .before .before .before .before .before .before .before .before
+    .before .before .before .before .before .before .before .before .before .before .before .before .before .before .before
+    .list-chunk .kept .1 .1 .1 .1 .1 .0
 
 same-length-4 : tie.Need-same-length-4
 same-length-4 c =
-    let c30 = c .before .before .before .before .before .before .before .before .before .before .before .before .before .before
-    .before .before .before .before .before .before .before .before .before .before .before .before .before .before .before .before
-    in
-    let c31 = c30 .before in
-    (c30 .list-chunk .ensures .1 .1 .0) .sized .counts-are ∙ sym (ready-at c31 .sized .counts-are)
+    c .before .before .before .before .before .before .before .before .before .before .before .before .before .before .before
+    .before .before .before .before .before .before .before .before .before .before .before .before .before .before .before
+    .list-chunk .kept .1 .1 .1 .1 .1 .1 .1 .0
 
 same-length-5 : tie.Need-same-length-5
 same-length-5 c =
-    let c30 = c .before .before .before .before .before .before .before .before .before .before .before .before .before .before
-    .before .before .before .before .before .before .before .before .before .before .before .before .before .before .before .before
-    in
-    let c31 = c30 .before in
-    (c30 .list-chunk .ensures .1 .1 .0) .sized .balances-are ∙ sym (ready-at c31 .sized .balances-are)
+    c .before .before .before .before .before .before .before .before .before .before .before .before .before .before .before
+    .before .before .before .before .before .before .before .before .before .before .before .before .before .before .before
+    .list-chunk .kept .1 .1 .1 .1 .1 .1 .1 .1 .0
 
 same-length-6 : tie.Need-same-length-6
 same-length-6 c =
-    let c30 = c .before .before .before .before .before .before .before .before .before .before .before .before .before .before
-    .before .before .before .before .before .before .before .before .before .before .before .before .before .before .before .before
-    in
-    let c31 = c30 .before in
-    (c30 .list-chunk .ensures .1 .1 .0) .sized .numbers-are ∙ sym (ready-at c31 .sized .numbers-are)
+    c .before .before .before .before .before .before .before .before .before .before .before .before .before .before .before
+    .before .before .before .before .before .before .before .before .before .before .before .before .before .before .before
+    .list-chunk .kept .1 .1 .1 .1 .1 .1 .1 .1 .1 .0
 
 same-length-7 : tie.Need-same-length-7
 same-length-7 c =
-    let c30 = c .before .before .before .before .before .before .before .before .before .before .before .before .before .before
-    .before .before .before .before .before .before .before .before .before .before .before .before .before .before .before .before
-    in
-    let c31 = c30 .before in
-    (c30 .list-chunk .ensures .1 .1 .0) .sized .amounts-are ∙ sym (ready-at c31 .sized .amounts-are)
+    c .before .before .before .before .before .before .before .before .before .before .before .before .before .before .before
+    .before .before .before .before .before .before .before .before .before .before .before .before .before .before .before
+    .list-chunk .kept .1 .1 .1 .1 .1 .1 .1 .1 .1 .1 .0
 
 same-length-8 : tie.Need-same-length-8
 same-length-8 c =
-    let c30 = c .before .before .before .before .before .before .before .before .before .before .before .before .before .before
-    .before .before .before .before .before .before .before .before .before .before .before .before .before .before .before .before
-    in
-    let c31 = c30 .before in
-    (c30 .list-chunk .ensures .1 .1 .0) .sized .senders-are ∙ sym (ready-at c31 .sized .senders-are)
+    c .before .before .before .before .before .before .before .before .before .before .before .before .before .before .before
+    .before .before .before .before .before .before .before .before .before .before .before .before .before .before .before
+    .list-chunk .kept .1 .1 .1 .1 .1 .1 .1 .1 .1 .1 .1 .0
 
 same-length-9 : tie.Need-same-length-9
 same-length-9 c =
-    let c30 = c .before .before .before .before .before .before .before .before .before .before .before .before .before .before
-    .before .before .before .before .before .before .before .before .before .before .before .before .before .before .before .before
-    in
-    let c31 = c30 .before in
-    (c30 .list-chunk .ensures .1 .1 .0) .sized .receivers-are ∙ sym (ready-at c31 .sized .receivers-are)
+    c .before .before .before .before .before .before .before .before .before .before .before .before .before .before .before
+    .before .before .before .before .before .before .before .before .before .before .before .before .before .before .before
+    .list-chunk .kept .1 .1 .1 .1 .1 .1 .1 .1 .1 .1 .1 .1 .0
 
 same-length-10 : tie.Need-same-length-10
 same-length-10 c =
-    let c30 = c .before .before .before .before .before .before .before .before .before .before .before .before .before .before
-    .before .before .before .before .before .before .before .before .before .before .before .before .before .before .before .before
-    in
-    let c31 = c30 .before in
-    (c30 .list-chunk .ensures .1 .1 .0) .sized .kinds-are ∙ sym (ready-at c31 .sized .kinds-are)
+    c .before .before .before .before .before .before .before .before .before .before .before .before .before .before .before
+    .before .before .before .before .before .before .before .before .before .before .before .before .before .before .before
+    .list-chunk .kept .1 .1 .1 .1 .1 .1 .1 .1 .1 .1 .1 .1 .1 .0
 
 same-length-11 : tie.Need-same-length-11
 same-length-11 c =
-    let c30 = c .before .before .before .before .before .before .before .before .before .before .before .before .before .before
-    .before .before .before .before .before .before .before .before .before .before .before .before .before .before .before .before
-    in
-    let c31 = c30 .before in
-    (c30 .list-chunk .ensures .1 .1 .0) .sized .ledgers-are ∙ sym (ready-at c31 .sized .ledgers-are)
+    c .before .before .before .before .before .before .before .before .before .before .before .before .before .before .before
+    .before .before .before .before .before .before .before .before .before .before .before .before .before .before .before
+    .list-chunk .kept .1 .1 .1 .1 .1 .1 .1 .1 .1 .1 .1 .1 .1 .1 .0
 
 same-length-12 : tie.Need-same-length-12
 same-length-12 c =
-    let c30 = c .before .before .before .before .before .before .before .before .before .before .before .before .before .before
-    .before .before .before .before .before .before .before .before .before .before .before .before .before .before .before .before
-    in
-    let c31 = c30 .before in
-    (c30 .list-chunk .ensures .1 .1 .0) .sized .verdicts-are ∙ sym (ready-at c31 .sized .verdicts-are)
+    c .before .before .before .before .before .before .before .before .before .before .before .before .before .before .before
+    .before .before .before .before .before .before .before .before .before .before .before .before .before .before .before
+    .list-chunk .kept .1 .1 .1 .1 .1 .1 .1 .1 .1 .1 .1 .1 .1 .1 .1 .0
 
 same-length-13 : tie.Need-same-length-13
 same-length-13 c =
-    let c30 = c .before .before .before .before .before .before .before .before .before .before .before .before .before .before
-    .before .before .before .before .before .before .before .before .before .before .before .before .before .before .before .before
-    in
-    let c31 = c30 .before in
-    (c30 .list-chunk .ensures .1 .1 .0) .indexes .heads-are ∙ sym (ready-at c31 .indexes .heads-are)
+    c .before .before .before .before .before .before .before .before .before .before .before .before .before .before .before
+    .before .before .before .before .before .before .before .before .before .before .before .before .before .before .before
+    .list-chunk .kept .1 .1 .1 .1 .1 .1 .1 .1 .1 .1 .1 .1 .1 .1 .1 .1 .0
 
 same-length-14 : tie.Need-same-length-14
 same-length-14 c =
-    let c30 = c .before .before .before .before .before .before .before .before .before .before .before .before .before .before
-    .before .before .before .before .before .before .before .before .before .before .before .before .before .before .before .before
-    in
-    let c31 = c30 .before in
-    (c30 .list-chunk .ensures .1 .1 .0) .indexes .nexts-are ∙ sym (ready-at c31 .indexes .nexts-are)
+    c .before .before .before .before .before .before .before .before .before .before .before .before .before .before .before
+    .before .before .before .before .before .before .before .before .before .before .before .before .before .before .before
+    .list-chunk .kept .1 .1 .1 .1 .1 .1 .1 .1 .1 .1 .1 .1 .1 .1 .1 .1 .1 .0
 
 returns : tie.Need-returns
 returns c =
@@ -246,99 +221,75 @@ same-length-16 c =
 
 same-length-17 : tie.Need-same-length-17
 same-length-17 c =
-    let c31 = c .before .before .before .before .before .before .before .before .before .before .before .before .before .before
-    .before .before .before .before .before .before .before .before .before .before .before .before .before .before .before .before
-    .before in
-    let c32 = c31 .before in
-    three-figures _ (c31 .list-chunk .ensures .1 .1 .0) ∙ sym (three-figures _ (ready-at c32))
+    c .before .before .before .before .before .before .before .before .before .before .before .before .before .before .before
+    .before .before .before .before .before .before .before .before .before .before .before .before .before .before .before
+    .before .list-chunk .kept .1 .1 .1 .1 .1 .0
 
 same-length-18 : tie.Need-same-length-18
 same-length-18 c =
-    let c31 = c .before .before .before .before .before .before .before .before .before .before .before .before .before .before
-    .before .before .before .before .before .before .before .before .before .before .before .before .before .before .before .before
-    .before in
-    let c32 = c31 .before in
-    (c31 .list-chunk .ensures .1 .1 .0) .sized .counts-are ∙ sym (ready-at c32 .sized .counts-are)
+    c .before .before .before .before .before .before .before .before .before .before .before .before .before .before .before
+    .before .before .before .before .before .before .before .before .before .before .before .before .before .before .before
+    .before .list-chunk .kept .1 .1 .1 .1 .1 .1 .1 .0
 
 same-length-19 : tie.Need-same-length-19
 same-length-19 c =
-    let c31 = c .before .before .before .before .before .before .before .before .before .before .before .before .before .before
-    .before .before .before .before .before .before .before .before .before .before .before .before .before .before .before .before
-    .before in
-    let c32 = c31 .before in
-    (c31 .list-chunk .ensures .1 .1 .0) .sized .balances-are ∙ sym (ready-at c32 .sized .balances-are)
+    c .before .before .before .before .before .before .before .before .before .before .before .before .before .before .before
+    .before .before .before .before .before .before .before .before .before .before .before .before .before .before .before
+    .before .list-chunk .kept .1 .1 .1 .1 .1 .1 .1 .1 .0
 
 same-length-20 : tie.Need-same-length-20
 same-length-20 c =
-    let c31 = c .before .before .before .before .before .before .before .before .before .before .before .before .before .before
-    .before .before .before .before .before .before .before .before .before .before .before .before .before .before .before .before
-    .before in
-    let c32 = c31 .before in
-    (c31 .list-chunk .ensures .1 .1 .0) .sized .numbers-are ∙ sym (ready-at c32 .sized .numbers-are)
+    c .before .before .before .before .before .before .before .before .before .before .before .before .before .before .before
+    .before .before .before .before .before .before .before .before .before .before .before .before .before .before .before
+    .before .list-chunk .kept .1 .1 .1 .1 .1 .1 .1 .1 .1 .0
 
 same-length-21 : tie.Need-same-length-21
 same-length-21 c =
-    let c31 = c .before .before .before .before .before .before .before .before .before .before .before .before .before .before
-    .before .before .before .before .before .before .before .before .before .before .before .before .before .before .before .before
-    .before in
-    let c32 = c31 .before in
-    (c31 .list-chunk .ensures .1 .1 .0) .sized .amounts-are ∙ sym (ready-at c32 .sized .amounts-are)
+    c .before .before .before .before .before .before .before .before .before .before .before .before .before .before .before
+    .before .before .before .before .before .before .before .before .before .before .before .before .before .before .before
+    .before .list-chunk .kept .1 .1 .1 .1 .1 .1 .1 .1 .1 .1 .0
 
 same-length-22 : tie.Need-same-length-22
 same-length-22 c =
-    let c31 = c .before .before .before .before .before .before .before .before .before .before .before .before .before .before
-    .before .before .before .before .before .before .before .before .before .before .before .before .before .before .before .before
-    .before in
-    let c32 = c31 .before in
-    (c31 .list-chunk .ensures .1 .1 .0) .sized .senders-are ∙ sym (ready-at c32 .sized .senders-are)
+    c .before .before .before .before .before .before .before .before .before .before .before .before .before .before .before
+    .before .before .before .before .before .before .before .before .before .before .before .before .before .before .before
+    .before .list-chunk .kept .1 .1 .1 .1 .1 .1 .1 .1 .1 .1 .1 .0
 
 same-length-23 : tie.Need-same-length-23
 same-length-23 c =
-    let c31 = c .before .before .before .before .before .before .before .before .before .before .before .before .before .before
-    .before .before .before .before .before .before .before .before .before .before .before .before .before .before .before .before
-    .before in
-    let c32 = c31 .before in
-    (c31 .list-chunk .ensures .1 .1 .0) .sized .receivers-are ∙ sym (ready-at c32 .sized .receivers-are)
+    c .before .before .before .before .before .before .before .before .before .before .before .before .before .before .before
+    .before .before .before .before .before .before .before .before .before .before .before .before .before .before .before
+    .before .list-chunk .kept .1 .1 .1 .1 .1 .1 .1 .1 .1 .1 .1 .1 .0
 
 same-length-24 : tie.Need-same-length-24
 same-length-24 c =
-    let c31 = c .before .before .before .before .before .before .before .before .before .before .before .before .before .before
-    .before .before .before .before .before .before .before .before .before .before .before .before .before .before .before .before
-    .before in
-    let c32 = c31 .before in
-    (c31 .list-chunk .ensures .1 .1 .0) .sized .kinds-are ∙ sym (ready-at c32 .sized .kinds-are)
+    c .before .before .before .before .before .before .before .before .before .before .before .before .before .before .before
+    .before .before .before .before .before .before .before .before .before .before .before .before .before .before .before
+    .before .list-chunk .kept .1 .1 .1 .1 .1 .1 .1 .1 .1 .1 .1 .1 .1 .0
 
 same-length-25 : tie.Need-same-length-25
 same-length-25 c =
-    let c31 = c .before .before .before .before .before .before .before .before .before .before .before .before .before .before
-    .before .before .before .before .before .before .before .before .before .before .before .before .before .before .before .before
-    .before in
-    let c32 = c31 .before in
-    (c31 .list-chunk .ensures .1 .1 .0) .sized .ledgers-are ∙ sym (ready-at c32 .sized .ledgers-are)
+    c .before .before .before .before .before .before .before .before .before .before .before .before .before .before .before
+    .before .before .before .before .before .before .before .before .before .before .before .before .before .before .before
+    .before .list-chunk .kept .1 .1 .1 .1 .1 .1 .1 .1 .1 .1 .1 .1 .1 .1 .0
 
 same-length-26 : tie.Need-same-length-26
 same-length-26 c =
-    let c31 = c .before .before .before .before .before .before .before .before .before .before .before .before .before .before
-    .before .before .before .before .before .before .before .before .before .before .before .before .before .before .before .before
-    .before in
-    let c32 = c31 .before in
-    (c31 .list-chunk .ensures .1 .1 .0) .sized .verdicts-are ∙ sym (ready-at c32 .sized .verdicts-are)
+    c .before .before .before .before .before .before .before .before .before .before .before .before .before .before .before
+    .before .before .before .before .before .before .before .before .before .before .before .before .before .before .before
+    .before .list-chunk .kept .1 .1 .1 .1 .1 .1 .1 .1 .1 .1 .1 .1 .1 .1 .1 .0
 
 same-length-27 : tie.Need-same-length-27
 same-length-27 c =
-    let c31 = c .before .before .before .before .before .before .before .before .before .before .before .before .before .before
-    .before .before .before .before .before .before .before .before .before .before .before .before .before .before .before .before
-    .before in
-    let c32 = c31 .before in
-    (c31 .list-chunk .ensures .1 .1 .0) .indexes .heads-are ∙ sym (ready-at c32 .indexes .heads-are)
+    c .before .before .before .before .before .before .before .before .before .before .before .before .before .before .before
+    .before .before .before .before .before .before .before .before .before .before .before .before .before .before .before
+    .before .list-chunk .kept .1 .1 .1 .1 .1 .1 .1 .1 .1 .1 .1 .1 .1 .1 .1 .1 .0
 
 same-length-28 : tie.Need-same-length-28
 same-length-28 c =
-    let c31 = c .before .before .before .before .before .before .before .before .before .before .before .before .before .before
-    .before .before .before .before .before .before .before .before .before .before .before .before .before .before .before .before
-    .before in
-    let c32 = c31 .before in
-    (c31 .list-chunk .ensures .1 .1 .0) .indexes .nexts-are ∙ sym (ready-at c32 .indexes .nexts-are)
+    c .before .before .before .before .before .before .before .before .before .before .before .before .before .before .before
+    .before .before .before .before .before .before .before .before .before .before .before .before .before .before .before
+    .before .list-chunk .kept .1 .1 .1 .1 .1 .1 .1 .1 .1 .1 .1 .1 .1 .1 .1 .1 .1 .0
 
 returns-2 : tie.Need-returns-2
 returns-2 c =
@@ -378,99 +329,75 @@ same-length-30 c =
 
 same-length-31 : tie.Need-same-length-31
 same-length-31 c =
-    let c31 = c .before .before .before .before .before .before .before .before .before .before .before .before .before .before
-    .before .before .before .before .before .before .before .before .before .before .before .before .before .before .before .before
-    .before in
-    let c32 = c31 .before in
-    three-figures _ (c31 .list-chunk .ensures .1 .1 .0) ∙ sym (three-figures _ (ready-at c32))
+    c .before .before .before .before .before .before .before .before .before .before .before .before .before .before .before
+    .before .before .before .before .before .before .before .before .before .before .before .before .before .before .before
+    .before .list-chunk .kept .1 .1 .1 .1 .1 .0
 
 same-length-32 : tie.Need-same-length-32
 same-length-32 c =
-    let c31 = c .before .before .before .before .before .before .before .before .before .before .before .before .before .before
-    .before .before .before .before .before .before .before .before .before .before .before .before .before .before .before .before
-    .before in
-    let c32 = c31 .before in
-    (c31 .list-chunk .ensures .1 .1 .0) .sized .counts-are ∙ sym (ready-at c32 .sized .counts-are)
+    c .before .before .before .before .before .before .before .before .before .before .before .before .before .before .before
+    .before .before .before .before .before .before .before .before .before .before .before .before .before .before .before
+    .before .list-chunk .kept .1 .1 .1 .1 .1 .1 .1 .0
 
 same-length-33 : tie.Need-same-length-33
 same-length-33 c =
-    let c31 = c .before .before .before .before .before .before .before .before .before .before .before .before .before .before
-    .before .before .before .before .before .before .before .before .before .before .before .before .before .before .before .before
-    .before in
-    let c32 = c31 .before in
-    (c31 .list-chunk .ensures .1 .1 .0) .sized .balances-are ∙ sym (ready-at c32 .sized .balances-are)
+    c .before .before .before .before .before .before .before .before .before .before .before .before .before .before .before
+    .before .before .before .before .before .before .before .before .before .before .before .before .before .before .before
+    .before .list-chunk .kept .1 .1 .1 .1 .1 .1 .1 .1 .0
 
 same-length-34 : tie.Need-same-length-34
 same-length-34 c =
-    let c31 = c .before .before .before .before .before .before .before .before .before .before .before .before .before .before
-    .before .before .before .before .before .before .before .before .before .before .before .before .before .before .before .before
-    .before in
-    let c32 = c31 .before in
-    (c31 .list-chunk .ensures .1 .1 .0) .sized .numbers-are ∙ sym (ready-at c32 .sized .numbers-are)
+    c .before .before .before .before .before .before .before .before .before .before .before .before .before .before .before
+    .before .before .before .before .before .before .before .before .before .before .before .before .before .before .before
+    .before .list-chunk .kept .1 .1 .1 .1 .1 .1 .1 .1 .1 .0
 
 same-length-35 : tie.Need-same-length-35
 same-length-35 c =
-    let c31 = c .before .before .before .before .before .before .before .before .before .before .before .before .before .before
-    .before .before .before .before .before .before .before .before .before .before .before .before .before .before .before .before
-    .before in
-    let c32 = c31 .before in
-    (c31 .list-chunk .ensures .1 .1 .0) .sized .amounts-are ∙ sym (ready-at c32 .sized .amounts-are)
+    c .before .before .before .before .before .before .before .before .before .before .before .before .before .before .before
+    .before .before .before .before .before .before .before .before .before .before .before .before .before .before .before
+    .before .list-chunk .kept .1 .1 .1 .1 .1 .1 .1 .1 .1 .1 .0
 
 same-length-36 : tie.Need-same-length-36
 same-length-36 c =
-    let c31 = c .before .before .before .before .before .before .before .before .before .before .before .before .before .before
-    .before .before .before .before .before .before .before .before .before .before .before .before .before .before .before .before
-    .before in
-    let c32 = c31 .before in
-    (c31 .list-chunk .ensures .1 .1 .0) .sized .senders-are ∙ sym (ready-at c32 .sized .senders-are)
+    c .before .before .before .before .before .before .before .before .before .before .before .before .before .before .before
+    .before .before .before .before .before .before .before .before .before .before .before .before .before .before .before
+    .before .list-chunk .kept .1 .1 .1 .1 .1 .1 .1 .1 .1 .1 .1 .0
 
 same-length-37 : tie.Need-same-length-37
 same-length-37 c =
-    let c31 = c .before .before .before .before .before .before .before .before .before .before .before .before .before .before
-    .before .before .before .before .before .before .before .before .before .before .before .before .before .before .before .before
-    .before in
-    let c32 = c31 .before in
-    (c31 .list-chunk .ensures .1 .1 .0) .sized .receivers-are ∙ sym (ready-at c32 .sized .receivers-are)
+    c .before .before .before .before .before .before .before .before .before .before .before .before .before .before .before
+    .before .before .before .before .before .before .before .before .before .before .before .before .before .before .before
+    .before .list-chunk .kept .1 .1 .1 .1 .1 .1 .1 .1 .1 .1 .1 .1 .0
 
 same-length-38 : tie.Need-same-length-38
 same-length-38 c =
-    let c31 = c .before .before .before .before .before .before .before .before .before .before .before .before .before .before
-    .before .before .before .before .before .before .before .before .before .before .before .before .before .before .before .before
-    .before in
-    let c32 = c31 .before in
-    (c31 .list-chunk .ensures .1 .1 .0) .sized .kinds-are ∙ sym (ready-at c32 .sized .kinds-are)
+    c .before .before .before .before .before .before .before .before .before .before .before .before .before .before .before
+    .before .before .before .before .before .before .before .before .before .before .before .before .before .before .before
+    .before .list-chunk .kept .1 .1 .1 .1 .1 .1 .1 .1 .1 .1 .1 .1 .1 .0
 
 same-length-39 : tie.Need-same-length-39
 same-length-39 c =
-    let c31 = c .before .before .before .before .before .before .before .before .before .before .before .before .before .before
-    .before .before .before .before .before .before .before .before .before .before .before .before .before .before .before .before
-    .before in
-    let c32 = c31 .before in
-    (c31 .list-chunk .ensures .1 .1 .0) .sized .ledgers-are ∙ sym (ready-at c32 .sized .ledgers-are)
+    c .before .before .before .before .before .before .before .before .before .before .before .before .before .before .before
+    .before .before .before .before .before .before .before .before .before .before .before .before .before .before .before
+    .before .list-chunk .kept .1 .1 .1 .1 .1 .1 .1 .1 .1 .1 .1 .1 .1 .1 .0
 
 same-length-40 : tie.Need-same-length-40
 same-length-40 c =
-    let c31 = c .before .before .before .before .before .before .before .before .before .before .before .before .before .before
-    .before .before .before .before .before .before .before .before .before .before .before .before .before .before .before .before
-    .before in
-    let c32 = c31 .before in
-    (c31 .list-chunk .ensures .1 .1 .0) .sized .verdicts-are ∙ sym (ready-at c32 .sized .verdicts-are)
+    c .before .before .before .before .before .before .before .before .before .before .before .before .before .before .before
+    .before .before .before .before .before .before .before .before .before .before .before .before .before .before .before
+    .before .list-chunk .kept .1 .1 .1 .1 .1 .1 .1 .1 .1 .1 .1 .1 .1 .1 .1 .0
 
 same-length-41 : tie.Need-same-length-41
 same-length-41 c =
-    let c31 = c .before .before .before .before .before .before .before .before .before .before .before .before .before .before
-    .before .before .before .before .before .before .before .before .before .before .before .before .before .before .before .before
-    .before in
-    let c32 = c31 .before in
-    (c31 .list-chunk .ensures .1 .1 .0) .indexes .heads-are ∙ sym (ready-at c32 .indexes .heads-are)
+    c .before .before .before .before .before .before .before .before .before .before .before .before .before .before .before
+    .before .before .before .before .before .before .before .before .before .before .before .before .before .before .before
+    .before .list-chunk .kept .1 .1 .1 .1 .1 .1 .1 .1 .1 .1 .1 .1 .1 .1 .1 .1 .0
 
 same-length-42 : tie.Need-same-length-42
 same-length-42 c =
-    let c31 = c .before .before .before .before .before .before .before .before .before .before .before .before .before .before
-    .before .before .before .before .before .before .before .before .before .before .before .before .before .before .before .before
-    .before in
-    let c32 = c31 .before in
-    (c31 .list-chunk .ensures .1 .1 .0) .indexes .nexts-are ∙ sym (ready-at c32 .indexes .nexts-are)
+    c .before .before .before .before .before .before .before .before .before .before .before .before .before .before .before
+    .before .before .before .before .before .before .before .before .before .before .before .before .before .before .before
+    .before .list-chunk .kept .1 .1 .1 .1 .1 .1 .1 .1 .1 .1 .1 .1 .1 .1 .1 .1 .1 .0
 
 returns-3 : tie.Need-returns-3
 returns-3 c =

@@ -1,4 +1,4 @@
--- `tables::first_refusals` meets its contract. Assumes nothing.
+-- `record_refusals::first_refusals` meets its contract. Assumes nothing.
 use Prim.Native.Nat.{ℕ}
 use mathlib.Core.Bool.{Bool, not}
 use mathlib.Core.Path.{_∙_, ap, ap₂}
@@ -7,9 +7,9 @@ use lib.Dec.{leb}
 use borrow.Author.Needs.{needs}
 use Rattle.answers.proofs.Answers.{refuse-else}
 use Rattle.answers.specs.Answers.{orElse, refuse}
 use Rattle.tables.specs.Columns.{firstBy}
-use Rattle.tables.proofs.first_refusals.Statement.{statement}
-use Rattle.tables.proofs.first_refusals.Tie as tie
+use Rattle.record_refusals.proofs.first_refusals.Statement.{statement}
+use Rattle.record_refusals.proofs.first_refusals.Tie as tie
 
 as-index-requires : tie.Need-as-index-requires
 as-index-requires c κs = search needs

@@ -1,12 +1,12 @@
--- `tables::funds_refusal` meets its contract. Assumes nothing.
+-- `record_refusals::funds_refusal` meets its contract. Assumes nothing.
 use Prim.Native.Nat.{ℕ}
 use mathlib.Core.Path.{_∙_, ap}
 use lib.Dec.{ltb}
 use borrow.Author.Needs.{needs}
 use Rattle.answers.specs.Answers.{refuse}
 use Rattle.tables.specs.Columns.{fundsAt}
-use Rattle.tables.proofs.funds_refusal.Statement.{statement}
-use Rattle.tables.proofs.funds_refusal.Tie as tie
+use Rattle.record_refusals.proofs.funds_refusal.Statement.{statement}
+use Rattle.record_refusals.proofs.funds_refusal.Tie as tie
 
 balance-at-requires : tie.Need-balance-at-requires
 balance-at-requires c κs = search needs

@@ -1,10 +1,10 @@
--- `tables::balance_at` meets its contract. Assumes nothing.
+-- `record_refusals::balance_at` meets its contract. Assumes nothing.
 use native.Mathlib.Omega.{arith}
 use borrow.Author.Needs.{needs}
 use borrow.Author.Tests.{le-ltb, lt-ltb}
 use Rattle.tables.specs.Columns.{balanceAt}
-use Rattle.tables.proofs.balance_at.Statement.{statement}
-use Rattle.tables.proofs.balance_at.Tie as tie
+use Rattle.record_refusals.proofs.balance_at.Statement.{statement}
+use Rattle.record_refusals.proofs.balance_at.Tie as tie
 
 as-index-requires : tie.Need-as-index-requires
 as-index-requires c κs = search needs
