@@ -168,7 +168,8 @@ fn list_rest<'a>(
     }
 }
 
-// The listing of the journal in the file `source`, to the file `target` (descriptors).
+// The listing of the journal in the file `source`, to the file `target` (descriptors). Not published, and without an `ensures`: a
+// contract cannot say what is read or written (docs/DECISIONS.md, 47).
 pub fn list(source: i32, target: i32) {
     let digits = pairs();
     let mut input = [0u8; CHUNK];

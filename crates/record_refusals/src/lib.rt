@@ -27,7 +27,7 @@ pub fn first_refusals(senders: usize, receivers: usize, r: Record, is_used: bool
 }
 
 // The balance of an account, or 0 where there is no such account.
-pub fn balance_at(balances: &[u64], from: usize, n: usize, i: u16) -> u64
+fn balance_at(balances: &[u64], from: usize, n: usize, i: u16) -> u64
     requires { ⌜ from + n ≤ length (now balances) ⌝ }
     ensures { λ b. ⌜ b ≡ balanceAt (now (balances .entry)) from n i ⌝ }
 {
