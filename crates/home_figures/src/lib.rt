@@ -1,7 +1,7 @@
-// What a state of the home validator is asked for: the home total with the far pool, and the balance of one account. Both judge the
-// state as every call does (3), alter nothing and hand no state back.
+// What a state of the home validator is asked for: the home total with the far pool, the balance of one account, and the places left.
+// All judge the state as every call does (3), alter nothing and hand no state back.
 ghost use mathlib.Core.Path.{_≡_};
-ghost use Rattle.home_figures.specs.Figures.{homeFiguresOf, homeBalanceOf};
+ghost use Rattle.home_figures.specs.Figures.{homeFiguresOf, homeBalanceOf, homePlacesOf};
 ghost use Rattle.home_tables.specs.Tables.{acceptsHome};
 ghost use Rattle.home_validator.specs.State.{homeTablesOf};
 use answers::Answer;
@@ -86,4 +86,52 @@ pub fn balance(state: HomeValidator, account: u16) -> Balance
     }
     let open = state.home_accounts;
     balance_among(&state.balances, 0, open, account)
+}
+
+// The places left on the home ledger, beside the answer.
+pub struct HomePlaces {
+    pub answer: Answer,
+    pub home: u64,
+}
+
+// Whether a state is accepted. The two calls above ask it in place, which spares them a copy of the state.
+fn accepted(state: HomeValidator) -> bool
+    ensures { λ r. ⌜ r ≡ acceptsHome (homeTablesOf state) ⌝ }
+{
+    let mut heads = [0u16; CHAINS];
+    let mut nexts = [0u16; Ledger::CAPACITY];
+    is_accepted(
+        state.supply,
+        state.pool,
+        state.home_accounts,
+        state.far_accounts,
+        state.count,
+        &state.balances,
+        &state.kinds,
+        &state.ledgers,
+        &state.senders,
+        &state.receivers,
+        &state.numbers,
+        &state.amounts,
+        &state.verdicts,
+        &mut heads,
+        &mut nexts,
+    )
+}
+
+// How many more records the home ledger can hold before 41. Refusal 3 comes with 0.
+pub fn places_left(state: HomeValidator) -> HomePlaces
+    ensures { λ r. ⌜ r ≡ homePlacesOf (acceptsHome (homeTablesOf state)) (homeTablesOf state) ⌝ }
+{
+    let home = state.count;
+    if !accepted(state) {
+        return HomePlaces {
+            answer: Answer::new(3, 0),
+            home: 0,
+        };
+    }
+    HomePlaces {
+        answer: Answer::Passed,
+        home: (Ledger::CAPACITY - home) as u64,
+    }
 }

@@ -1,7 +1,7 @@
-// What a state of the pair validator is asked for: the totals of both ledgers with what is in flight, and the balance of one account.
-// Both judge the state as every call does (3), alter nothing and hand no state back.
+// What a state of the pair validator is asked for: the totals of both ledgers with what is in flight, the balance of one account, and
+// the places left. All judge the state as every call does (3), alter nothing and hand no state back.
 ghost use mathlib.Core.Path.{_≡_};
-ghost use Rattle.pair_figures.specs.Figures.{figuresOf, balanceOf};
+ghost use Rattle.pair_figures.specs.Figures.{figuresOf, balanceOf, placesOf};
 ghost use Rattle.pair_tables.specs.Tables.{accepts};
 ghost use Rattle.pair_validator.specs.State.{tablesOf};
 use answers::Answer;
@@ -98,4 +98,54 @@ pub fn balance(state: PairValidator, ledger: u8, account: u16) -> Balance
     let l = ledger as usize;
     let open = state.accounts[l];
     balance_among(&state.balances, l * Ledger::ACCOUNTS, open, account)
+}
+
+// The places left on both ledgers, beside the answer.
+pub struct PairPlaces {
+    pub answer: Answer,
+    pub home: u64,
+    pub far: u64,
+}
+
+// Whether a state is accepted. The two calls above ask it in place, which spares them a copy of the state.
+fn accepted(state: PairValidator) -> bool
+    ensures { λ r. ⌜ r ≡ accepts (tablesOf state) ⌝ }
+{
+    let mut heads = [0u16; HEADS];
+    let mut nexts = [0u16; PLACES];
+    is_accepted(
+        state.supply,
+        &state.accounts,
+        &state.counts,
+        &state.balances,
+        &state.kinds,
+        &state.ledgers,
+        &state.senders,
+        &state.receivers,
+        &state.numbers,
+        &state.amounts,
+        &state.verdicts,
+        &mut heads,
+        &mut nexts,
+    )
+}
+
+// How many more records each ledger can hold before 41. Refusal 3 comes with zeros.
+pub fn places_left(state: PairValidator) -> PairPlaces
+    ensures { λ r. ⌜ r ≡ placesOf (accepts (tablesOf state)) (tablesOf state) ⌝ }
+{
+    let home = state.counts[0];
+    let far = state.counts[1];
+    if !accepted(state) {
+        return PairPlaces {
+            answer: Answer::new(3, 0),
+            home: 0,
+            far: 0,
+        };
+    }
+    PairPlaces {
+        answer: Answer::Passed,
+        home: (Ledger::CAPACITY - home) as u64,
+        far: (Ledger::CAPACITY - far) as u64,
+    }
 }
