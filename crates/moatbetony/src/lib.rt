@@ -139,10 +139,10 @@ pub extern "C" fn moatbetony_pair_check_record(state: PairValidator, bytes: &[u8
         (call pairChecker state (one (now (bytes .entry))) .state) ⌝ }
 {
     let o = state.check_record(bytes);
-    let a = o.answer;
+    let record_answer = o.answer;
     let pair_next = o.state;
     PairTold {
-        answer: tell(a),
+        answer: tell(record_answer),
         state: pair_next,
     }
 }
@@ -154,10 +154,10 @@ pub extern "C" fn moatbetony_pair_check_list(state: PairValidator, bytes: &[u8])
         (call pairChecker state (list (now (bytes .entry))) .state) ⌝ }
 {
     let o = state.check_list(bytes);
-    let a = o.answer;
+    let list_answer = o.answer;
     let pair_last = o.state;
     PairTold {
-        answer: tell(a),
+        answer: tell(list_answer),
         state: pair_last,
     }
 }
@@ -259,10 +259,10 @@ pub extern "C" fn moatbetony_home_check_record(state: HomeValidator, bytes: &[u8
         (call homeChecker state (one (now (bytes .entry))) .state) ⌝ }
 {
     let o = state.check_record(bytes);
-    let a = o.answer;
+    let home_record_answer = o.answer;
     let home_next = o.state;
     HomeTold {
-        answer: tell(a),
+        answer: tell(home_record_answer),
         state: home_next,
     }
 }
@@ -274,10 +274,10 @@ pub extern "C" fn moatbetony_home_check_list(state: HomeValidator, bytes: &[u8])
         (call homeChecker state (list (now (bytes .entry))) .state) ⌝ }
 {
     let o = state.check_list(bytes);
-    let a = o.answer;
+    let home_list_answer = o.answer;
     let home_last = o.state;
     HomeTold {
-        answer: tell(a),
+        answer: tell(home_list_answer),
         state: home_last,
     }
 }
@@ -287,12 +287,12 @@ pub extern "C" fn moatbetony_home_check_list(state: HomeValidator, bytes: &[u8])
 pub extern "C" fn moatbetony_home_figures(state: HomeValidator) -> HomeFiguresTold
     ensures { λ r. ⌜ r ≡ homeFiguresTold (homeFiguresOf (acceptsHome (homeTablesOf state)) (homeTablesOf state)) ⌝ }
 {
-    let f = home_figures::figures(state);
-    let a = f.answer;
+    let h = home_figures::figures(state);
+    let a = h.answer;
     HomeFiguresTold {
         answer: tell(a),
-        home: f.home,
-        pool: f.pool,
+        home: h.home,
+        pool: h.pool,
     }
 }
 
@@ -301,11 +301,11 @@ pub extern "C" fn moatbetony_home_figures(state: HomeValidator) -> HomeFiguresTo
 pub extern "C" fn moatbetony_home_balance(state: HomeValidator, account: u16) -> BalanceTold
     ensures { λ r. ⌜ r ≡ balanceTold (homeBalanceOf (acceptsHome (homeTablesOf state)) (homeTablesOf state) account) ⌝ }
 {
-    let b = home_figures::balance(state, account);
-    let a = b.answer;
+    let held = home_figures::balance(state, account);
+    let a = held.answer;
     BalanceTold {
         answer: tell(a),
-        balance: b.balance,
+        balance: held.balance,
     }
 }
 
