@@ -23,9 +23,9 @@
  *             cleared and never filled has not passed, though its number is 0.
  * PASSED      says that the record is in order and its credit has moved. Whether it pays you, and enough, you read with
  *             moatbetony_record_read: a local or an arrival on home, to your account, from another one if it is a local, of the price.
- * PLACES      A validator holds MOATBETONY_CAPACITY passed records of a ledger, and then refuses every further one with 41: no record
- *             makes room again. Ask moatbetony_pair_places_left or moatbetony_home_places_left, so that you see 41 coming and stop
- *             taking records, or have the networks make a new opening, while there are places left.
+ * PLACES      A validator holds MOATBETONY_CAPACITY passed records of a ledger, and then passes no further one (41): no record makes
+ *             room again. Ask moatbetony_pair_places_left or moatbetony_home_places_left, so that you see 41 coming: warn while there is
+ *             time for the networks to make a new opening, and close the desk with no place left.
  * STATES      are plain numbers, passed and handed back by value. A call neither keeps nor alters the caller's copy: go on with
  *             `outcome.state`, or use the helpers at the end, which store it back. A refused call hands the state back as it came, and
  *             a refused write leaves the output as it came.
@@ -292,7 +292,8 @@ typedef struct moatbetony_digest {
 
 /* ## Version */
 
-/* The library's version: major * 10,000 + minor * 100 + patch. Equal to MOATBETONY_VERSION if library and header belong together. */
+/* The library's version: major * 10,000 + minor * 100 + patch. Equal to MOATBETONY_VERSION if library and header belong together:
+   compare them once, before the first call. A library older than 0.2.0 fills no `passed` in. */
 uint32_t moatbetony_version(void);
 
 /* The library's layout of the two states. Store it with a state, and take a state up only if it is the same. */

@@ -139,7 +139,8 @@ pub record PlacesLeftAfter (homes fars : List ℕ) (ds : List Call) : Type 0 whe
   -- they are told
   pub told : placesLeft (stateOfRun homes fars ds) .answer ≡ answer 0 0
   -- with the passed records of a ledger they make the capacity
-  pub with-passed : (l : Ledger) → leftOn l (placesLeft (stateOfRun homes fars ds)) + length (recordsOn l (passedOfRun homes fars ds)) ≡ capacity
+  pub with-passed : (l : Ledger)
+      → leftOn l (placesLeft (stateOfRun homes fars ds)) + length (recordsOn l (passedOfRun homes fars ds)) ≡ capacity
 
 -- at every accepted opening and after every list of calls, the places left on a ledger are the capacity less its passed records
 unfoldable pub PlacesLeft : Type 0

@@ -24,7 +24,8 @@ tell-requires c κs = search needs
 returns : tie.Need-returns
 returns c =
     let c2 = c .before .before in
-    record-unread (c .tell .ensures ∙ ap told (c .before .new .ensures)) (sym (c2 .before .before .read .ensures) ∙ c2 .enum-told .given .1)
+    record-unread (c .tell .ensures ∙ ap told (c .before .new .ensures))
+    (sym (c2 .before .before .read .ensures) ∙ c2 .enum-told .given .1)
 
 tell-record-requires : tie.Need-tell-record-requires
 tell-record-requires c κs = search needs
