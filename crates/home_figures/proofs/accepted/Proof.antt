@@ -54,7 +54,7 @@ sized-at c =
 returns : tie.Need-returns
 returns c =
     let a = c .before .before in
-    a .is-accepted .ensures .0 ∙ accepts-home-is (homeTablesOf (stateAt a)) (sized-at a)
+    (a .is-accepted .ensures .0 ∙ accepts-home-is (homeTablesOf (stateAt a)) (sized-at a), sized-at a)
 
 pub accepted-spec : {M : Type 1} → statement M
 accepted-spec =
