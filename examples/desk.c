@@ -188,8 +188,9 @@ static void serve_customers(const char *path, moatbetony_home_t *state)
     memcpy(list + 32, payment(10, 500), 32);
     list[24] = list[32 + 24] = MOATBETONY_SIGNATURE_GOOD;
     answer = moatbetony_home_take_list(state, list, sizeof list);
-    printf("a list of 10 and 500: refused with %u at record %llu, nothing of it is kept\n", (unsigned)answer.number,
-        (unsigned long long)answer.place);
+    if (!answer.passed)
+        printf("a list of 10 and 500: refused with %u at record %llu, nothing of it is kept\n", (unsigned)answer.number,
+            (unsigned long long)answer.place);
 }
 
 /* ## A ledger that fills up */

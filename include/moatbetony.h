@@ -6,7 +6,7 @@
  * refusal with its number and place. Hand nothing over on a refusal, and on passed only what the record pays for:
  *
  *     moatbetony_home_outcome_t opened = moatbetony_home_open(home_balances, home_accounts, far_accounts, far_total);
- *     moatbetony_home_t state = opened.state;                                       (after opened.answer was looked at)
+ *     moatbetony_home_t state = opened.state;                                       (after opened.answer.passed was tested)
  *     record[24] = signature_good;                                                  (1 or 0, of your own check: SIGNATURES)
  *     moatbetony_answer_t answer = moatbetony_home_take(&state, record, 32);
  *     if (answer.passed) ...                                                        (store the state, then see whom it pays: PASSED)
@@ -437,11 +437,11 @@ MOATBETONY_MUST_USE static inline moatbetony_answer_t moatbetony_home_take_list(
     return outcome.answer;
 }
 
-/* A short text for the number of an answer that a call gave, never NULL. */
+/* A short text for an answer's number, never NULL. That of 0 does not say that the call passed: `passed` alone does. */
 static inline const char *moatbetony_refusal_text(uint32_t number)
 {
     switch (number) {
-    case MOATBETONY_PASSED: return "passed";
+    case MOATBETONY_PASSED: return "no refusal";
     case MOATBETONY_REFUSED_ACCOUNT_COUNT: return "account count outside 1 to 56";
     case MOATBETONY_REFUSED_SUPPLY: return "opening balances above 2^63-1 in all";
     case MOATBETONY_REFUSED_STATE: return "state damaged, altered or never opened";

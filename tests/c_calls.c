@@ -151,7 +151,7 @@ static void versions(void)
         for (j = 0; j < i; j++)
             CHECK(strcmp(moatbetony_refusal_text(known[i]), moatbetony_refusal_text(known[j])) != 0);
     }
-    CHECK(strcmp(moatbetony_refusal_text(0), "passed") == 0);
+    CHECK(strcmp(moatbetony_refusal_text(0), "no refusal") == 0);
     CHECK(strcmp(moatbetony_refusal_text(0xffffffff), moatbetony_refusal_text(5)) == 0);
 }
 
