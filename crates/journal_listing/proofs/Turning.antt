@@ -70,12 +70,13 @@ same-standing p q e f k = cc
 
 -- the chunk that was read, its text, and the run that stands after it
 pub turned-by : (p : Standing PairValidator) (input out : List ℕ) (n e : ℕ) (w g : Bool) (run r : Run) (s : PairValidator)
-    → n ≤ length input → take e out ≡ chunkText p (take n input) → StandsAt run (afterChunk p (take n input))
+    → n ≤ length input → e ≤ length out → take e out ≡ chunkText p (take n input) → StandsAt run (afterChunk p (take n input))
     → s ≡ afterChunk p (take n input) .state → g ≡ goesOn w n (run .going) → r ≡ resumedRun run g
     → Turned p input out (record { run = r; read = n; text = e; written = w }) s
-turned-by p input out n e w g run r s fits text a state q d =
+turned-by p input out n e w g run r s fits room text a state q d =
     record {
       read-fits = fits;
+      text-fits = room;
       text-is = text;
       stands =
           same-standing state (ap (λ (x : Run). x .index) d ∙ a .index-is) (ap (λ (x : Run). x .block) d ∙ a .block-is)
@@ -92,11 +93,12 @@ turned-by p input out n e w g run r s fits text a state q d =
 abbrev pub numberAfter : ℕ
 numberAfter = 2 + chunkBlocks * mostChunks
 
--- a turn more
+-- a turn more, after which the listing goes on
 pub reached-next : {p q : Standing PairValidator} {input out : List ℕ} {t : TurnResult} {s : PairValidator} → Reached p q
-    → q .going ≡ true → length input ≡ chunkSize → Turned q input out t s → Reached p (standing (t .run) s)
-reached-next {p} {q} {input} {out} {t} {s} r g l d =
-    rw (d .stands) (turned r g (take (t .read) input) (omega (arith, length-take (t .read) input, l)) (t .written))
+    → Turned q input out t s → t .run .going ≡ true → Reached p (standing (t .run) s)
+reached-next {p} {q} {input} {out} {t} {s} r d g =
+    rw (d .stands)
+    (turned r (take (t .read) input) (t .written) (sym (ap (λ (x : Standing PairValidator). x .going) (d .stands)) ∙ g))
 
 -- a turn after which the listing goes on leaves as many turns as there are chunks of block numbers left
 pub numbers-next : {q : Standing PairValidator} {input out : List ℕ} {t : TurnResult} {s : PairValidator} (turns : ℕ) → 0 < turns
@@ -124,8 +126,12 @@ module _ (run : Run) (before : ℕ) (e : run ≡ firstRun before) where
   first-bounded = rw e (record { records = omega arith; block-fits = omega arith; index-fits = omega arith })
 
   -- the first turn is made from the opening
-  pub first-reached : (s : PairValidator) → Reached (opened s before) (standing run s)
-  first-reached s = rw e here
+  pub first-reached : (s : PairValidator) → run .going ≡ true → Reached (opened s before) (standing run s)
+  first-reached s g = rw e here
+
+  -- where the listing goes on
+  pub first-goes : {A : Type 0} → run .going ≡ false → A
+  first-goes g = absurd (never-both-tests (sym (ap (λ (x : Run). x .going) e) ∙ g))
 
   -- with all turns left
   pub first-numbers : run .going ≡ true → run .block + chunkBlocks * mostChunks ≡ numberAfter

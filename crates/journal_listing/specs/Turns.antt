@@ -1,7 +1,8 @@
--- The turns of the program's loop over a journal: what a turn leaves, and what is left once the loop has ended. A turn's bytes are
--- those that the system handed it, and whether its text was written is what the system said. For inner functions only. Assumes nothing.
+-- The turns of the program's loop over a journal: what a turn leaves, and what is left once the loop has ended. A contract cannot say what
+-- the system read or wrote: how many bytes a turn read, and whether its text was written, is what it tells of itself. For inner functions
+-- only. Assumes nothing.
 use Prim.Native.Nat.{_≤_, ℕ}
-use mathlib.Core.Bool.{Bool, true}
+use mathlib.Core.Bool.{Bool, false, true}
 use mathlib.Core.List.{List, [], _∷_}
 use mathlib.Core.Path.{_≡_}
 use lib.Dec.{eqb}
@@ -37,15 +38,23 @@ afterTurn p chunk written =
       going = goesOn written (length chunk) (afterChunk p chunk .going);
     }
 
--- a turn from where p stands: the bytes that it read are the chunk, the text that it handed on is the chunk's, and it leaves the run
--- and the state s where the listing stands then
+-- a turn from where p stands, as it tells of itself: what it says it read is the chunk, the text that it says it handed on is the chunk's,
+-- and by these and by what it says of the write it leaves the run and the state s where the listing stands then
 pub record Turned (p : Standing PairValidator) (input out : List ℕ) (t : TurnResult) (s : PairValidator) : Type 0 where
   pub read-fits : t .read ≤ length input
+  pub text-fits : t .text ≤ length out
   pub text-is : take (t .text) out ≡ chunkText p (take (t .read) input)
   pub stands : standing (t .run) s ≡ afterTurn p (take (t .read) input) (t .written)
 
--- q is reached from p by turns, each made where the listing goes on
+-- q is reached from p by turns after each of which the listing goes on: each with a full chunk, written, and no bad block
 pub data Reached (p : Standing PairValidator) : Standing PairValidator → Type 0 where
   here : Reached p p
-  turned : {q : Standing PairValidator} → Reached p q → q .going ≡ true → (chunk : List ℕ) → length chunk ≤ chunkSize → (written : Bool)
+  turned : {q : Standing PairValidator} → Reached p q → (chunk : List ℕ) (written : Bool) → afterTurn q chunk written .going ≡ true
       → Reached p (afterTurn q chunk written)
+
+-- the last turn from p: made where the listing still went on, and by what it tells of itself it does not go on
+pub record Ended (p : Standing PairValidator) (input out : List ℕ) (t : TurnResult) (s : PairValidator) : Type 0 where
+  pub from : Standing PairValidator
+  pub reached : Reached p from
+  pub last : Turned from input out t s
+  pub stops : t .run .going ≡ false

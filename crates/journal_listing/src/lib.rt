@@ -1,12 +1,11 @@
 // Lists a journal: reads it from one file and prints its lines to another, in chunks of 64 blocks. That the chunks' texts are the
 // listing is proved (crates listing, opening_listing, block_listing), and so is what a turn makes of the bytes that it was handed and that
-// the turns end where the journal does. Which file is read and which is written is read off the code here (docs/DECISIONS.md, 47).
-ghost use mathlib.Core.Bool.{false};
+// the last turn is one after which the listing does not go on. What is read and written is read off the code (docs/DECISIONS.md, 47).
 ghost use mathlib.Core.Path.{_≡_};
 ghost use lib.ListN.{length};
 ghost use Rattle.block_listing.specs.Runs.{Bounded, standing};
 ghost use Rattle.hex_digits.specs.Hex.{pairTable};
-ghost use Rattle.journal_listing.specs.Turns.{Reached, Turned, firstRun, goesOn, resumedRun};
+ghost use Rattle.journal_listing.specs.Turns.{Ended, Turned, firstRun, goesOn, resumedRun};
 ghost use Rattle.listing.specs.Chunks.{chunkRoom, chunkSize};
 ghost use Rattle.listing.specs.Listing.{opened};
 ghost use Rattle.pair_steps.specs.Steps.{Ready, lent};
@@ -67,8 +66,7 @@ fn resumed(run: Run, going: bool) -> Run
     }
 }
 
-// Whether the listing goes on after a chunk: its text was written, it was full and had no bad block. So what is printed is always a
-// beginning of the listing.
+// Whether the listing goes on after a chunk: its text was written, it was full and had no bad block.
 fn goes_on(written: bool, n: usize, going: bool) -> bool
     ensures { λ r. ⌜ r ≡ goesOn written n going ⌝ }
 {
@@ -149,8 +147,8 @@ fn turn<'a>(
     }
 }
 
-// The blocks after an accepted opening, chunk by chunk, up to a bad block, the end of the journal or a text that could not be written. As
-// many turns as there are chunks get there from every journal.
+// The blocks after an accepted opening, chunk by chunk, up to a bad block, the end of the journal or a text that could not be written:
+// the last turn. As many turns as there are chunks get there from every journal.
 fn list_rest<'a>(
     source: i32,
     target: i32,
@@ -172,24 +170,29 @@ fn list_rest<'a>(
     verdicts: &'a mut [u8],
     heads: &'a mut [u16],
     nexts: &'a mut [u16],
-) -> Run
+) -> TurnResult
     requires { ⌜ (length (now input) ≡ chunkSize) × (length (now out) ≡ chunkRoom)
         × (now digits ≡ pairTable) × Ready (lent supply (now accounts) (now counts) (now balances) (now numbers) (now amounts)
         (now senders) (now receivers) (now kinds) (now ledgers) (now verdicts)) (now figures) (now heads) (now nexts) ⌝ }
-    ensures ends { λ r. ⌜ r .going ≡ false ⌝ }
-    ensures reached { λ r. ⌜ Reached (opened (lent supply (now (accounts .entry)) (now (counts .entry))
+    ensures { λ r. ⌜ Ended (opened (lent supply (now (accounts .entry)) (now (counts .entry))
         (now (balances .entry)) (now (numbers .entry)) (now (amounts .entry)) (now (senders .entry)) (now (receivers .entry))
-        (now (kinds .entry)) (now (ledgers .entry)) (now (verdicts .entry))) before) (standing r (lent supply
+        (now (kinds .entry)) (now (ledgers .entry)) (now (verdicts .entry))) before) (now (input .exit)) (now (out .exit)) r (lent supply
         (now (accounts .entry)) (now (counts .exit)) (now (balances .exit)) (now (numbers .exit)) (now (amounts .exit))
-        (now (senders .exit)) (now (receivers .exit)) (now (kinds .exit)) (now (ledgers .exit)) (now (verdicts .exit)))) ⌝ }
+        (now (senders .exit)) (now (receivers .exit)) (now (kinds .exit)) (now (ledgers .exit)) (now (verdicts .exit))) ⌝ }
 {
-    let mut run = first_run(before);
+    let mut last = TurnResult {
+        run: first_run(before),
+        read: 0,
+        text: 0,
+        written: true,
+    };
     let mut turns = CHUNKS;
     while 0 < turns {
+        let run = last.run;
         if !run.going {
-            return run;
+            return last;
         }
-        let t = turn(
+        last = turn(
             source,
             target,
             run,
@@ -211,10 +214,9 @@ fn list_rest<'a>(
             heads,
             nexts,
         );
-        run = t.run;
         turns -= 1;
     }
-    run
+    last
 }
 
 // The listing of the journal in the file `source`, to the file `target` (descriptors). Not published, and without an `ensures`: a

@@ -1,6 +1,6 @@
 -- `journal_listing::list_rest` meets its contract. Assumes nothing.
 use Prim.Native.Nat.{_*_, _+_}
-use mathlib.Core.Bool.{true}
+use mathlib.Core.Bool.{false, true}
 use mathlib.Core.Path.{_∙_, _≡_, ap, sym}
 use native.Mathlib.Omega.{arith}
 use lib.ListN.{length}
@@ -9,30 +9,32 @@ use borrow.Author.Tests.{not-false, not-true}
 use Rattle.block_listing.proofs.Records.{three-figures}
 use Rattle.block_listing.specs.Runs.{Bounded, standing}
 use Rattle.block_listing.specs.declared.Run.{Run}
-use Rattle.journal_listing.proofs.Turning.{first-bounded, first-numbers, first-reached, numberAfter, numbers-next, reached-next}
-use Rattle.journal_listing.proofs.Turning.{turns-end}
-use Rattle.journal_listing.specs.Turns.{Reached}
+use Rattle.journal_listing.proofs.Turning.{first-bounded, first-goes, first-numbers, first-reached, numberAfter, numbers-next}
+use Rattle.journal_listing.proofs.Turning.{reached-next, turns-end}
+use Rattle.journal_listing.specs.Turns.{Ended, Reached}
 use Rattle.listing.specs.Listing.{opened}
 use Rattle.pair_steps.specs.Steps.{Ready, lent}
 use Rattle.journal_listing.proofs.list_rest.Statement.{statement}
 use Rattle.journal_listing.proofs.list_rest.Tie as tie
 
--- the turns made so far led from the opening to where the run stands, and while it goes on the turns left are those of the block
--- numbers left
+-- while the listing goes on, the turns made so far led from the opening to where it stands, and the turns left are those of the
+-- block numbers left; where it does not go on, the turn made last is the last
 abbrev Inv-loop : tie.InvT-loop
 Inv-loop source target before input₀ digits out₀ supply figures₀ accounts counts₀ balances₀ numbers₀ amounts₀ senders₀ receivers₀
-    kinds₀ ledgers₀ verdicts₀ heads₀ nexts₀ run₀ turns₀ input out figures counts balances numbers amounts senders receivers kinds
-    ledgers verdicts heads nexts run turns =
-    Bounded run × (run .end ≡ 0) × (length input ≡ 64 * 512) × (length out ≡ 64 * (14 * 128)) × Ready (lent supply accounts counts
-    balances numbers amounts senders receivers kinds ledgers verdicts) figures heads nexts × Reached (opened (lent supply accounts
-    counts₀ balances₀ numbers₀ amounts₀ senders₀ receivers₀ kinds₀ ledgers₀ verdicts₀) before) (standing run (lent supply accounts
-    counts balances numbers amounts senders receivers kinds ledgers verdicts)) × (run .going ≡ true → run .block + 64 * turns ≡
-    numberAfter)
+    kinds₀ ledgers₀ verdicts₀ heads₀ nexts₀ last₀ turns₀ input out figures counts balances numbers amounts senders receivers kinds
+    ledgers verdicts heads nexts last turns =
+    Bounded (last .run) × (last .run .end ≡ 0) × (length input ≡ 64 * 512) × (length out ≡ 64 * (14 * 128)) × Ready (lent supply
+    accounts counts balances numbers amounts senders receivers kinds ledgers verdicts) figures heads nexts × (last .run .going ≡ true →
+    Reached (opened (lent supply accounts counts₀ balances₀ numbers₀ amounts₀ senders₀ receivers₀ kinds₀ ledgers₀ verdicts₀) before)
+    (standing (last .run) (lent supply accounts counts balances numbers amounts senders receivers kinds ledgers verdicts))) × (last
+    .run .going ≡ true → last .run .block + 64 * turns ≡ numberAfter) × (last .run .going ≡ false → Ended (opened (lent supply accounts
+    counts₀ balances₀ numbers₀ amounts₀ senders₀ receivers₀ kinds₀ ledgers₀ verdicts₀) before) input out last (lent supply accounts
+    counts balances numbers amounts senders receivers kinds ledgers verdicts))
 
 abbrev μ-loop : tie.MeasureT-loop
 μ-loop source target before input₀ digits out₀ supply figures₀ accounts counts₀ balances₀ numbers₀ amounts₀ senders₀ receivers₀ kinds₀
-    ledgers₀ verdicts₀ heads₀ nexts₀ run₀ turns₀ input out figures counts balances numbers amounts senders receivers kinds ledgers
-    verdicts heads nexts run turns =
+    ledgers₀ verdicts₀ heads₀ nexts₀ last₀ turns₀ input out figures counts balances numbers amounts senders receivers kinds ledgers
+    verdicts heads nexts last turns =
     turns
 
 first-run-requires : tie.Need-first-run-requires Inv-loop μ-loop
@@ -66,82 +68,99 @@ loop-holds c =
     let c16 = c .before .before .before .before .before .before .before .before .before .before .before .before .before .before .before
     .before in
     let r = c .first-run .result in
-    let e = c .first-run .ensures in
-    (first-bounded r _ e, ap (λ (x : Run). x .end) e, c16 .pre .0, c16 .pre .1, ready-at c, first-reached r _ e _, first-numbers r _ e)
+    let e = c .first-run .ensures in (
+      first-bounded r _ e,
+      ap (λ (x : Run). x .end) e,
+      c16 .pre .0,
+      c16 .pre .1,
+      ready-at c,
+      first-reached r _ e _,
+      first-numbers r _ e,
+      first-goes r _ e,
+    )
 
 same-length : tie.Need-same-length Inv-loop μ-loop
 same-length c =
     let o = c .before .before .before .before .before .before .before .before .before .before .before .before .before .before .before
-    .before .before .before .before .before in
-    c .before .before .before .loop .inv .2 ∙ sym (o .pre .0)
+    .before .before .before .before .before .before in
+    c .before .before .before .before .loop .inv .2 ∙ sym (o .pre .0)
 
 same-length-2 : tie.Need-same-length-2 Inv-loop μ-loop
 same-length-2 c =
     let o = c .before .before .before .before .before .before .before .before .before .before .before .before .before .before .before
-    .before .before .before .before .before in
-    c .before .before .before .loop .inv .3 ∙ sym (o .pre .1)
+    .before .before .before .before .before .before in
+    c .before .before .before .before .loop .inv .3 ∙ sym (o .pre .1)
 
 same-length-3 : tie.Need-same-length-3 Inv-loop μ-loop
 same-length-3 c =
-    three-figures _ (c .before .before .before .loop .inv .4) ∙ sym (three-figures _ (ready-at (c .before .before .before .before)))
+    three-figures _ (c .before .before .before .before .loop .inv .4) ∙ sym (three-figures _ (ready-at (c .before .before .before
+    .before .before)))
 
 same-length-4 : tie.Need-same-length-4 Inv-loop μ-loop
 same-length-4 c =
-    c .before .before .before .loop .inv .4 .sized .counts-are ∙ sym (ready-at (c .before .before .before .before) .sized .counts-are)
+    c .before .before .before .before .loop .inv .4 .sized .counts-are ∙ sym (ready-at (c .before .before .before .before .before)
+    .sized .counts-are)
 
 same-length-5 : tie.Need-same-length-5 Inv-loop μ-loop
 same-length-5 c =
-    c .before .before .before .loop .inv .4 .sized .balances-are ∙ sym (ready-at (c .before .before .before .before) .sized
-    .balances-are)
+    c .before .before .before .before .loop .inv .4 .sized .balances-are ∙ sym (ready-at (c .before .before .before .before .before)
+    .sized .balances-are)
 
 same-length-6 : tie.Need-same-length-6 Inv-loop μ-loop
 same-length-6 c =
-    c .before .before .before .loop .inv .4 .sized .numbers-are ∙ sym (ready-at (c .before .before .before .before) .sized .numbers-are)
+    c .before .before .before .before .loop .inv .4 .sized .numbers-are ∙ sym (ready-at (c .before .before .before .before .before)
+    .sized .numbers-are)
 
 same-length-7 : tie.Need-same-length-7 Inv-loop μ-loop
 same-length-7 c =
-    c .before .before .before .loop .inv .4 .sized .amounts-are ∙ sym (ready-at (c .before .before .before .before) .sized .amounts-are)
+    c .before .before .before .before .loop .inv .4 .sized .amounts-are ∙ sym (ready-at (c .before .before .before .before .before)
+    .sized .amounts-are)
 
 same-length-8 : tie.Need-same-length-8 Inv-loop μ-loop
 same-length-8 c =
-    c .before .before .before .loop .inv .4 .sized .senders-are ∙ sym (ready-at (c .before .before .before .before) .sized .senders-are)
+    c .before .before .before .before .loop .inv .4 .sized .senders-are ∙ sym (ready-at (c .before .before .before .before .before)
+    .sized .senders-are)
 
 same-length-9 : tie.Need-same-length-9 Inv-loop μ-loop
 same-length-9 c =
-    c .before .before .before .loop .inv .4 .sized .receivers-are ∙ sym (ready-at (c .before .before .before .before) .sized
-    .receivers-are)
+    c .before .before .before .before .loop .inv .4 .sized .receivers-are ∙ sym (ready-at (c .before .before .before .before .before)
+    .sized .receivers-are)
 
 same-length-10 : tie.Need-same-length-10 Inv-loop μ-loop
 same-length-10 c =
-    c .before .before .before .loop .inv .4 .sized .kinds-are ∙ sym (ready-at (c .before .before .before .before) .sized .kinds-are)
+    c .before .before .before .before .loop .inv .4 .sized .kinds-are ∙ sym (ready-at (c .before .before .before .before .before)
+    .sized .kinds-are)
 
 same-length-11 : tie.Need-same-length-11 Inv-loop μ-loop
 same-length-11 c =
-    c .before .before .before .loop .inv .4 .sized .ledgers-are ∙ sym (ready-at (c .before .before .before .before) .sized .ledgers-are)
+    c .before .before .before .before .loop .inv .4 .sized .ledgers-are ∙ sym (ready-at (c .before .before .before .before .before)
+    .sized .ledgers-are)
 
 same-length-12 : tie.Need-same-length-12 Inv-loop μ-loop
 same-length-12 c =
-    c .before .before .before .loop .inv .4 .sized .verdicts-are ∙ sym (ready-at (c .before .before .before .before) .sized
-    .verdicts-are)
+    c .before .before .before .before .loop .inv .4 .sized .verdicts-are ∙ sym (ready-at (c .before .before .before .before .before)
+    .sized .verdicts-are)
 
 same-length-13 : tie.Need-same-length-13 Inv-loop μ-loop
 same-length-13 c =
-    c .before .before .before .loop .inv .4 .indexes .heads-are ∙ sym (ready-at (c .before .before .before .before) .indexes .heads-are)
+    c .before .before .before .before .loop .inv .4 .indexes .heads-are ∙ sym (ready-at (c .before .before .before .before .before)
+    .indexes .heads-are)
 
 same-length-14 : tie.Need-same-length-14 Inv-loop μ-loop
 same-length-14 c =
-    c .before .before .before .loop .inv .4 .indexes .nexts-are ∙ sym (ready-at (c .before .before .before .before) .indexes .nexts-are)
+    c .before .before .before .before .loop .inv .4 .indexes .nexts-are ∙ sym (ready-at (c .before .before .before .before .before)
+    .indexes .nexts-are)
 
 returns : tie.Need-returns Inv-loop μ-loop
-returns c = (not-true _ (c .if1 .taken), c .before .before .before .loop .inv .5)
+returns c = c .before .before .before .before .loop .inv .7 (not-true _ (c .if1 .taken))
 
 turn-requires : tie.Need-turn-requires Inv-loop μ-loop
 turn-requires c κs =
-    let c17 = c .before .before .before .before .before .before .before .before .before .before .before .before .before .before .before
-    .before .before in
-    let c34 = c17 .before .before .before .before .before .before .before .before .before .before .before .before .before .before
+    let c18 = c .before .before .before .before .before .before .before .before .before .before .before .before .before .before .before
     .before .before .before in
-    (c17 .loop .inv .0, c17 .loop .inv .1, c17 .loop .inv .2, c17 .loop .inv .3, c34 .pre .2, c17 .loop .inv .4)
+    let c35 = c18 .before .before .before .before .before .before .before .before .before .before .before .before .before .before
+    .before .before .before in
+    (c18 .loop .inv .0, c18 .loop .inv .1, c18 .loop .inv .2, c18 .loop .inv .3, c35 .pre .2, c18 .loop .inv .4)
 
 sub-turns : tie.Need-sub-turns Inv-loop μ-loop
 sub-turns c =
@@ -159,24 +178,25 @@ loop-less c =
 
 loop-again : tie.Need-loop-again Inv-loop μ-loop
 loop-again c =
-    let c26 = c .before .before .before .before .before .before .before .before .before .before .before .before .before .before .before
-    .before .before .before .before .before .before .before .before .before .before .before in
-    let c28 = c26 .before .before in
-    let c29 = c28 .before in
-    let c44 = c29 .before .before .before .before .before .before .before .before .before .before .before .before .before .before
+    let c25 = c .before .before .before .before .before .before .before .before .before .before .before .before .before .before .before
+    .before .before .before .before .before .before .before .before .before .before in
+    let c27 = c25 .before .before in
+    let c28 = c27 .before in
+    let c43 = c28 .before .before .before .before .before .before .before .before .before .before .before .before .before .before
     .before in
-    let c46 = c44 .before .before in
+    let c46 = c43 .before .before .before in
     let c47 = c46 .before in
-    let e = c29 .turn .ensures in
-    let l = c28 .input .given ∙ c47 .loop .inv .2 in
-    let g = not-false _ (c44 .if1 .left) in (
+    let e = c28 .turn .ensures in
+    let g = not-false _ (c43 .if1 .left) in
+    let r = c47 .loop .inv .5 g in (
       e .0 .0,
       e .0 .1,
-      l,
-      c26 .out .given ∙ c47 .loop .inv .3,
+      c27 .input .given ∙ c47 .loop .inv .2,
+      c25 .out .given ∙ c47 .loop .inv .3,
       e .0 .2,
-      reached-next (c47 .loop .inv .5) g l (e .1),
+      reached-next r (e .1),
       numbers-next (c47 .loop .turns) (c46 .loop-test .taken) (e .1) (c47 .loop .inv .6 g),
+      λ h. record { from = _; reached = r; last = e .1; stops = h },
     )
 
 same-length-15 : tie.Need-same-length-15 Inv-loop μ-loop
@@ -241,11 +261,12 @@ same-length-28 c =
 
 returns-2 : tie.Need-returns-2 Inv-loop μ-loop
 returns-2 c =
-    let c1 = c .before in (
-      turns-end (c1 .loop .run) (c1 .loop .turns) (c1 .loop .inv .0) (c1 .loop .inv .6) (omega (arith, c .loop-test .left)),
-      c1 .loop
-          .inv .5,
-    )
+    let c1 = c .before in
+    c1 .loop .inv .7 (turns-end (c1 .loop .last .run) (c1 .loop .turns) (c1 .loop .inv .0) (c1 .loop .inv .6) (omega (
+      arith,
+      c
+          .loop-test .left,
+    )))
 
 pub list-rest-spec : {M : Type 1} → statement M
 list-rest-spec =
