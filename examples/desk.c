@@ -1,5 +1,6 @@
 /* A paying desk that sees the home ledger alone. It takes records one by one, hands goods over where a record passed and pays the desk,
-   says why not otherwise, keeps its state in a file and takes it up again, and closes when the ledger has no place left.
+   says why not otherwise, keeps its state in a file and takes it up again, warns when the ledger has few places left, and closes when it
+   has none.
 
        cc desk.c $(pkg-config --cflags --libs moatbetony) -o desk && ./desk STATE_FILE
 
@@ -20,7 +21,7 @@
 
 enum { VERSION_SIZE = 4, STATE_SIZE = sizeof(moatbetony_home_t), SEALED_SIZE = VERSION_SIZE + STATE_SIZE };
 enum { FILE_SIZE = SEALED_SIZE + MOATBETONY_DIGEST_SIZE };
-enum { OURS = 1, PRICE = 30 }; /* the desk's account, and what its goods cost */
+enum { OURS = 1, PRICE = 30, FEW_PLACES = 50 }; /* the desk's account, what its goods cost, and below how many places it warns */
 
 static void must(int holds, const char *what)
 {
@@ -106,13 +107,18 @@ static int take_up(const char *path, moatbetony_home_t *state)
 
 /* ## The desk */
 
+static void print_refused(const char *label, moatbetony_answer_t answer)
+{
+    printf("%s: refused with %u, %s\n", label, (unsigned)answer.number, moatbetony_refusal_text(answer.number));
+}
+
 static void print_figures(const char *label, const moatbetony_home_t *state)
 {
     moatbetony_home_figures_t figures = moatbetony_home_figures(*state);
     if (figures.answer.passed)
         printf("%s: home %llu, far pool %llu\n", label, (unsigned long long)figures.home, (unsigned long long)figures.pool);
     else
-        printf("%s: refused with %u, %s\n", label, (unsigned)figures.answer.number, moatbetony_refusal_text(figures.answer.number));
+        print_refused(label, figures.answer);
 }
 
 /* Whether a record that passed pays the desk the price. One account paying itself, or somebody else, passes too. */
@@ -124,14 +130,36 @@ static int pays_us(const uint8_t *bytes)
         record.amount >= PRICE;
 }
 
-/* Takes the bytes that came over the wire, beside what the host's own check of their signature found. That finding goes into byte 24,
-   over what the sender wrote there. Bytes that are not as long as a record are refused as they are. The state is stored before goods
-   are handed over, so that a desk that is started again refuses the same record. */
+/* Whether the ledger has a place for a customer's record; if not, says why. With none left the desk is closed: no record makes room again,
+   and the networks make a new opening together, which takes time. So it warns before. A state that is refused has 0 beside its answer,
+   which says nothing of the ledger: the answer comes first. */
+static int is_open(const moatbetony_home_t *state, const char *label)
+{
+    moatbetony_home_places_t places = moatbetony_home_places_left(*state);
+    if (!places.answer.passed) {
+        print_refused(label, places.answer);
+        return 0;
+    }
+    if (places.home == 0) {
+        printf("%s: no place left, closed until the networks make a new opening\n", label);
+        return 0;
+    }
+    if (places.home < FEW_PLACES)
+        printf("warning: places left: %llu of %d, a new opening is due\n", (unsigned long long)places.home, MOATBETONY_CAPACITY);
+    return 1;
+}
+
+/* Every customer comes here. Looks whether the desk is open, and takes the bytes that came over the wire, beside what the host's own
+   check of their signature found. That finding goes into byte 24, over what the sender wrote there. Bytes that are not as long as a
+   record are refused as they are. The state is stored before goods are handed over, so that a desk that is started again refuses the
+   same record. */
 static void serve(
     const char *path, moatbetony_home_t *state, const char *label, const uint8_t *bytes, size_t length, int signature_good)
 {
     uint8_t own[MOATBETONY_RECORD_SIZE];
     moatbetony_answer_t answer;
+    if (!is_open(state, label))
+        return;
     if (length == sizeof own) {
         memcpy(own, bytes, sizeof own);
         own[24] = signature_good ? MOATBETONY_SIGNATURE_GOOD : MOATBETONY_SIGNATURE_BAD;
@@ -139,11 +167,33 @@ static void serve(
     }
     answer = moatbetony_home_take(state, bytes, length);
     if (!answer.passed) {
-        printf("%s: refused with %u, %s\n", label, (unsigned)answer.number, moatbetony_refusal_text(answer.number));
+        print_refused(label, answer);
         return;
     }
     store(path, state);
     printf("%s: passed, %s\n", label, pays_us(bytes) ? "handed over" : "but does not pay us the price, nothing handed over");
+}
+
+/* So many records as one list, all or none, whose signatures the host found good. Stored like everything that passed, before anything
+   is said of it. */
+static void serve_list(const char *path, moatbetony_home_t *state, const char *label, uint8_t *list, uint64_t records)
+{
+    moatbetony_answer_t answer;
+    uint64_t i, paid = 0;
+    if (!is_open(state, label))
+        return;
+    for (i = 0; i < records; i++)
+        list[32 * i + 24] = MOATBETONY_SIGNATURE_GOOD;
+    answer = moatbetony_home_take_list(state, list, 32 * records);
+    if (!answer.passed) {
+        printf("%s: refused with %u at record %llu, nothing of it is kept\n", label, (unsigned)answer.number,
+            (unsigned long long)answer.place);
+        return;
+    }
+    store(path, state);
+    for (i = 0; i < records; i++)
+        paid += pays_us(list + 32 * i) ? 1 : 0;
+    printf("%s: passed, handed over for %llu of %llu\n", label, (unsigned long long)paid, (unsigned long long)records);
 }
 
 /* A record as its sender wrote it, who always says that the signature is good. */
@@ -165,7 +215,6 @@ static void serve_customers(const char *path, moatbetony_home_t *state)
     enum { LOCAL = MOATBETONY_LOCAL, SENDING = MOATBETONY_SENDING, ARRIVAL = MOATBETONY_ARRIVAL };
     enum { HOME = MOATBETONY_HOME, FAR_LEDGER = MOATBETONY_FAR };
     uint8_t list[2 * MOATBETONY_RECORD_SIZE];
-    moatbetony_answer_t answer;
 
     serve(path, state, "a payment of 30", payment(1, 30), 32, 1);
     serve(path, state, "the same record again", payment(1, 30), 32, 1);
@@ -183,48 +232,29 @@ static void serve_customers(const char *path, moatbetony_home_t *state)
     serve(path, state, "an arrival of 50, now in the far pool", wire(ARRIVAL, HOME, 0, OURS, 6, 50), 32, 1);
     serve(path, state, "an arrival of 1 more", wire(ARRIVAL, HOME, 0, OURS, 8, 1), 32, 1);
 
-    /* Two records that the host found good. */
     memcpy(list, payment(9, 10), 32);
     memcpy(list + 32, payment(10, 500), 32);
-    list[24] = list[32 + 24] = MOATBETONY_SIGNATURE_GOOD;
-    answer = moatbetony_home_take_list(state, list, sizeof list);
-    if (!answer.passed)
-        printf("a list of 10 and 500: refused with %u at record %llu, nothing of it is kept\n", (unsigned)answer.number,
-            (unsigned long long)answer.place);
+    serve_list(path, state, "a list of 10 and 500", list, 2);
 }
 
-/* ## A ledger that fills up */
-
-/* How many more records can pass. A state that is refused has no place. */
-static uint64_t places_left(const moatbetony_home_t *state)
-{
-    moatbetony_home_places_t places = moatbetony_home_places_left(*state);
-    return places.answer.passed ? places.home : 0;
-}
-
-/* Serves while there is a place left. With none the desk is closed: no record makes room again, and the networks make a new opening
-   together. A desk that does not look learns it from refusal 41, with the customer standing there. */
-static void serve_while_open(const char *path, moatbetony_home_t *state, const char *label, const uint8_t *bytes)
-{
-    if (places_left(state) == 0)
-        printf("%s: no place left, closed until the networks make a new opening\n", label);
-    else
-        serve(path, state, label, bytes, 32, 1);
-}
-
-/* As many records as there are places left, of our account to itself, as one list. */
+/* A day that fills the ledger: records of our account to itself on all places but one, as one list, and then two customers more. A desk
+   that did not look would learn from refusal 41 that the ledger is full, with the customer standing there. */
 static void busy_day(const char *path, moatbetony_home_t *state)
 {
     static uint8_t list[MOATBETONY_CAPACITY * MOATBETONY_RECORD_SIZE];
-    uint64_t places = places_left(state), i;
-    printf("places left: %llu of %d\n", (unsigned long long)places, MOATBETONY_CAPACITY);
-    for (i = 0; i < places; i++)
+    moatbetony_home_places_t places = moatbetony_home_places_left(*state);
+    moatbetony_answer_t answer;
+    uint64_t i;
+    must(places.answer.passed && places.home > 0, "no place left to fill");
+    printf("places left: %llu of %d\n", (unsigned long long)places.home, MOATBETONY_CAPACITY);
+    for (i = 0; i < places.home - 1; i++)
         memcpy(list + 32 * i, wire(MOATBETONY_LOCAL, MOATBETONY_HOME, OURS, OURS, 1000 + i, 1), 32);
-    must(moatbetony_home_take_list(state, list, 32 * places).passed, "the list was refused");
-    store(path, state);
-    printf("after as many records more: %llu of %d\n", (unsigned long long)places_left(state), MOATBETONY_CAPACITY);
-    serve_while_open(path, state, "a payment of 30, to a desk that looks", payment(2000, 30));
-    serve(path, state, "a payment of 30, to one that does not", payment(2000, 30), 32, 1);
+    serve_list(path, state, "a list of all but one", list, places.home - 1);
+    serve(path, state, "a payment of 30 at the last place", payment(2000, 30), 32, 1);
+    serve(path, state, "a payment of 1 after it", payment(2001, 1), 32, 1);
+    answer = moatbetony_home_take(state, payment(2001, 1), 32);
+    must(!answer.passed, "a full ledger took a record");
+    print_refused("the same, had nobody looked", answer);
 }
 
 /* ## Somebody else's hand on the stored state */

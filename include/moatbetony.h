@@ -5,6 +5,7 @@
  * sees the records of both in one order; the home validator (guard) sees those of home alone. Every call answers passed, or one
  * refusal with its number and place. Hand nothing over on a refusal, and on passed only what the record pays for:
  *
+ *     if (moatbetony_version() != MOATBETONY_VERSION) exit(1);                      (once: an older library fills no `passed` in)
  *     moatbetony_home_outcome_t opened = moatbetony_home_open(home_balances, home_accounts, far_accounts, far_total);
  *     moatbetony_home_t state = opened.state;                                       (after opened.answer.passed was tested)
  *     record[24] = signature_good;                                                  (1 or 0, of your own check: SIGNATURES)
@@ -24,11 +25,12 @@
  * PASSED      says that the record is in order and its credit has moved. Whether it pays you, and enough, you read with
  *             moatbetony_record_read: a local or an arrival on home, to your account, from another one if it is a local, of the price.
  * PLACES      A validator holds MOATBETONY_CAPACITY passed records of a ledger, and then passes no further one (41): no record makes
- *             room again. Ask moatbetony_pair_places_left or moatbetony_home_places_left, so that you see 41 coming: warn while there is
- *             time for the networks to make a new opening, and close the desk with no place left.
- * STATES      are plain numbers, passed and handed back by value. A call neither keeps nor alters the caller's copy: go on with
- *             `outcome.state`, or use the helpers at the end, which store it back. A refused call hands the state back as it came, and
- *             a refused write leaves the output as it came.
+ *             room again. Ask moatbetony_pair_places_left or moatbetony_home_places_left before each record, so that you see 41 coming:
+ *             warn while there is time for the networks to make a new opening, and close the desk with no place left. Beside a refused
+ *             state (3) stands 0 too: test the answer first.
+ * STATES      are plain numbers, passed and handed back by value. A call neither keeps nor alters the caller's copy: where it passed, go
+ *             on with `outcome.state`, or use the helpers at the end, which store it back there and nowhere else. A refused call hands
+ *             the state back as it came, and a refused write leaves the output as it came.
  * STORING     A stored state may be damaged or forged: every call judges its state first (refusal 3). 3 says that a state's numbers fit
  *             together, and no more. It does not see two balances exchanged, a balance raised together with the supply (home: or at the
  *             far pool's cost), held records left out, so that they pass again, or an older state put back. Keep the latest digest of a
@@ -129,9 +131,10 @@ enum moatbetony_block_kind {
     MOATBETONY_BLOCK_RECORDS = 3
 };
 
-/* An answer's number: the refusal (REFUSALS.md of the documentation), or 0 where it passed. Whether it passed is its field `passed`. */
+/* An answer's number: the refusal (REFUSALS.md of the documentation), or 0 where there is none. Whether the call passed is told by the
+   answer's field `passed`, which is 1 or 0 and no number of these. */
 enum moatbetony_refusal {
-    MOATBETONY_PASSED = 0,
+    MOATBETONY_NO_REFUSAL = 0,
     /* caused by the maker who calls */
     MOATBETONY_REFUSED_ACCOUNT_COUNT = 1,
     MOATBETONY_REFUSED_SUPPLY = 2,
@@ -324,7 +327,8 @@ MOATBETONY_MUST_USE moatbetony_pair_figures_t moatbetony_pair_figures(moatbetony
 /* The balance of an account of a ledger. Answers 3, then 22 where there is no such ledger or account, with balance 0. */
 MOATBETONY_MUST_USE moatbetony_balance_t moatbetony_pair_balance(moatbetony_pair_t state, uint8_t ledger, uint16_t account);
 
-/* The places left: how many more records of each ledger can pass before 41. Answers 3, with zeros. */
+/* The places left: how many more records of each ledger can pass before 41. Answers 3, with zeros, which say nothing of the ledgers:
+   test the answer first. */
 MOATBETONY_MUST_USE moatbetony_pair_places_t moatbetony_pair_places_left(moatbetony_pair_t state);
 
 /* ## The home validator
@@ -352,7 +356,8 @@ MOATBETONY_MUST_USE moatbetony_home_figures_t moatbetony_home_figures(moatbetony
 /* The balance of a home account. Answers 3, then 22 where there is no such account, with balance 0. */
 MOATBETONY_MUST_USE moatbetony_balance_t moatbetony_home_balance(moatbetony_home_t state, uint16_t account);
 
-/* The places left: how many more home records can pass before 41. Answers 3, with 0. */
+/* The places left: how many more home records can pass before 41. Answers 3, with 0, which says nothing of the ledger: test the answer
+   first. */
 MOATBETONY_MUST_USE moatbetony_home_places_t moatbetony_home_places_left(moatbetony_home_t state);
 
 /* ## Records */
@@ -399,14 +404,16 @@ MOATBETONY_MUST_USE moatbetony_answer_t moatbetony_block_write(
 MOATBETONY_MUST_USE moatbetony_digest_t moatbetony_sha256(const uint8_t *message, size_t message_len);
 
 /* ## Helpers in C, outside the proofs
-   They check records against a state behind a pointer, which must not be NULL, and store the state that comes back. */
+   They check records against a state behind a pointer, which must not be NULL. Where the answer passed they store the state that comes
+   back; every other answer leaves *state untouched. */
 
 /* One record: moatbetony_pair_check_record. */
 MOATBETONY_MUST_USE static inline moatbetony_answer_t moatbetony_pair_take(
     moatbetony_pair_t *state, const uint8_t *bytes, size_t bytes_len)
 {
     moatbetony_pair_outcome_t outcome = moatbetony_pair_check_record(*state, bytes, bytes_len);
-    *state = outcome.state;
+    if (outcome.answer.passed)
+        *state = outcome.state;
     return outcome.answer;
 }
 
@@ -415,7 +422,8 @@ MOATBETONY_MUST_USE static inline moatbetony_answer_t moatbetony_pair_take_list(
     moatbetony_pair_t *state, const uint8_t *bytes, size_t bytes_len)
 {
     moatbetony_pair_outcome_t outcome = moatbetony_pair_check_list(*state, bytes, bytes_len);
-    *state = outcome.state;
+    if (outcome.answer.passed)
+        *state = outcome.state;
     return outcome.answer;
 }
 
@@ -424,7 +432,8 @@ MOATBETONY_MUST_USE static inline moatbetony_answer_t moatbetony_home_take(
     moatbetony_home_t *state, const uint8_t *bytes, size_t bytes_len)
 {
     moatbetony_home_outcome_t outcome = moatbetony_home_check_record(*state, bytes, bytes_len);
-    *state = outcome.state;
+    if (outcome.answer.passed)
+        *state = outcome.state;
     return outcome.answer;
 }
 
@@ -433,7 +442,8 @@ MOATBETONY_MUST_USE static inline moatbetony_answer_t moatbetony_home_take_list(
     moatbetony_home_t *state, const uint8_t *bytes, size_t bytes_len)
 {
     moatbetony_home_outcome_t outcome = moatbetony_home_check_list(*state, bytes, bytes_len);
-    *state = outcome.state;
+    if (outcome.answer.passed)
+        *state = outcome.state;
     return outcome.answer;
 }
 
@@ -441,7 +451,7 @@ MOATBETONY_MUST_USE static inline moatbetony_answer_t moatbetony_home_take_list(
 static inline const char *moatbetony_refusal_text(uint32_t number)
 {
     switch (number) {
-    case MOATBETONY_PASSED: return "no refusal";
+    case MOATBETONY_NO_REFUSAL: return "no refusal";
     case MOATBETONY_REFUSED_ACCOUNT_COUNT: return "account count outside 1 to 56";
     case MOATBETONY_REFUSED_SUPPLY: return "opening balances above 2^63-1 in all";
     case MOATBETONY_REFUSED_STATE: return "state damaged, altered or never opened";

@@ -1,5 +1,6 @@
 //! A paying desk that sees the home ledger alone. It takes records one by one, hands goods over where a record passed and pays the
-//! desk, says why not otherwise, keeps its state in a file and takes it up again, and closes when the ledger has no place left.
+//! desk, says why not otherwise, keeps its state in a file and takes it up again, warns when the ledger has few places left, and closes
+//! when it has none.
 //!
 //!     cargo run --example desk STATE_FILE
 //!
@@ -10,7 +11,7 @@
 //! - Neither finds a forger who rewrites state and digest to fit, or who puts an older pair of them back. Keep the latest digest where
 //!   nobody else can write it.
 
-use moatbetony::{sha256, state_version, Answer, HomeValidator, Kind, Ledger, Record, CAPACITY};
+use moatbetony::{sha256, state_version, Answer, HomeValidator, Kind, Ledger, Record, Refusal, CAPACITY};
 use std::error::Error;
 use std::fs::{self, File};
 use std::io::Write;
@@ -18,9 +19,10 @@ use std::path::{Path, PathBuf};
 
 type Outcome<T> = Result<T, Box<dyn Error>>;
 
-// The desk's account, and what its goods cost.
+// The desk's account, what its goods cost, and below how many places it warns.
 const OURS: u16 = 1;
 const PRICE: u64 = 30;
+const FEW_PLACES: u64 = 50;
 
 // Where a state's count of held records and its balances stand in its bytes (include/moatbetony.h). Only somebody who alters a state
 // needs to know.
@@ -56,14 +58,35 @@ impl Desk {
     fn print_figures(&self, label: &str) {
         match self.validator.figures() {
             Ok(figures) => println!("{label}: home {}, far pool {}", figures.home, figures.pool),
-            Err(refusal) => println!("{label}: refused with {}, {refusal}", refusal.number()),
+            Err(refusal) => print_refused(label, refusal),
         }
     }
 
-    // Takes the bytes that came over the wire, beside what the host's own check of their signature found. That finding goes into byte
-    // 24, over what the sender wrote there. Bytes that are not as long as a record are refused as they are. The state is stored before
-    // goods are handed over, so that a desk that is started again refuses the same record.
+    // Whether the ledger has a place for a customer's record; if not, says why. With none left the desk is closed: no record makes room
+    // again, and the networks make a new opening together, which takes time. So it warns before. A state that is refused tells nothing
+    // of the ledger's places.
+    fn is_open(&self, label: &str) -> bool {
+        match self.validator.places_left() {
+            Err(refusal) => print_refused(label, refusal),
+            Ok(0) => println!("{label}: no place left, closed until the networks make a new opening"),
+            Ok(places) => {
+                if places < FEW_PLACES {
+                    println!("warning: places left: {places} of {CAPACITY}, a new opening is due");
+                }
+                return true;
+            }
+        }
+        false
+    }
+
+    // Every customer comes here. Looks whether the desk is open, and takes the bytes that came over the wire, beside what the host's
+    // own check of their signature found. That finding goes into byte 24, over what the sender wrote there. Bytes that are not as long
+    // as a record are refused as they are. The state is stored before goods are handed over, so that a desk that is started again
+    // refuses the same record.
     fn serve(&mut self, label: &str, came_in: &[u8], signature_good: bool) -> Outcome<()> {
+        if !self.is_open(label) {
+            return Ok(());
+        }
         let mut own = [0; Record::SIZE];
         let mut bytes = came_in;
         if came_in.len() == own.len() {
@@ -78,8 +101,31 @@ impl Desk {
                 let what = if paid { "handed over" } else { "but does not pay us the price, nothing handed over" };
                 println!("{label}: passed, {what}");
             }
-            Answer::Refused { refusal, .. } => {
-                println!("{label}: refused with {}, {refusal}", refusal.number())
+            Answer::Refused { refusal, .. } => print_refused(label, refusal),
+        }
+        Ok(())
+    }
+
+    // Records as one list, all or none, whose signatures the host found good. Stored like everything that passed, before anything is
+    // said of it.
+    fn serve_list(&mut self, label: &str, list: &mut [[u8; Record::SIZE]]) -> Outcome<()> {
+        if !self.is_open(label) {
+            return Ok(());
+        }
+        for record in &mut *list {
+            record[24] = 1;
+        }
+        match self.validator.check_list(&list.concat()) {
+            Answer::Passed => {
+                self.store()?;
+                let mut paid = 0;
+                for record in &*list {
+                    paid += u64::from(pays_us(&Record::read(record)?));
+                }
+                println!("{label}: passed, handed over for {paid} of {}", list.len());
+            }
+            Answer::Refused { refusal, place } => {
+                println!("{label}: refused with {} at record {place}, nothing of it is kept", refusal.number())
             }
         }
         Ok(())
@@ -103,49 +149,31 @@ impl Desk {
         self.serve("an arrival of 50, now in the far pool", &home(Kind::Arrival, 0, OURS, 6, 50)?, true)?;
         self.serve("an arrival of 1 more", &home(Kind::Arrival, 0, OURS, 8, 1)?, true)?;
 
-        // Two records that the host found good.
-        let mut list = [payment(9, 10)?, payment(10, 500)?];
-        for record in &mut list {
-            record[24] = 1;
+        self.serve_list("a list of 10 and 500", &mut [payment(9, 10)?, payment(10, 500)?])
+    }
+
+    // A day that fills the ledger: records of our account to itself on all places but one, as one list, and then two customers more. A
+    // desk that did not look would learn from refusal 41 that the ledger is full, with the customer standing there.
+    fn busy_day(&mut self) -> Outcome<()> {
+        let places = self.validator.places_left()?;
+        println!("places left: {places} of {CAPACITY}");
+        let mut list = Vec::new();
+        for number in 1000..1000 + places - 1 {
+            list.push(wire(Kind::Local, Ledger::Home, OURS, OURS, number, 1)?);
         }
-        if let Answer::Refused { refusal, place } = self.validator.check_list(&list.concat()) {
-            println!("a list of 10 and 500: refused with {} at record {place}, nothing of it is kept", refusal.number());
+        self.serve_list("a list of all but one", &mut list)?;
+        self.serve("a payment of 30 at the last place", &payment(2000, 30)?, true)?;
+        self.serve("a payment of 1 after it", &payment(2001, 1)?, true)?;
+        match self.validator.check_record(&payment(2001, 1)?) {
+            Answer::Passed => return Err("a full ledger took a record".into()),
+            Answer::Refused { refusal, .. } => print_refused("the same, had nobody looked", refusal),
         }
         Ok(())
     }
 }
 
-// A ledger that fills up.
-impl Desk {
-    // How many more records can pass. A state that is refused has no place.
-    fn places_left(&self) -> u64 {
-        self.validator.places_left().unwrap_or(0)
-    }
-
-    // Serves while there is a place left. With none the desk is closed: no record makes room again, and the networks make a new opening
-    // together. A desk that does not look learns it from refusal 41, with the customer standing there.
-    fn serve_while_open(&mut self, label: &str, bytes: &[u8]) -> Outcome<()> {
-        if self.places_left() == 0 {
-            println!("{label}: no place left, closed until the networks make a new opening");
-            return Ok(());
-        }
-        self.serve(label, bytes, true)
-    }
-
-    // As many records as there are places left, of our account to itself, as one list.
-    fn busy_day(&mut self) -> Outcome<()> {
-        let places = self.places_left();
-        println!("places left: {places} of {CAPACITY}");
-        let mut list = Vec::new();
-        for number in 1000..1000 + places {
-            list.extend(wire(Kind::Local, Ledger::Home, OURS, OURS, number, 1)?);
-        }
-        self.validator.check_list(&list).into_result()?;
-        self.store()?;
-        println!("after as many records more: {} of {CAPACITY}", self.places_left());
-        self.serve_while_open("a payment of 30, to a desk that looks", &payment(2000, 30)?)?;
-        self.serve("a payment of 30, to one that does not", &payment(2000, 30)?, true)
-    }
+fn print_refused(label: &str, refusal: Refusal) {
+    println!("{label}: refused with {}, {refusal}", refusal.number());
 }
 
 // Whether a record that passed pays the desk the price. One account paying itself, or somebody else, passes too.

@@ -42,7 +42,7 @@
 //! Passed says that the record is in order and its credit has moved. Whether it pays you, and enough, you read with [`Record::read`]: a
 //! local or an arrival on home, to your account, from another one if it is a local, of the price.
 //!
-//! A validator takes any bytes, always answers, and on a refusal is as it was. Its state can be stored and taken up again:
+//! A validator takes any bytes, always answers, and a refusal leaves it untouched. Its state can be stored and taken up again:
 //!
 //! ```
 //! use moatbetony::{sha256, HomeValidator, STATE_VERSION};
@@ -63,8 +63,9 @@
 //! before goods are handed over on it.
 //!
 //! A validator holds [`CAPACITY`] passed records of a ledger, and then passes no further one (41, [`Refusal::Full`]): no record makes
-//! room again. Ask [`HomeValidator::places_left`] or [`PairValidator::places_left`], so that you see 41 coming: warn while there is time
-//! for the networks to make a new opening, and close the desk with no place left.
+//! room again. Ask [`HomeValidator::places_left`] or [`PairValidator::places_left`] before each record, so that you see 41 coming: warn
+//! while there is time for the networks to make a new opening, and close the desk with no place left. A state that is refused (3) is an
+//! error there, and says nothing of the places.
 //!
 //! What is proved is the library's code, for every input. This crate, like every caller, is not covered by the proofs: it turns slices
 //! into pointers and lengths, and numbers into enums. A thread that calls needs 256 KB of stack for a [`PairValidator`] and 128 KB for a

@@ -79,30 +79,36 @@ pub struct HomeValidator {
 
 // What both have: the calls with records, and the state as bytes.
 macro_rules! validator {
-    ($name:ident, $check_record:ident, $check_list:ident, $refusals:literal) => {
+    ($name:ident, $told:ident, $check_record:ident, $check_list:ident, $refusals:literal) => {
         impl $name {
             /// The bytes of a state.
             pub const STATE_SIZE: usize = size_of::<ffi::$name>();
 
-            /// Checks one record, and moves its credit if it passes. A refusal alters nothing. Its signature is what byte 24 says:
-            /// see [`Record::verified`](crate::Record::verified).
+            /// Checks one record, and moves its credit if it passes. A refusal leaves the validator untouched. Its signature is what
+            /// byte 24 says: see [`Record::verified`](crate::Record::verified).
             ///
             #[doc = $refusals]
             pub fn check_record(&mut self, record: &[u8]) -> Answer {
                 let told = calls::$check_record(&self.state, record);
-                let answer = Answer::of(told.answer);
-                *self.state = told.state;
-                answer
+                self.store(&told)
             }
 
             /// Checks a list of records, 32 bytes each, all or none. The place of a refusal is the index of the first refused record,
-            /// and nothing of the list is kept. Bytes left over at the end are a record that is too short. An empty list passes.
+            /// and it leaves the validator untouched. Bytes left over at the end are a record that is too short. An empty list passes.
             ///
             #[doc = $refusals]
             pub fn check_list(&mut self, records: &[u8]) -> Answer {
                 let told = calls::$check_list(&self.state, records);
+                self.store(&told)
+            }
+
+            // The only place that replaces a state: with the one beside an answer that passed. A refusal leaves it untouched, whatever
+            // stands beside it, and so does an answer that contradicts itself, which panics.
+            fn store(&mut self, told: &ffi::$told) -> Answer {
                 let answer = Answer::of(told.answer);
-                *self.state = told.state;
+                if answer.is_passed() {
+                    *self.state = told.state;
+                }
                 answer
             }
 
@@ -138,12 +144,14 @@ macro_rules! validator {
 
 validator!(
     PairValidator,
+    PairTold,
     pair_check_record,
     pair_check_list,
     "Refusals, in order: 3, 21, 22, 23, 24, then 25 (local, sending) or 31 (arrival), then 41."
 );
 validator!(
     HomeValidator,
+    HomeTold,
     home_check_record,
     home_check_list,
     "Refusals, in order: 3, 21, 33, 22, 23, 24, then 25 (local, sending) or 32 (arrival), then 41."
@@ -279,4 +287,50 @@ impl fmt::Debug for HomeValidator {
             .field("count", &self.state.count)
             .finish_non_exhaustive()
     }
+}
+
+#[cfg(test)]
+mod tests {
+    use super::*;
+    use crate::ffi::Told;
+    use std::panic::{catch_unwind, AssertUnwindSafe};
+
+    // Each answer with another state beside it, as the library never tells with a refusal: stored where it passed, and nowhere else.
+    macro_rules! stores_what_passed {
+        ($test:ident, $before:expr, $after:expr, $told:ident) => {
+            #[test]
+            fn $test() {
+                let before = $before.expect("an opening");
+                let after = $after.expect("an opening");
+                assert_ne!(before, after);
+                let store = |number, passed| {
+                    let told = ffi::$told { answer: Told { number, passed, place: 7 }, state: *after.state };
+                    let mut it = before.clone();
+                    let answer = catch_unwind(AssertUnwindSafe(|| it.store(&told)));
+                    (answer.ok(), it)
+                };
+                assert_eq!(store(0, 1), (Some(Answer::Passed), after.clone()));
+                for number in [3, 25, 41, 99, u32::MAX] {
+                    let refused = Answer::Refused { refusal: Refusal::of(number), place: 7 };
+                    assert_eq!(store(number, 0), (Some(refused), before.clone()));
+                }
+                for (number, passed) in [(0, 0), (0, 2), (25, 1), (u32::MAX, u32::MAX)] {
+                    assert_eq!(store(number, passed), (None, before.clone()), "number {number}, passed {passed}");
+                }
+            }
+        };
+    }
+
+    stores_what_passed!(
+        pair_stores_what_passed,
+        PairValidator::open(&[100, 50], &[20]),
+        PairValidator::open(&[99, 51], &[20]),
+        PairTold
+    );
+    stores_what_passed!(
+        home_stores_what_passed,
+        HomeValidator::open(&[100, 50], 1, 20),
+        HomeValidator::open(&[99, 51], 1, 20),
+        HomeTold
+    );
 }
