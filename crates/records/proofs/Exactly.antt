@@ -5,15 +5,17 @@ use mathlib.Core.Bool.{Bool, true, false, cond}
 use mathlib.Core.List.{List, [], _∷_, _++_}
 use native.Mathlib.Omega.{arith}
 use lib.Dec.{eqb}
-use lib.ListN.{length, drop, drop-of-length-le}
+use lib.ListN.{length, drop, drop-of-length-le, replicate}
 use Rattle.ledgers.specs.Ledgers.{ledgerByte, ledgerAt, kindByte, kindAt, ledgerOf}
 use Rattle.ledgers.specs.Limits.{maxAmount}
 use Rattle.record_fields.specs.Fields.{fieldBytes}
-use Rattle.records.proofs.Formed.{Formed, formed-facts, facts-formed, read-formed, formed-reads}
-use Rattle.records.specs.Records.{Record, Read, recordIn, reading, encoding, Encodable, Readable, ReadsExactly, EncodingReads}
+use Rattle.records.proofs.Formed.{Formed, facts-formed, fields-formed, fieldsIn, formed-facts, formed-reads, read-formed}
+use Rattle.records.proofs.Formed.{words-fields, words-formed-by}
+use Rattle.records.specs.Records.{Record, Read, reading, encoding, wordsOf, Encodable, Readable, ReadsExactly, EncodingReads}
 use Rattle.records.specs.Records.{EncodedOnce}
-use Rattle.wire.proofs.Numbers.{field-fits, value-back, drop-field}
-use Rattle.wire.specs.BigEndian.{Bytes, valueAfter, field, bytesOf}
+use Rattle.wire.proofs.Lists.{bytes-append, bytes-zeros}
+use Rattle.wire.proofs.Numbers.{bytes-bytesOf, drop-field, field-fits, value-back}
+use Rattle.wire.specs.BigEndian.{All, Bytes, valueAfter, field, bytesOf}
 use Rattle.ledgers.specs.declared.Kind.the-variants.{Local, Sending, Receiving}
 use Rattle.ledgers.specs.declared.Kind.{Kind}
 use Rattle.ledgers.specs.declared.Ledger.the-variants.{Home, Far}
@@ -84,8 +86,8 @@ module _ (b : List ℕ) (y : Bytes b) (f : Formed b) where
       (next 25 7 (omega arith) (drop-of-length-le b {i = 32} (omega arith))))))))))
 
   -- they are the encoding of the record in them
-  pub formed-encoded : b ≡ encoding (recordIn b)
-  unfolding encoding fieldBytes recordIn bytesOf
+  pub formed-encoded : b ≡ encoding (fieldsIn b)
+  unfolding encoding fieldBytes fieldsIn bytesOf
   formed-encoded =
       let l : Ledger = ledgerAt (field 1 1 b) in
       let k = kind-byte (field 0 1 b) l (f .kind-some) (f .kind-most) in
@@ -99,8 +101,8 @@ module _ (b : List ℕ) (y : Bytes b) (f : Formed b) where
       ++ (bytesOf 8 (field 8 8 b) ++ (bytesOf 8 (field 16 8 b) ++ (v i ++ (e i ++ [])))))))))
 
   -- which can be read
-  pub formed-readable : Readable (recordIn b)
-  unfolding recordIn
+  pub formed-readable : Readable (fieldsIn b)
+  unfolding fieldsIn
   formed-readable =
       let l = f .long in
       record {
@@ -194,8 +196,8 @@ module _ (r : Record) (g : Encodable r) where
   f-last = refl
 
   -- the record in the encoding
-  pub encoding-holds : recordIn (encoding r) ≡ r
-  unfolding recordIn
+  pub encoding-holds : fieldsIn (encoding r) ≡ r
+  unfolding fieldsIn
   encoding-holds =
       let k = ap₂ (λ (x y : ℕ). kindAt x (ledgerAt y)) f-kind f-ledger ∙ kind-back (r .kind) in
       let v = ap (λ (x : ℕ). eqb x 1) f-verdict ∙ verdict-back (r .verified) .0 in
@@ -218,17 +220,44 @@ module _ (r : Record) (g : Encodable r) where
 
 -- ## The theorem
 
+-- one byte more
+byte-first : (x : ℕ) (xs : List ℕ) → x < 256 → Bytes xs → Bytes (x ∷ xs)
+unfolding All
+byte-first x xs h y = (h, y)
+
+-- an encoding has bytes only
+encoding-bytes : (r : Record) → Bytes (encoding r)
+unfolding encoding fieldBytes
+encoding-bytes r =
+    let last : List ℕ = cond (r .verified) 1 0 ∷ replicate 7 0 in
+    let amount : List ℕ = bytesOf 8 (r .amount) ++ last in
+    let number : List ℕ = bytesOf 8 (r .number) ++ amount in
+    let zeros : List ℕ = 0 ∷ 0 ∷ number in
+    let receiver : List ℕ = bytesOf 2 (r .receiver) ++ zeros in
+    let sender : List ℕ = bytesOf 2 (r .sender) ++ receiver in
+    byte-first (kindByte (r .kind)) (ledgerByte (ledgerOf (r .kind)) ∷ sender) (omega (arith, kind-bounds (r .kind) .1))
+    (byte-first (ledgerByte (ledgerOf (r .kind))) sender (omega (arith, ledger-bound (ledgerOf (r .kind))))
+    (bytes-append (bytesOf 2 (r .sender)) receiver (bytes-bytesOf 2 (r .sender))
+    (bytes-append (bytesOf 2 (r .receiver)) zeros (bytes-bytesOf 2 (r .receiver))
+    (byte-first 0 (0 ∷ number) (omega arith)
+    (byte-first 0 number (omega arith)
+    (bytes-append (bytesOf 8 (r .number)) amount (bytes-bytesOf 8 (r .number))
+    (bytes-append (bytesOf 8 (r .amount)) last (bytes-bytesOf 8 (r .amount))
+    (byte-first (cond (r .verified) 1 0) (replicate 7 0) (omega (arith, verdict-back (r .verified) .1)) (bytes-zeros 7)))))))))
+
 -- encoding reads back
 pub encoding-reads : EncodingReads
 unfolding EncodingReads
 encoding-reads r g =
     let f = encoding-formed r (g .fits) (g .amount-some) (g .amount-most) in
-    formed-reads (encoding r) (facts-formed (encoding r) f) ∙ ap Read (encoding-holds r (g .fits))
+    let y = encoding-bytes r in
+    formed-reads (encoding r) (f .long) (facts-formed (wordsOf (encoding r)) (words-formed-by (encoding r) y (f .long) f))
+    ∙ ap Read (words-fields (encoding r) y (f .long) ∙ encoding-holds r (g .fits))
 
 -- no two records share their bytes
 pub encoded-once : EncodedOnce
 unfolding EncodedOnce
-encoded-once r q g h e = sym (encoding-holds r g) ∙ ap recordIn e ∙ encoding-holds q h
+encoded-once r q g h e = sym (encoding-holds r g) ∙ ap fieldsIn e ∙ encoding-holds q h
 
 -- bytes read exactly when they are an encoding
 pub reads-exactly : ReadsExactly
@@ -238,8 +267,9 @@ reads-exactly b y r = (there, back)
     there : reading b ≡ Read r → Readable r × (b ≡ encoding r)
     there h =
         let f = read-formed b r h in
-        let g = formed-facts b (f .0) in
-        (subst Readable (f .1) (formed-readable b y g), formed-encoded b y g ∙ ap encoding (f .1))
+        let g = fields-formed b y (f .0) (formed-facts (wordsOf b) (f .1)) in
+        let e = sym (words-fields b y (f .0)) ∙ f .2 in
+        (subst Readable e (formed-readable b y g), formed-encoded b y g ∙ ap encoding e)
 
     back : Readable r × (b ≡ encoding r) → reading b ≡ Read r
     back h = ap reading (h .1) ∙ encoding-reads r (h .0)

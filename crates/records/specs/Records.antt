@@ -1,5 +1,5 @@
 -- The record of 32 bytes (document 01, "The record"): its reading and its encoding. Assumes nothing.
-use Prim.Native.Nat.{ℕ, _<_, _≤_, _^_}
+use Prim.Native.Nat.{ℕ, _+_, _-_, _/_, _%_, _<_, _≤_, _^_}
 use mathlib.Core.Bool.{Bool, cond}
 use mathlib.Core.List.{List, [], _∷_}
 use mathlib.Core.Logic.{_↔_}
@@ -11,43 +11,57 @@ use Rattle.wire.specs.BigEndian.{Bytes, every, field}
 use Rattle.ledgers.specs.Limits.{maxAmount}
 use Rattle.ledgers.specs.Ledgers.{ledgerByte, ledgerAt, kindByte, kindAt, ledgerOf}
 pub use Rattle.records.specs.declared.Record.{Record}
+pub use Rattle.records.specs.declared.Words.{Words}
 pub use Rattle.records.specs.declared.Reading.{Reading}
 pub use Rattle.records.specs.declared.Reading.the-variants.{Read, Unreadable}
 
+-- ## Words
+
+-- the four words of 32 bytes, eight bytes each: 0-7, the number, the amount, 24-31
+abbrev pub wordsOf : List ℕ → Words
+wordsOf b = record { head = field 0 8 b; number = field 8 8 b; amount = field 16 8 b; tail = field 24 8 b }
+
+-- the number in the n bytes from byte i on of a word
+abbrev pub within : ℕ → ℕ → ℕ → ℕ
+within i n w = w / 256 ^ (8 - (i + n)) % 256 ^ n
+
 -- ## Reading
 
--- what refusal 21 asks of bytes: 32 of them; kind, ledger, verdict and zero bytes right; an amount that is not 0 and not
--- above 2^63-1. All 2^64 numbers of transfers are right, 0 too
-unfoldable pub formed : List ℕ → Bool
-formed b =
+-- what refusal 21 asks of a record's words: kind, ledger, verdict and zero bytes right; an amount that is not 0 and not above
+-- 2^63-1. All 2^64 numbers of transfers are right, 0 too
+unfoldable pub formed : Words → Bool
+formed w =
     every
-    (eqb (length b) 32
-    ∷ ltb 0 (field 0 1 b)
-    ∷ leb (field 0 1 b) 3
-    ∷ leb (field 1 1 b) 1
-    ∷ eqb (field 6 2 b) 0
-    ∷ ltb 0 (field 16 8 b)
-    ∷ leb (field 16 8 b) maxAmount
-    ∷ leb (field 24 1 b) 1
-    ∷ eqb (field 25 7 b) 0
+    (ltb 0 (within 0 1 (w .head))
+    ∷ leb (within 0 1 (w .head)) 3
+    ∷ leb (within 1 1 (w .head)) 1
+    ∷ eqb (within 6 2 (w .head)) 0
+    ∷ ltb 0 (w .amount)
+    ∷ leb (w .amount) maxAmount
+    ∷ leb (within 0 1 (w .tail)) 1
+    ∷ eqb (within 1 7 (w .tail)) 0
     ∷ []
     )
 
--- the record in 32 bytes: 0 kind, 1 ledger, 2-3 sender, 4-5 receiver, 8-15 number of the transfer, 16-23 amount, 24 verdict
-unfoldable pub recordIn : List ℕ → Record
-recordIn b =
+-- the record in its words: 0 kind, 1 ledger, 2-3 sender, 4-5 receiver; number of the transfer; amount; 24 verdict
+unfoldable pub recordIn : Words → Record
+recordIn w =
     record {
-      kind = kindAt (field 0 1 b) (ledgerAt (field 1 1 b));
-      sender = field 2 2 b;
-      receiver = field 4 2 b;
-      number = field 8 8 b;
-      amount = field 16 8 b;
-      verified = eqb (field 24 1 b) 1;
+      kind = kindAt (within 0 1 (w .head)) (ledgerAt (within 1 1 (w .head)));
+      sender = within 2 2 (w .head);
+      receiver = within 4 2 (w .head);
+      number = w .number;
+      amount = w .amount;
+      verified = eqb (within 0 1 (w .tail)) 1;
     }
 
--- what bytes read as
+-- what four words read as
+unfoldable pub readingWords : Words → Reading
+readingWords w = cond (formed w) (Read (recordIn w)) Unreadable
+
+-- what bytes read as: 32 of them as their words do (21: not 32 bytes long)
 unfoldable pub reading : List ℕ → Reading
-reading b = cond (formed b) (Read (recordIn b)) Unreadable
+reading b = cond (eqb (length b) 32) (readingWords (wordsOf b)) Unreadable
 
 -- document 01's number of each case: 21 of what does not read, and of a record the number that it is given (0: none)
 abbrev pub readingRefusal : (Record → ℕ) → Reading → ℕ

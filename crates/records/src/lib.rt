@@ -3,11 +3,10 @@ ghost use mathlib.Core.Path.{_≡_};
 ghost use mathlib.Core.Bool.{cond};
 ghost use lib.ListN.{length};
 ghost use Rattle.ledgers.specs.Ledgers.{ledgerAt, kindAt};
-ghost use Rattle.records.specs.Records.{formed, recordIn, reading, encoding};
+ghost use Rattle.records.specs.Records.{wordsOf, formed, recordIn, readingWords, reading, encoding};
 use ledgers::Kind;
 use ledgers::Ledger;
 use record_fields::field_bytes;
-use wire::u16_at;
 use wire::u64_at;
 
 // A record that was read.
@@ -22,81 +21,112 @@ pub struct Record {
     pub verified: bool,
 }
 
-// What bytes read as.
+// A record's 32 bytes as four words of eight bytes, highest byte first.
+pub struct Words {
+    // Bytes 0-7: kind, ledger, sender, receiver and two zero bytes.
+    pub head: u64,
+    pub number: u64,
+    pub amount: u64,
+    // Bytes 24-31: the verdict and zero bytes.
+    pub tail: u64,
+}
+
+// What words or bytes read as.
 pub enum Reading {
     Read(Record),
     Unreadable,
 }
 
-fn ledger_at(byte: u8) -> Ledger
+// What a word is divided by for its first byte alone, and for its first two.
+const BYTE: u64 = 72057594037927936;
+
+const TWO_BYTES: u64 = 281474976710656;
+
+fn ledger_at(byte: u64) -> Ledger
     ensures { λ r. ⌜ r ≡ ledgerAt byte ⌝ }
 {
-    if byte == Ledger::HOME {
-        Ledger::Home
-    } else {
-        Ledger::Far
-    }
+    if byte == 0 { Ledger::Home } else { Ledger::Far }
 }
 
-fn kind_at(byte: u8, l: Ledger) -> Kind
+fn kind_at(byte: u64, l: Ledger) -> Kind
     ensures { λ r. ⌜ r ≡ kindAt byte l ⌝ }
 {
-    if byte == Kind::LOCAL {
+    if byte == 1 {
         return Kind::Local(l);
     }
-    if byte == Kind::SENDING {
+    if byte == 2 {
         return Kind::Sending(l);
     }
     Kind::Receiving(l)
 }
 
-// Whether refusal 21 has nothing against the bytes.
-fn is_formed(s: &[u8]) -> bool
-    ensures { λ r. ⌜ r ≡ formed (now (s .entry)) ⌝ }
+// Whether refusal 21 has nothing against the words.
+fn are_formed(w: Words) -> bool
+    ensures { λ r. ⌜ r ≡ formed w ⌝ }
 {
-    if s.len() != Record::SIZE {
+    let kind = w.head / BYTE % 256;
+    if kind == 0 {
         return false;
     }
-    if s[0] == 0 {
+    if 3 < kind {
         return false;
     }
-    if Kind::RECEIVING < s[0] {
+    if 1 < w.head / TWO_BYTES % 256 {
         return false;
     }
-    if Ledger::FAR < s[1] {
+    if w.head % 65536 != 0 {
         return false;
     }
-    if u16_at(s, 6) != 0 {
+    if w.amount == 0 {
         return false;
     }
-    let amount = u64_at(s, 16);
-    if amount == 0 {
+    if Record::MAX_AMOUNT < w.amount {
         return false;
     }
-    if Record::MAX_AMOUNT < amount {
+    if 1 < w.tail / BYTE % 256 {
         return false;
     }
-    let last = u64_at(s, 24);
-    if 1 < last / 72057594037927936 {
-        return false;
-    }
-    last % 72057594037927936 == 0
+    w.tail % BYTE == 0
 }
 
-// The record in 32 bytes.
-fn record_in(s: &[u8]) -> Record
-    requires { ⌜ length (now s) ≡ 32 ⌝ }
-    ensures { λ r. ⌜ r ≡ recordIn (now (s .entry)) ⌝ }
+// The record in its words.
+fn record_in(w: Words) -> Record
+    ensures { λ r. ⌜ r ≡ recordIn w ⌝ }
 {
-    let kind = kind_at(s[0], ledger_at(s[1]));
-    let verified = s[24] == 1;
+    let kind = kind_at(w.head / BYTE % 256, ledger_at(w.head / TWO_BYTES % 256));
+    let verified = w.tail / BYTE % 256 == 1;
     Record {
         kind,
-        sender: u16_at(s, 2),
-        receiver: u16_at(s, 4),
-        number: u64_at(s, 8),
-        amount: u64_at(s, 16),
+        sender: (w.head / 4294967296 % 65536) as u16,
+        receiver: (w.head / 65536 % 65536) as u16,
+        number: w.number,
+        amount: w.amount,
         verified,
+    }
+}
+
+impl Words {
+    // The words of 32 bytes.
+    pub fn of(s: &[u8]) -> Words
+        requires { ⌜ length (now s) ≡ 32 ⌝ }
+        ensures { λ r. ⌜ r ≡ wordsOf (now (s .entry)) ⌝ }
+    {
+        Words {
+            head: u64_at(s, 0),
+            number: u64_at(s, 8),
+            amount: u64_at(s, 16),
+            tail: u64_at(s, 24),
+        }
+    }
+
+    // What the words read as.
+    pub fn read(self) -> Reading
+        ensures { λ r. ⌜ r ≡ readingWords self ⌝ }
+    {
+        if are_formed(self) {
+            return Reading::Read(record_in(self));
+        }
+        Reading::Unreadable
     }
 }
 
@@ -118,10 +148,11 @@ impl Record {
     pub fn read(s: &[u8]) -> Reading
         ensures { λ r. ⌜ r ≡ reading (now (s .entry)) ⌝ }
     {
-        if is_formed(s) {
-            return Reading::Read(record_in(s));
+        if s.len() != Record::SIZE {
+            return Reading::Unreadable;
         }
-        Reading::Unreadable
+        let words = Words::of(s);
+        words.read()
     }
 
     // The 32 bytes of a record, also where its amount is 0 or above 2^63-1; such bytes do not read.

@@ -1,7 +1,7 @@
 -- Every row of the table of cases holds, by computation. Assumes nothing.
 use mathlib.Core.Path.{refl}
 use Rattle.record_fields.specs.Fields.{fieldBytes}
-use Rattle.records.specs.Records.{formed, recordIn, reading, encoding}
+use Rattle.records.specs.Records.{formed, recordIn, reading, readingWords, encoding}
 use Rattle.rules.specs.Cases.{caseOpening, homeCaseOpening, afterAll, allPass, homeAfterAll, homeAllPass, shows, holds, good}
 use Rattle.rules.specs.Cases.{openingRows, stateRows}
 use Rattle.rules.specs.Cases.{bad, cases, orderRows, nearRows, CasesHold, FurtherRowsHold}
@@ -15,8 +15,8 @@ use Rattle.wire.specs.BigEndian.{every, same, valueAfter, field, bytesOf}
 
 -- the starred cases
 pub cases-hold : CasesHold
-unfolding CasesHold cases holds all every any sum lowered raised valueAfter field formed recordIn reading bytesOf
-    encoding fieldBytes clashes matches firstRefusal fundsRefusal matchRefusal judge after judgeBytes afterBytes arrived flight
+unfolding CasesHold cases holds all every any sum lowered raised valueAfter field formed recordIn reading readingWords
+    bytesOf encoding fieldBytes clashes matches firstRefusal fundsRefusal matchRefusal judge after judgeBytes afterBytes arrived flight
     inFlight poolRefusal homeJudgeRecord roomRefusal countAllowed supplyAllowed openingRefusal caseOpening homeCaseOpening
     afterAll allPass homeAfterAll homeAllPass shows good bad same
 cases-hold = refl
@@ -25,7 +25,7 @@ cases-hold = refl
 pub further-rows-hold : FurtherRowsHold
 unfolding FurtherRowsHold orderRows nearRows openingRows stateRows heldAllowed unshared matched standsUnder
     pairAccepts homeAccepts holds all every any sum lowered raised valueAfter field formed recordIn
-    reading bytesOf encoding fieldBytes clashes matches firstRefusal fundsRefusal matchRefusal judge after judgeBytes afterBytes
+    reading readingWords bytesOf encoding fieldBytes clashes matches firstRefusal fundsRefusal matchRefusal judge after judgeBytes afterBytes
     arrived flight inFlight poolRefusal homeJudgeRecord roomRefusal countAllowed supplyAllowed openingRefusal caseOpening
     homeCaseOpening afterAll allPass homeAfterAll homeAllPass shows good bad same
 further-rows-hold = refl

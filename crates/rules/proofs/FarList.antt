@@ -413,7 +413,7 @@ module _ (farAccounts supply block : ℕ) (some : 0 < farAccounts) (few : farAcc
   -- the number of a record that was read
   read-number : (b : List ℕ) (r : Record) → reading b ≡ Read r → field 8 8 b ≡ r .number
   unfolding recordIn
-  read-number b r h = ap (λ (x : Record). x .number) (read-formed b r h .1)
+  read-number b r h = ap (λ (x : Record). x .number) (read-formed b r h .2)
 
   -- home records that pass in turn
   pub home-list : (bs : List (List ℕ)) (capacity pool k : ℕ) (H F : LedgerState) → k + length bs ≤ 2 ^ 32

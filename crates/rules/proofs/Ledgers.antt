@@ -7,7 +7,7 @@ use native.Mathlib.Omega.{arith}
 use Rattle.ledgers.specs.Ledgers.{counterpart, ledgerOf}
 use Rattle.ledgers.specs.Limits.{maxAmount}
 use Rattle.records.proofs.Formed.{formed-facts, read-formed}
-use Rattle.records.specs.Records.{recordIn, reading}
+use Rattle.records.specs.Records.{recordIn, reading, wordsOf}
 use Rattle.rules.proofs.Clashes.{Distinct, distinct-snoc}
 use Rattle.rules.proofs.InFlight.{sent-snoc, received-snoc, flight-sums}
 use Rattle.rules.proofs.Lists.{or-right, any-snoc, all-snoc, all-weaken, total-lowered, total-raised, length-lowered}
@@ -160,6 +160,6 @@ pub read-amount : (b : List ℕ) (r : Record) → reading b ≡ Read r → (0 < 
 unfolding recordIn
 read-amount b r h =
     let f = read-formed b r h in
-    let g = formed-facts b (f .0) in
-    let e : field 16 8 b ≡ r .amount = ap (λ (x : Record). x .amount) (f .1) in
+    let g = formed-facts (wordsOf b) (f .1) in
+    let e : field 16 8 b ≡ r .amount = ap (λ (x : Record). x .amount) (f .2) in
     (omega (arith, e, g .amount-some), omega (arith, e, g .amount-most))

@@ -1,31 +1,29 @@
 -- `records::Record::read` meets its contract. Assumes nothing.
-use mathlib.Core.Path.{_≡_, sym, _∙_}
-use mathlib.Core.Bool.{true, false}
+use mathlib.Core.Path.{_∙_, ap}
+use lib.Dec.{eqb}
+use lib.ListN.{length}
 use borrow.Author.Needs.{needs}
-use Rattle.records.proofs.Formed.{formed-facts}
-use Rattle.records.specs.Records.{formed, reading}
+use borrow.Author.Tests.{eq-eqb, ne-eqb}
+use Rattle.records.specs.Records.{reading, readingWords}
 use Rattle.records.proofs.Record.read.Statement.{statement}
 use Rattle.records.proofs.Record.read.Tie as tie
 
-is-formed-requires : tie.Need-is-formed-requires
-is-formed-requires c κs = search needs
-
-record-in-requires : tie.Need-record-in-requires
-record-in-requires c κs =
-    formed-facts (c .before .before .before .args .s .now) (sym (c .before .is-formed .ensures) ∙ c .if1 .taken) .long
-
 returns : tie.Need-returns
 unfolding reading
-returns c =
-    let c4 = c .before .before .before .before in
-    let e : formed (c4 .args .s .now) ≡ true = sym (c .before .before .is-formed .ensures) ∙ c .before .if1 .taken in
-    rw (e, c .record-in .ensures)
+returns c = rw (ne-eqb (length (c .before .before .args .s .now)) 32 (c .if1 .taken))
+
+of-requires : tie.Need-of-requires
+of-requires c κs = search needs
+
+read-requires : tie.Need-read-requires
+read-requires c κs = search needs
 
 returns-2 : tie.Need-returns-2
 unfolding reading
 returns-2 c =
-    let e : formed (c .before .before .before .args .s .now) ≡ false = sym (c .before .is-formed .ensures) ∙ c .if1 .left in
-    rw e
+    let c2 = c .before .before in
+    let s = c2 .before .before .args .s .now in
+    rw (eq-eqb (length s) 32 (c2 .if1 .left)) (c .read .ensures ∙ ap readingWords (c .before .of .ensures))
 
 pub read-spec : {M : Type 1} → statement M
-read-spec = tie.close (tie.spec is-formed-requires record-in-requires returns returns-2)
+read-spec = tie.close (tie.spec returns of-requires read-requires returns-2)
