@@ -57,6 +57,7 @@ pub struct Home {
 #[repr(C)]
 pub struct Told<S> {
     number: u32,
+    passed: u32,
     place: u64,
     state: S,
 }
@@ -64,6 +65,7 @@ pub struct Told<S> {
 #[repr(C)]
 pub struct PairFigures {
     number: u32,
+    passed: u32,
     place: u64,
     home: u64,
     far: u64,
@@ -73,6 +75,7 @@ pub struct PairFigures {
 #[repr(C)]
 pub struct HomeFigures {
     number: u32,
+    passed: u32,
     place: u64,
     home: u64,
     pool: u64,

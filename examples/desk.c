@@ -1,5 +1,5 @@
 /* A paying desk that sees the home ledger alone. It takes records one by one, hands goods over where a record passed and pays the desk,
-   says why not otherwise, keeps its state in a file and takes it up again.
+   says why not otherwise, keeps its state in a file and takes it up again, and closes when the ledger has no place left.
 
        cc desk.c $(pkg-config --cflags --libs moatbetony) -o desk && ./desk STATE_FILE
 
@@ -109,7 +109,7 @@ static int take_up(const char *path, moatbetony_home_t *state)
 static void print_figures(const char *label, const moatbetony_home_t *state)
 {
     moatbetony_home_figures_t figures = moatbetony_home_figures(*state);
-    if (figures.answer.number == MOATBETONY_PASSED)
+    if (figures.answer.passed)
         printf("%s: home %llu, far pool %llu\n", label, (unsigned long long)figures.home, (unsigned long long)figures.pool);
     else
         printf("%s: refused with %u, %s\n", label, (unsigned)figures.answer.number, moatbetony_refusal_text(figures.answer.number));
@@ -120,7 +120,7 @@ static int pays_us(const uint8_t *bytes)
 {
     moatbetony_record_t record = moatbetony_record_read(bytes, MOATBETONY_RECORD_SIZE);
     int comes_in = record.kind == MOATBETONY_ARRIVAL || (record.kind == MOATBETONY_LOCAL && record.sender != OURS);
-    return record.answer.number == MOATBETONY_PASSED && record.ledger == MOATBETONY_HOME && comes_in && record.receiver == OURS &&
+    return record.answer.passed && record.ledger == MOATBETONY_HOME && comes_in && record.receiver == OURS &&
         record.amount >= PRICE;
 }
 
@@ -138,7 +138,7 @@ static void serve(
         bytes = own;
     }
     answer = moatbetony_home_take(state, bytes, length);
-    if (answer.number != MOATBETONY_PASSED) {
+    if (!answer.passed) {
         printf("%s: refused with %u, %s\n", label, (unsigned)answer.number, moatbetony_refusal_text(answer.number));
         return;
     }
@@ -151,7 +151,7 @@ static const uint8_t *wire(uint8_t kind, uint8_t ledger, uint16_t sender, uint16
 {
     static moatbetony_encoded_t encoded;
     encoded = moatbetony_record_encode(kind, ledger, sender, receiver, number, amount, MOATBETONY_SIGNATURE_GOOD);
-    must(encoded.answer.number == MOATBETONY_PASSED, "not a record");
+    must(encoded.answer.passed, "not a record");
     return encoded.bytes;
 }
 
@@ -188,8 +188,43 @@ static void serve_customers(const char *path, moatbetony_home_t *state)
     memcpy(list + 32, payment(10, 500), 32);
     list[24] = list[32 + 24] = MOATBETONY_SIGNATURE_GOOD;
     answer = moatbetony_home_take_list(state, list, sizeof list);
-    printf("a list of 10 and 500: refused with %u at record %llu, nothing of it is kept\n", (unsigned)answer.number,
-        (unsigned long long)answer.place);
+    if (!answer.passed)
+        printf("a list of 10 and 500: refused with %u at record %llu, nothing of it is kept\n", (unsigned)answer.number,
+            (unsigned long long)answer.place);
+}
+
+/* ## A ledger that fills up */
+
+/* How many more records can pass. A state that is refused has no place. */
+static uint64_t places_left(const moatbetony_home_t *state)
+{
+    moatbetony_home_places_t places = moatbetony_home_places_left(*state);
+    return places.answer.passed ? places.home : 0;
+}
+
+/* Serves while there is a place left. With none the desk is closed: no record makes room again, and the networks make a new opening
+   together. A desk that does not look learns it from refusal 41, with the customer standing there. */
+static void serve_while_open(const char *path, moatbetony_home_t *state, const char *label, const uint8_t *bytes)
+{
+    if (places_left(state) == 0)
+        printf("%s: no place left, closed until the networks make a new opening\n", label);
+    else
+        serve(path, state, label, bytes, 32, 1);
+}
+
+/* As many records as there are places left, of our account to itself, as one list. */
+static void busy_day(const char *path, moatbetony_home_t *state)
+{
+    static uint8_t list[MOATBETONY_CAPACITY * MOATBETONY_RECORD_SIZE];
+    uint64_t places = places_left(state), i;
+    printf("places left: %llu of %d\n", (unsigned long long)places, MOATBETONY_CAPACITY);
+    for (i = 0; i < places; i++)
+        memcpy(list + 32 * i, wire(MOATBETONY_LOCAL, MOATBETONY_HOME, OURS, OURS, 1000 + i, 1), 32);
+    must(moatbetony_home_take_list(state, list, 32 * places).passed, "the list was refused");
+    store(path, state);
+    printf("after as many records more: %llu of %d\n", (unsigned long long)places_left(state), MOATBETONY_CAPACITY);
+    serve_while_open(path, state, "a payment of 30, to a desk that looks", payment(2000, 30));
+    serve(path, state, "a payment of 30, to one that does not", payment(2000, 30), 32, 1);
 }
 
 /* ## Somebody else's hand on the stored state */
@@ -237,7 +272,7 @@ int main(int argc, char **argv)
 {
     enum { YESTERDAYS = 1, FRESH = 11 };
     static const uint64_t home_balances[] = {100, 50, 0};
-    static moatbetony_home_t state;
+    static moatbetony_home_t state, busy;
     static uint8_t first_file[FILE_SIZE];
     moatbetony_home_outcome_t opened;
     const char *path = argc == 2 ? argv[1] : NULL;
@@ -245,7 +280,7 @@ int main(int argc, char **argv)
     must(moatbetony_version() == MOATBETONY_VERSION, "library and header do not belong together");
 
     opened = moatbetony_home_open(home_balances, 3, 1, 20);
-    must(opened.answer.number == MOATBETONY_PASSED, "the opening was refused");
+    must(opened.answer.passed, "the opening was refused");
     state = opened.state;
     store(path, &state);
     read_file(path, first_file);
@@ -257,6 +292,8 @@ int main(int argc, char **argv)
     must(take_up(path, &state), "the stored state was not taken up");
     print_figures("the next day, taken up from the file", &state);
     serve(path, &state, "yesterday's payment of 30 again", payment(YESTERDAYS, 30), 32, 1);
+    busy = state; /* a copy, and the desk goes on below from before that day */
+    busy_day(path, &busy);
 
     printf("a payment of 30, after somebody altered the file:\n");
     tamper(path, &state, "a balance raised", raise_a_balance, 0, FRESH);

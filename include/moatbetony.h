@@ -1,15 +1,15 @@
 /*
- * Moatbetony 0.1.0: a proved checker of two linked ledgers that trade one credit.
+ * Moatbetony 0.2.0: a proved checker of two linked ledgers that trade one credit.
  *
  * A home ledger, and a far ledger run by people nobody here has met, hand in records of 32 bytes. The pair validator (pair book)
  * sees the records of both in one order; the home validator (guard) sees those of home alone. Every call answers passed, or one
  * refusal with its number and place. Hand nothing over on a refusal, and on passed only what the record pays for:
  *
  *     moatbetony_home_outcome_t opened = moatbetony_home_open(home_balances, home_accounts, far_accounts, far_total);
- *     moatbetony_home_t state = opened.state;                                       (after opened.answer was looked at)
+ *     moatbetony_home_t state = opened.state;                                       (after opened.answer.passed was tested)
  *     record[24] = signature_good;                                                  (1 or 0, of your own check: SIGNATURES)
  *     moatbetony_answer_t answer = moatbetony_home_take(&state, record, 32);
- *     if (answer.number == MOATBETONY_PASSED) ...                                   (store the state, then see whom it pays: PASSED)
+ *     if (answer.passed) ...                                                        (store the state, then see whom it pays: PASSED)
  *     else puts(moatbetony_refusal_text(answer.number));
  *
  * ARGUMENTS   The state comes first, then bytes with their length, then numbers: a record's fields in the order of its format; of a
@@ -18,10 +18,14 @@
  * SIGNATURES  are not checked here. Byte 24 of a record says what the caller's own check of its signature found (1 good, 0 bad). Write
  *             it yourself, over whatever came in, before the record is handed in: a record whose byte 24 its sender wrote is one that
  *             nobody has checked.
- * ANSWERS     "Answers 3, 22" in a comment lists all refusals of a call, in their order; where none applies it passes, with number 0
- *             and place 0.
+ * ANSWERS     "Answers 3, 22" in a comment lists all refusals of a call, in their order; where none applies it passes, with number 0,
+ *             passed 1 and place 0. Test `passed`: it is 1 where the call passed and 0 with every refusal, so that an answer that was
+ *             cleared and never filled has not passed, though its number is 0.
  * PASSED      says that the record is in order and its credit has moved. Whether it pays you, and enough, you read with
  *             moatbetony_record_read: a local or an arrival on home, to your account, from another one if it is a local, of the price.
+ * PLACES      A validator holds MOATBETONY_CAPACITY passed records of a ledger, and then passes no further one (41): no record makes
+ *             room again. Ask moatbetony_pair_places_left or moatbetony_home_places_left, so that you see 41 coming: warn while there is
+ *             time for the networks to make a new opening, and close the desk with no place left.
  * STATES      are plain numbers, passed and handed back by value. A call neither keeps nor alters the caller's copy: go on with
  *             `outcome.state`, or use the helpers at the end, which store it back. A refused call hands the state back as it came, and
  *             a refused write leaves the output as it came.
@@ -41,13 +45,13 @@
  *             MOATBETONY_STACK_OTHER without one, its arguments and its result included. Measured, not proved. The library touches
  *             its frames page by page, so that too small a stack ends at its guard page; -fstack-clash-protection does so for a caller's.
  * SIZES       sizeof(moatbetony_pair_t) is 24,488 and sizeof(moatbetony_home_t) 12,264. Neither has padding, so that their bytes can
- *             be stored, hashed and compared. All structs that hold an answer have padding: compare their fields, and store or hash
- *             states alone.
+ *             be stored, hashed and compared. Of the other structs moatbetony_record_t alone has padding: compare its fields. Store or
+ *             hash states alone.
  * PLATFORM    x86-64 Linux with the System V calling convention and glibc; little-endian, 64-bit size_t. C99 or later, C++11 or later.
  *             The library needs memcpy and memset, and nothing else.
  * REFUSALS    A number keeps its subject and is never given to another. When it is given may change with the rules of a later version,
  *             and a later version may add numbers, also for a part of what an older one told; CHANGELOG.md names each. So take every
- *             number but 0 as a refusal, known or not (REFUSALS.md of the documentation).
+ *             answer without `passed` as a refusal, its number known or not (REFUSALS.md of the documentation).
  * PROOFS      cover the library's functions, for every input. They do not cover this header, its inline helpers or the caller's code.
  */
 #ifndef MOATBETONY_H
@@ -74,9 +78,9 @@ extern "C" {
 /* ## Constants */
 
 #define MOATBETONY_VERSION_MAJOR 0
-#define MOATBETONY_VERSION_MINOR 1
+#define MOATBETONY_VERSION_MINOR 2
 #define MOATBETONY_VERSION_PATCH 0
-#define MOATBETONY_VERSION_TEXT "0.1.0"
+#define MOATBETONY_VERSION_TEXT "0.2.0"
 /* This header's version, as moatbetony_version gives the library's: major * 10,000 + minor * 100 + patch. */
 #define MOATBETONY_VERSION (MOATBETONY_VERSION_MAJOR * 10000 + MOATBETONY_VERSION_MINOR * 100 + MOATBETONY_VERSION_PATCH)
 /* The layout of the two states. It is stored with a state, and a state is taken up only under its own. */
@@ -125,7 +129,7 @@ enum moatbetony_block_kind {
     MOATBETONY_BLOCK_RECORDS = 3
 };
 
-/* An answer's number: passed, or the refusal (REFUSALS.md of the documentation). */
+/* An answer's number: the refusal (REFUSALS.md of the documentation), or 0 where it passed. Whether it passed is its field `passed`. */
 enum moatbetony_refusal {
     MOATBETONY_PASSED = 0,
     /* caused by the maker who calls */
@@ -155,10 +159,11 @@ enum moatbetony_refusal {
 
 /* ## Types */
 
-/* The answer of a call. The place is the record's index in the list handed in, or the block number; 0 where neither applies, and
-   beside passed. As 0 is passed, do not set an answer to zeros before a call. */
+/* The answer of a call. Test `passed`, and the number only for the reason: an answer set to zeros has number 0 and has not passed. The
+   place is the record's index in the list handed in, or the block number; 0 where neither applies, and beside passed. */
 typedef struct moatbetony_answer {
     uint32_t number; /* enum moatbetony_refusal */
+    uint32_t passed; /* 1 if passed, else 0 */
     uint64_t place;
 } moatbetony_answer_t;
 
@@ -210,6 +215,13 @@ typedef struct moatbetony_pair_figures {
     uint64_t flight;
 } moatbetony_pair_figures_t;
 
+/* How many more records each ledger can hold. */
+typedef struct moatbetony_pair_places {
+    moatbetony_answer_t answer;
+    uint64_t home;
+    uint64_t far;
+} moatbetony_pair_places_t;
+
 /* An answer, and the state to go on with. */
 typedef struct moatbetony_home_outcome {
     moatbetony_answer_t answer;
@@ -222,6 +234,12 @@ typedef struct moatbetony_home_figures {
     uint64_t home;
     uint64_t pool;
 } moatbetony_home_figures_t;
+
+/* How many more records the home ledger can hold. */
+typedef struct moatbetony_home_places {
+    moatbetony_answer_t answer;
+    uint64_t home;
+} moatbetony_home_places_t;
 
 /* An account's balance. */
 typedef struct moatbetony_balance {
@@ -274,7 +292,8 @@ typedef struct moatbetony_digest {
 
 /* ## Version */
 
-/* The library's version: major * 10,000 + minor * 100 + patch. Equal to MOATBETONY_VERSION if library and header belong together. */
+/* The library's version: major * 10,000 + minor * 100 + patch. Equal to MOATBETONY_VERSION if library and header belong together:
+   compare them once, before the first call. A library older than 0.2.0 fills no `passed` in. */
 uint32_t moatbetony_version(void);
 
 /* The library's layout of the two states. Store it with a state, and take a state up only if it is the same. */
@@ -305,6 +324,9 @@ MOATBETONY_MUST_USE moatbetony_pair_figures_t moatbetony_pair_figures(moatbetony
 /* The balance of an account of a ledger. Answers 3, then 22 where there is no such ledger or account, with balance 0. */
 MOATBETONY_MUST_USE moatbetony_balance_t moatbetony_pair_balance(moatbetony_pair_t state, uint8_t ledger, uint16_t account);
 
+/* The places left: how many more records of each ledger can pass before 41. Answers 3, with zeros. */
+MOATBETONY_MUST_USE moatbetony_pair_places_t moatbetony_pair_places_left(moatbetony_pair_t state);
+
 /* ## The home validator
    Refusals of a record, in order: 3, 21, 33, 22, 23, 24, then 25 (local, sending) or 32 (arrival), then 41. */
 
@@ -329,6 +351,9 @@ MOATBETONY_MUST_USE moatbetony_home_figures_t moatbetony_home_figures(moatbetony
 
 /* The balance of a home account. Answers 3, then 22 where there is no such account, with balance 0. */
 MOATBETONY_MUST_USE moatbetony_balance_t moatbetony_home_balance(moatbetony_home_t state, uint16_t account);
+
+/* The places left: how many more home records can pass before 41. Answers 3, with 0. */
+MOATBETONY_MUST_USE moatbetony_home_places_t moatbetony_home_places_left(moatbetony_home_t state);
 
 /* ## Records */
 
@@ -412,11 +437,11 @@ MOATBETONY_MUST_USE static inline moatbetony_answer_t moatbetony_home_take_list(
     return outcome.answer;
 }
 
-/* A short text for an answer's number, never NULL. */
+/* A short text for an answer's number, never NULL. That of 0 does not say that the call passed: `passed` alone does. */
 static inline const char *moatbetony_refusal_text(uint32_t number)
 {
     switch (number) {
-    case MOATBETONY_PASSED: return "passed";
+    case MOATBETONY_PASSED: return "no refusal";
     case MOATBETONY_REFUSED_ACCOUNT_COUNT: return "account count outside 1 to 56";
     case MOATBETONY_REFUSED_SUPPLY: return "opening balances above 2^63-1 in all";
     case MOATBETONY_REFUSED_STATE: return "state damaged, altered or never opened";
@@ -450,6 +475,7 @@ MOATBETONY_ASSERT(__BYTE_ORDER__ == __ORDER_LITTLE_ENDIAN__);
 MOATBETONY_ASSERT(sizeof(size_t) == 8);
 MOATBETONY_ASSERT(sizeof(void *) == 8);
 MOATBETONY_ASSERT(sizeof(moatbetony_answer_t) == 16);
+MOATBETONY_ASSERT(offsetof(moatbetony_answer_t, passed) == 4);
 MOATBETONY_ASSERT(offsetof(moatbetony_answer_t, place) == 8);
 MOATBETONY_ASSERT(sizeof(moatbetony_pair_t) == 24488);
 MOATBETONY_ASSERT(offsetof(moatbetony_pair_t, accounts) == 8);
@@ -481,11 +507,16 @@ MOATBETONY_ASSERT(sizeof(moatbetony_pair_figures_t) == 40);
 MOATBETONY_ASSERT(offsetof(moatbetony_pair_figures_t, home) == 16);
 MOATBETONY_ASSERT(offsetof(moatbetony_pair_figures_t, far) == 24);
 MOATBETONY_ASSERT(offsetof(moatbetony_pair_figures_t, flight) == 32);
+MOATBETONY_ASSERT(sizeof(moatbetony_pair_places_t) == 32);
+MOATBETONY_ASSERT(offsetof(moatbetony_pair_places_t, home) == 16);
+MOATBETONY_ASSERT(offsetof(moatbetony_pair_places_t, far) == 24);
 MOATBETONY_ASSERT(sizeof(moatbetony_home_outcome_t) == 12280);
 MOATBETONY_ASSERT(offsetof(moatbetony_home_outcome_t, state) == 16);
 MOATBETONY_ASSERT(sizeof(moatbetony_home_figures_t) == 32);
 MOATBETONY_ASSERT(offsetof(moatbetony_home_figures_t, home) == 16);
 MOATBETONY_ASSERT(offsetof(moatbetony_home_figures_t, pool) == 24);
+MOATBETONY_ASSERT(sizeof(moatbetony_home_places_t) == 24);
+MOATBETONY_ASSERT(offsetof(moatbetony_home_places_t, home) == 16);
 MOATBETONY_ASSERT(sizeof(moatbetony_balance_t) == 24);
 MOATBETONY_ASSERT(offsetof(moatbetony_balance_t, balance) == 16);
 MOATBETONY_ASSERT(sizeof(moatbetony_record_t) == 48);

@@ -23,13 +23,15 @@ static void check(int holds, const char *what, int line)
     }
 }
 
+/* Of every answer that is looked at: `passed` is 1 with number 0 and 0 with a refusal. */
 static void check_answer(moatbetony_answer_t a, uint32_t number, uint64_t place, int line)
 {
+    uint32_t passed = number == MOATBETONY_PASSED ? 1 : 0;
     checks++;
-    if (a.number != number || a.place != place) {
+    if (a.number != number || a.passed != passed || a.place != place) {
         failed++;
-        printf("FAILED line %d: wanted %u at %llu, got %u at %llu\n", line, (unsigned)number, (unsigned long long)place,
-            (unsigned)a.number, (unsigned long long)a.place);
+        printf("FAILED line %d: wanted %u, passed %u, at %llu, got %u, passed %u, at %llu\n", line, (unsigned)number, (unsigned)passed,
+            (unsigned long long)place, (unsigned)a.number, (unsigned)a.passed, (unsigned long long)a.place);
     }
 }
 
@@ -141,16 +143,33 @@ static void versions(void)
     static const uint32_t known[] = {0, 1, 2, 3, 4, 11, 12, 13, 14, 21, 22, 23, 24, 25, 31, 32, 33, 41};
     size_t i, j;
     CHECK(moatbetony_version() == MOATBETONY_VERSION);
-    CHECK(moatbetony_version() == 100);
-    CHECK(strcmp(MOATBETONY_VERSION_TEXT, "0.1.0") == 0);
+    CHECK(moatbetony_version() == 200);
+    CHECK(strcmp(MOATBETONY_VERSION_TEXT, "0.2.0") == 0);
     CHECK(moatbetony_state_version() == MOATBETONY_STATE_VERSION);
     for (i = 0; i < sizeof known / sizeof *known; i++) {
         CHECK(strcmp(moatbetony_refusal_text(known[i]), moatbetony_refusal_text(99)) != 0);
         for (j = 0; j < i; j++)
             CHECK(strcmp(moatbetony_refusal_text(known[i]), moatbetony_refusal_text(known[j])) != 0);
     }
-    CHECK(strcmp(moatbetony_refusal_text(0), "passed") == 0);
+    CHECK(strcmp(moatbetony_refusal_text(0), "no refusal") == 0);
     CHECK(strcmp(moatbetony_refusal_text(0xffffffff), moatbetony_refusal_text(5)) == 0);
+}
+
+/* A result that was cleared and never filled has not passed, though its number is 0; what a call fills in is not left over. */
+static void cleared(void)
+{
+    moatbetony_home_outcome_t outcome;
+    moatbetony_record_t record;
+    bytes32 r = local(0, 0, 1, 1, 1);
+    memset(&outcome, 0, sizeof outcome);
+    CHECK(!outcome.answer.passed && outcome.answer.number == MOATBETONY_PASSED);
+    outcome = moatbetony_home_check_record(outcome.state, BYTES(r.at, 32));
+    ANSWER(outcome.answer, 3, 0);
+    memset(&record, 0xff, sizeof record);
+    record = moatbetony_record_read(BYTES(r.at, 31));
+    ANSWER(record.answer, 21, 0);
+    record = moatbetony_record_read(BYTES(r.at, 32));
+    ANSWER(record.answer, 0, 0);
 }
 
 /* ## Records */
@@ -251,6 +270,13 @@ static void pair_balance_is(const moatbetony_pair_t *s, int ledger, unsigned acc
     moatbetony_balance_t b = moatbetony_pair_balance(*s, (uint8_t)ledger, (uint16_t)account);
     check_answer(b.answer, 0, 0, line);
     check(b.balance == balance, "balance", line);
+}
+
+static void pair_left(const moatbetony_pair_t *s, uint64_t home, uint64_t far, int line)
+{
+    moatbetony_pair_places_t p = moatbetony_pair_places_left(*s);
+    check_answer(p.answer, 0, 0, line);
+    check(p.home == home && p.far == far, "places left", line);
 }
 
 /* Hands a record in by all four ways, from the same state: each gives this answer, and the same state; a refusal the state as it was. */
@@ -371,6 +397,7 @@ static void pair_columns(void)
     PAIR(s, local(0, 0, 1, 0x1122334455667788, 1), 0);
     PAIR(s, sending(0, 2, 3, UINT64_C(0xfedcba9876543210), 300), 0);
     PAIR(s, arrival(1, 2, 3, UINT64_C(0xfedcba9876543210), 300), 0);
+    pair_left(&s, 510, 511, __LINE__);
     CHECK(s.counts[0] == 2 && s.counts[1] == 1 && s.accounts[0] == 3 && s.accounts[1] == 4 && s.supply == 6100);
     CHECK(s.balances[0] == 999 && s.balances[1] == 2001 && s.balances[2] == 2700 && s.balances[59] == 340);
     CHECK(s.numbers[0] == 0x1122334455667788 && s.amounts[0] == 1 && s.senders[0] == 0 && s.receivers[0] == 1);
@@ -450,6 +477,7 @@ static void pair_forged(const moatbetony_pair_t *forged, int line)
     moatbetony_pair_outcome_t o = moatbetony_pair_check_record(s, BYTES(r.at, 32));
     moatbetony_pair_figures_t f = moatbetony_pair_figures(s);
     moatbetony_balance_t b = moatbetony_pair_balance(s, 0, 0);
+    moatbetony_pair_places_t p = moatbetony_pair_places_left(s);
     check_answer(o.answer, 3, 0, line);
     check(memcmp(&o.state, forged, sizeof s) == 0, "state as it came", line);
     o = moatbetony_pair_check_record(s, NULL, 0);
@@ -464,6 +492,8 @@ static void pair_forged(const moatbetony_pair_t *forged, int line)
     check_answer(b.answer, 3, 0, line);
     check(b.balance == 0, "zero beside 3", line);
     check_answer(moatbetony_pair_balance(s, 9, 0).answer, 3, 0, line);
+    check_answer(p.answer, 3, 0, line);
+    check(p.home == 0 && p.far == 0, "zeros beside 3", line);
     check_answer(moatbetony_pair_take(&s, BYTES(r.at, 32)), 3, 0, line);
     check_answer(moatbetony_pair_take_list(&s, BYTES(r.at, 32)), 3, 0, line);
     check(memcmp(&s, forged, sizeof s) == 0, "state as it came", line);
@@ -557,15 +587,18 @@ static void pair_full(void)
     for (l = 0; l < 2; l++) {
         for (i = 0; i < 512; i++) {
             bytes32 r = local(l, 0, 0, 1000 + i, 1);
+            pair_left(&s, l == 0 ? 512 - i : 0, l == 0 ? 512 : 512 - i, __LINE__);
             ANSWER(moatbetony_pair_take(&s, BYTES(r.at, 32)), 0, 0);
         }
         CHECK(s.counts[l] == 512);
+        pair_left(&s, 0, l == 0 ? 512 : 0, __LINE__);
         PAIR(s, local(l, 0, 0, 1000 + 512, 1), 41);
         PAIR(s, local(l, 0, 0, 1000 + 511, 1), 24);
         PAIR(s, local(l, 0, 0, 1000 + 512, 101), 25);
     }
     PAIR(s, arrival(0, 0, 0, 5000, 1), 31);
     pair_figures_are(&s, 150, 20, 0, __LINE__);
+    pair_left(&s, 0, 0, __LINE__);
 }
 
 /* ## The home validator */
@@ -589,6 +622,13 @@ static void home_balance_is(const moatbetony_home_t *s, unsigned account, uint64
     moatbetony_balance_t b = moatbetony_home_balance(*s, (uint16_t)account);
     check_answer(b.answer, 0, 0, line);
     check(b.balance == balance, "balance", line);
+}
+
+static void home_left(const moatbetony_home_t *s, uint64_t home, int line)
+{
+    moatbetony_home_places_t p = moatbetony_home_places_left(*s);
+    check_answer(p.answer, 0, 0, line);
+    check(p.home == home, "places left", line);
 }
 
 /* As pair_one. */
@@ -754,6 +794,7 @@ static void home_forged(const moatbetony_home_t *forged, int line)
     moatbetony_home_outcome_t o = moatbetony_home_check_record(s, BYTES(r.at, 32));
     moatbetony_home_figures_t f = moatbetony_home_figures(s);
     moatbetony_balance_t b = moatbetony_home_balance(s, 0);
+    moatbetony_home_places_t p = moatbetony_home_places_left(s);
     check_answer(o.answer, 3, 0, line);
     check(memcmp(&o.state, forged, sizeof s) == 0, "state as it came", line);
     o = moatbetony_home_check_record(s, NULL, 0);
@@ -768,6 +809,8 @@ static void home_forged(const moatbetony_home_t *forged, int line)
     check_answer(b.answer, 3, 0, line);
     check(b.balance == 0, "zero beside 3", line);
     check_answer(moatbetony_home_balance(s, 99).answer, 3, 0, line);
+    check_answer(p.answer, 3, 0, line);
+    check(p.home == 0, "zero beside 3", line);
     check_answer(moatbetony_home_take(&s, BYTES(r.at, 32)), 3, 0, line);
     check_answer(moatbetony_home_take_list(&s, BYTES(r.at, 32)), 3, 0, line);
     check(memcmp(&s, forged, sizeof s) == 0, "state as it came", line);
@@ -853,9 +896,11 @@ static void home_full(void)
     uint64_t i;
     for (i = 0; i < 512; i++) {
         bytes32 r = local(0, 0, 0, 1000 + i, 1);
+        home_left(&s, 512 - i, __LINE__);
         ANSWER(moatbetony_home_take(&s, BYTES(r.at, 32)), 0, 0);
     }
     CHECK(s.count == 512);
+    home_left(&s, 0, __LINE__);
     HOME(s, local(0, 0, 0, 2000, 1), 41);
     HOME(s, arrival(0, 0, 0, 2000, 20), 41);
     HOME(s, local(0, 0, 0, 1511, 1), 24);
@@ -1138,6 +1183,7 @@ static void digests(void)
 int main(void)
 {
     versions();
+    cleared();
     digests();
     records();
     pair_openings();

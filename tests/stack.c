@@ -20,8 +20,10 @@ static uint8_t pair_list[2 * HALF * 32], home_list[HALF * 32], one_arrival[32], 
 static uint64_t balances[MOATBETONY_MAX_ACCOUNTS];
 static moatbetony_pair_outcome_t pair_outcome;
 static moatbetony_pair_figures_t pair_figures;
+static moatbetony_pair_places_t pair_places;
 static moatbetony_home_outcome_t home_outcome;
 static moatbetony_home_figures_t home_figures;
+static moatbetony_home_places_t home_places;
 static moatbetony_balance_t balance;
 static moatbetony_record_t record;
 static moatbetony_encoded_t encoded;
@@ -48,6 +50,7 @@ MEASURED(m_pair_record, pair_outcome = moatbetony_pair_check_record(pair_room, o
 MEASURED(m_pair_list, pair_outcome = moatbetony_pair_check_list(pair_half, pair_list, sizeof pair_list))
 MEASURED(m_pair_figures, pair_figures = moatbetony_pair_figures(pair))
 MEASURED(m_pair_balance, balance = moatbetony_pair_balance(pair, 1, 55))
+MEASURED(m_pair_places, pair_places = moatbetony_pair_places_left(pair))
 MEASURED(m_pair_take, answer = moatbetony_pair_take(&pair_room, one_arrival, 32))
 MEASURED(m_pair_take_list, answer = moatbetony_pair_take_list(&pair_half, pair_list, sizeof pair_list))
 MEASURED(m_home_open, home_outcome = moatbetony_home_open(balances, 56, 56, 0))
@@ -55,6 +58,7 @@ MEASURED(m_home_record, home_outcome = moatbetony_home_check_record(home_room, o
 MEASURED(m_home_list, home_outcome = moatbetony_home_check_list(home_half, home_list, sizeof home_list))
 MEASURED(m_home_figures, home_figures = moatbetony_home_figures(home))
 MEASURED(m_home_balance, balance = moatbetony_home_balance(home, 55))
+MEASURED(m_home_places, home_places = moatbetony_home_places_left(home))
 MEASURED(m_home_take, answer = moatbetony_home_take(&home_room, one_arrival, 32))
 MEASURED(m_home_take_list, answer = moatbetony_home_take_list(&home_half, home_list, sizeof home_list))
 MEASURED(m_record_read, record = moatbetony_record_read(one_arrival, 32))
@@ -118,7 +122,7 @@ static void measure(const char *name, void (*call)(void), size_t limit)
 static void put_record(uint8_t *at, int kind, int ledger, uint64_t number)
 {
     encoded = moatbetony_record_encode((uint8_t)kind, (uint8_t)ledger, (uint16_t)(number % 56), (uint16_t)(number / 56 % 56), number, 1, 1);
-    need(encoded.answer.number == 0, "a record to encode");
+    need(encoded.answer.passed == 1, "a record to encode");
     memcpy(at, encoded.bytes, 32);
 }
 
@@ -139,18 +143,18 @@ static void fill(void)
         put_record(home_list + 32 * i, MOATBETONY_ARRIVAL, MOATBETONY_HOME, (HALF + i) << 16);
     }
     memcpy(one_arrival, home_list + 32 * (HALF - 1), 32);
-    need(moatbetony_pair_take_list(&pair, sendings, sizeof sendings).number == 0, "sendings");
-    need(moatbetony_pair_take_list(&pair, arrivals, sizeof arrivals).number == 0, "arrivals");
-    need(moatbetony_home_take_list(&home, arrivals, sizeof arrivals).number == 0, "arrivals at home");
+    need(moatbetony_pair_take_list(&pair, sendings, sizeof sendings).passed == 1, "sendings");
+    need(moatbetony_pair_take_list(&pair, arrivals, sizeof arrivals).passed == 1, "arrivals");
+    need(moatbetony_home_take_list(&home, arrivals, sizeof arrivals).passed == 1, "arrivals at home");
     pair_half = pair_room = pair;
     home_half = home_room = home;
-    need(moatbetony_pair_take_list(&pair_room, pair_list, sizeof pair_list - 32).number == 0, "a pair list but for its last record");
-    need(moatbetony_home_take_list(&home_room, home_list, sizeof home_list - 32).number == 0, "a home list but for its last record");
-    need(moatbetony_pair_take_list(&pair, pair_list, sizeof pair_list).number == 0, "a pair list");
-    need(moatbetony_home_take_list(&home, home_list, sizeof home_list).number == 0, "a home list");
+    need(moatbetony_pair_take_list(&pair_room, pair_list, sizeof pair_list - 32).passed == 1, "a pair list but for its last record");
+    need(moatbetony_home_take_list(&home_room, home_list, sizeof home_list - 32).passed == 1, "a home list but for its last record");
+    need(moatbetony_pair_take_list(&pair, pair_list, sizeof pair_list).passed == 1, "a pair list");
+    need(moatbetony_home_take_list(&home, home_list, sizeof home_list).passed == 1, "a home list");
     need(pair.counts[0] == RECORDS && pair.counts[1] == RECORDS && home.count == RECORDS, "full tables");
-    need(moatbetony_block_write(block, 512, 3, MOATBETONY_BLOCK_RECORDS, home_list, 14 * 32).number == 0, "a block");
-    need(moatbetony_block_write(balances_block, 512, 0, MOATBETONY_BLOCK_HOME_BALANCES, home_list, 56 * 8).number == 0, "a block");
+    need(moatbetony_block_write(block, 512, 3, MOATBETONY_BLOCK_RECORDS, home_list, 14 * 32).passed == 1, "a block");
+    need(moatbetony_block_write(balances_block, 512, 0, MOATBETONY_BLOCK_HOME_BALANCES, home_list, 56 * 8).passed == 1, "a block");
 }
 
 int main(void)
@@ -158,50 +162,54 @@ int main(void)
     fill();
     measure("pair_open", m_pair_open, MOATBETONY_STACK_PAIR);
     measure("pair_record", m_pair_record, MOATBETONY_STACK_PAIR);
-    need(pair_outcome.answer.number == 0, "the record passes");
+    need(pair_outcome.answer.passed == 1, "the record passes");
     measure("pair_list", m_pair_list, MOATBETONY_STACK_PAIR);
-    need(pair_outcome.answer.number == 0, "the list passes");
+    need(pair_outcome.answer.passed == 1, "the list passes");
     measure("pair_figures", m_pair_figures, MOATBETONY_STACK_PAIR);
-    need(pair_figures.answer.number == 0, "the figures pass");
+    need(pair_figures.answer.passed == 1, "the figures pass");
     measure("pair_balance", m_pair_balance, MOATBETONY_STACK_PAIR);
-    need(balance.answer.number == 0, "the balance passes");
+    need(balance.answer.passed == 1, "the balance passes");
+    measure("pair_places", m_pair_places, MOATBETONY_STACK_PAIR);
+    need(pair_places.answer.passed == 1 && pair_places.home == 0 && pair_places.far == 0, "the places pass");
     measure("pair_take", m_pair_take, MOATBETONY_STACK_PAIR);
-    need(answer.number == 0, "the record passes");
+    need(answer.passed == 1, "the record passes");
     measure("pair_take, 24", m_pair_take, MOATBETONY_STACK_PAIR);
-    need(answer.number == 24, "the record is refused");
+    need(answer.passed == 0 && answer.number == 24, "the record is refused");
     measure("pair_take_list", m_pair_take_list, MOATBETONY_STACK_PAIR);
-    need(answer.number == 0, "the list passes");
+    need(answer.passed == 1, "the list passes");
     measure("home_open", m_home_open, MOATBETONY_STACK_HOME);
     measure("home_record", m_home_record, MOATBETONY_STACK_HOME);
-    need(home_outcome.answer.number == 0, "the record passes");
+    need(home_outcome.answer.passed == 1, "the record passes");
     measure("home_list", m_home_list, MOATBETONY_STACK_HOME);
-    need(home_outcome.answer.number == 0, "the list passes");
+    need(home_outcome.answer.passed == 1, "the list passes");
     measure("home_figures", m_home_figures, MOATBETONY_STACK_HOME);
-    need(home_figures.answer.number == 0, "the figures pass");
+    need(home_figures.answer.passed == 1, "the figures pass");
     measure("home_balance", m_home_balance, MOATBETONY_STACK_HOME);
-    need(balance.answer.number == 0, "the balance passes");
+    need(balance.answer.passed == 1, "the balance passes");
+    measure("home_places", m_home_places, MOATBETONY_STACK_HOME);
+    need(home_places.answer.passed == 1 && home_places.home == 0, "the places pass");
     measure("home_take", m_home_take, MOATBETONY_STACK_HOME);
-    need(answer.number == 0, "the record passes");
+    need(answer.passed == 1, "the record passes");
     measure("home_take, 24", m_home_take, MOATBETONY_STACK_HOME);
-    need(answer.number == 24, "the record is refused");
+    need(answer.passed == 0 && answer.number == 24, "the record is refused");
     measure("home_take_list", m_home_take_list, MOATBETONY_STACK_HOME);
-    need(answer.number == 0, "the list passes");
+    need(answer.passed == 1, "the list passes");
     measure("record_read", m_record_read, MOATBETONY_STACK_OTHER);
-    need(record.answer.number == 0, "the record reads");
+    need(record.answer.passed == 1, "the record reads");
     measure("record_encode", m_record_encode, MOATBETONY_STACK_OTHER);
-    need(encoded.answer.number == 0, "the record is encoded");
+    need(encoded.answer.passed == 1, "the record is encoded");
     measure("block_judge", m_block_judge, MOATBETONY_STACK_OTHER);
-    need(answer.number == 0, "the block passes");
+    need(answer.passed == 1, "the block passes");
     measure("block_judge_r.", m_block_judge_record, MOATBETONY_STACK_OTHER);
-    need(answer.number == 0, "the place passes");
+    need(answer.passed == 1, "the place passes");
     measure("block_record", m_block_record, MOATBETONY_STACK_OTHER);
-    need(part.answer.number == 0, "the part passes");
+    need(part.answer.passed == 1, "the part passes");
     measure("block_count", m_block_count, MOATBETONY_STACK_OTHER);
-    need(count.answer.number == 0, "the count passes");
+    need(count.answer.passed == 1, "the count passes");
     measure("block_balances", m_block_balances, MOATBETONY_STACK_OTHER);
-    need(opening.answer.number == 0, "the balances pass");
+    need(opening.answer.passed == 1, "the balances pass");
     measure("block_write", m_block_write, MOATBETONY_STACK_OTHER);
-    need(answer.number == 0, "the write passes");
+    need(answer.passed == 1, "the write passes");
     measure("sha256", m_sha256, MOATBETONY_STACK_OTHER);
     measure("version", m_version, MOATBETONY_STACK_OTHER);
     measure("state_version", m_state_version, MOATBETONY_STACK_OTHER);

@@ -23,7 +23,7 @@ usage: second-validator list
        second-validator full --fill early|late [--seed N|random]
            a full journal on standard output
        second-validator store DIR
-           small journals and their listings into DIR
+           a fixed set of journals and their listings into DIR
 ";
 
 const SEED: u64 = 20_240_607;

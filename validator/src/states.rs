@@ -1,6 +1,7 @@
 //! Paper 01, refusal 3 and "The runs of demand 3": the states of pair book and
 //! guard as plain numbers, so that every forged value can stand in them, and
-//! the calls that are handed such a state.
+//! the calls that are handed such a state. The places left are no call of the
+//! paper; they follow from the 512 passed records that a ledger can have.
 //!
 //! The rules are those of `pair` and `guard`. What stands at or beyond a count
 //! is not looked at and stays as it came, and a refused call alters nothing.
@@ -192,6 +193,16 @@ impl PairState {
         }
     }
 
+    /// How many more passed records home and far can take: 3. Zeros beside a
+    /// refusal.
+    pub fn places_left(&self) -> (Answer, [u64; 2]) {
+        let Some(book) = self.accepted_book() else {
+            return (refused(refusal::STATE), [0; 2]);
+        };
+        let left = Ledger::BOTH.map(|ledger| places_left(&book, ledger));
+        (Answer::Passed, left)
+    }
+
     /// The pair book of this state, if its counts of held records are ones
     /// that the columns can have; all else is judged by the book.
     pub fn book(&self) -> Option<PairBook> {
@@ -288,6 +299,14 @@ impl HomeState {
         (Answer::Passed, guard.balance(Ledger::Home, account))
     }
 
+    /// How many more passed records home can take: 3. 0 beside a refusal.
+    pub fn places_left(&self) -> (Answer, u64) {
+        let Some(guard) = self.accepted_guard() else {
+            return (refused(refusal::STATE), 0);
+        };
+        (Answer::Passed, places_left(&guard, Ledger::Home))
+    }
+
     /// The guard of this state, if its count of held records is one that the
     /// columns can have; all else is judged by the guard.
     pub fn guard(&self) -> Option<Guard> {
@@ -316,6 +335,11 @@ impl HomeState {
 
 fn refused(number: u8) -> Answer {
     Answer::at(Some(number), 0)
+}
+
+/// The places that an accepted state's table has left: it holds at most 512.
+fn places_left(book: &impl Book, ledger: Ledger) -> u64 {
+    (CAPACITY - book.passed_count(ledger)) as u64
 }
 
 /// A figure of an accepted state: it is at most the stake.

@@ -30,8 +30,13 @@ fn library_against_itself() {
         let (calls, passed) = (report.family_calls(family), report.family_passed(family));
         assert!(3 * passed > calls, "{family}: {passed} of {calls}");
     }
-    assert_eq!(report.by_call.len(), 19);
+    assert_eq!(report.by_call.len(), 21);
     assert_eq!(report.by_family.len(), 11);
+    for call in ["pair_places_left", "home_places_left"] {
+        let answers = &report.by_call[call];
+        assert!(answers[&0] > 200 && answers[&3] > 100, "{call} {answers:?}");
+        assert_eq!(answers.len(), 2);
+    }
 }
 
 #[test]
@@ -264,6 +269,8 @@ enum Fault {
     ReservedByte,
     EncodesAnyVerdict,
     Padding,
+    PairPlaces(Places),
+    HomePlaces(Places),
 }
 
 const FAULTS: [Fault; 49] = [
@@ -318,6 +325,81 @@ const FAULTS: [Fault; 49] = [
     Fault::Padding,
 ];
 
+/// What a part is wrong in when it tells the places left.
+#[derive(Clone, Copy, Debug, PartialEq, Eq)]
+enum Places {
+    /// What is held in place of what is left.
+    Held,
+    OneTooFew,
+    OneTooMany,
+    /// Wrong by one only where a table is full, or has one place.
+    OneWhenFull,
+    NoneForTheLast,
+    LowByte,
+    /// Told by the entries and not by the count.
+    EmptyEntries,
+    NumberZeroIsEmpty,
+    FullIsRefused,
+    RefusedPasses,
+    ZerosPass,
+    BoundsAlone,
+    SumNotLookedAt,
+    BesideRefusal,
+    PlaceOfRefusal,
+    /// These need two ledgers.
+    Exchanged,
+    HomeTwice,
+    FarTwice,
+    OneTableForBoth,
+    ZerosForFarOnly,
+}
+
+/// Those that a part can be wrong in for one ledger too.
+const PLACES: [Places; 15] = [
+    Places::Held,
+    Places::OneTooFew,
+    Places::OneTooMany,
+    Places::OneWhenFull,
+    Places::NoneForTheLast,
+    Places::LowByte,
+    Places::EmptyEntries,
+    Places::NumberZeroIsEmpty,
+    Places::FullIsRefused,
+    Places::RefusedPasses,
+    Places::ZerosPass,
+    Places::BoundsAlone,
+    Places::SumNotLookedAt,
+    Places::BesideRefusal,
+    Places::PlaceOfRefusal,
+];
+
+const PLACES_OF_TWO: [Places; 5] = [
+    Places::Exchanged,
+    Places::HomeTwice,
+    Places::FarTwice,
+    Places::OneTableForBoth,
+    Places::ZerosForFarOnly,
+];
+
+#[test]
+fn wrong_places_left_are_found() {
+    for seed in [7, 8, 1_000_003] {
+        for wrong in PLACES.into_iter().chain(PLACES_OF_TWO) {
+            assert_places_found(Fault::PairPlaces(wrong), seed, "pair_places_left");
+        }
+        for wrong in PLACES {
+            assert_places_found(Fault::HomePlaces(wrong), seed, "home_places_left");
+        }
+    }
+}
+
+fn assert_places_found(fault: Fault, seed: u64, call: &str) {
+    let report = compare(&mut Wrong::new(fault), seed, CALLS, 1);
+    assert!(report.differences > 0, "{fault:?} was not found");
+    assert_eq!(report.kept[0].call, call, "{fault:?}");
+    assert!(report.kept[0].inputs.contains("Counts: "), "{fault:?}");
+}
+
 #[test]
 fn wrong_parts_are_found() {
     for fault in FAULTS {
@@ -346,7 +428,13 @@ fn same_seed_same_calls() {
     assert_eq!(first, sum(3, Fault::None));
     assert_ne!(first, sum(4, Fault::None));
     // What the part answers has no influence on the calls.
-    assert_eq!(first, sum(3, Fault::WritesBeyondTheCount));
+    for fault in [
+        Fault::WritesBeyondTheCount,
+        Fault::PairPlaces(Places::RefusedPasses),
+        Fault::HomePlaces(Places::Held),
+    ] {
+        assert_eq!(first, sum(3, fault));
+    }
 }
 
 #[test]
@@ -531,6 +619,104 @@ fn fit_arrivals(state: &mut PairState) {
     }
 }
 
+impl Places {
+    /// The places left as a part tells them that is wrong in this, from the
+    /// right answer. `sum_wrong` says that the state is refused for its sum
+    /// alone.
+    fn told<S: Fields>(
+        self,
+        state: &S,
+        right: (Answer, Vec<u64>),
+        sum_wrong: bool,
+    ) -> (Answer, Vec<u64>) {
+        let (answer, left) = right;
+        if answer.passed() {
+            return self.told_of_accepted(state, left);
+        }
+        let mut unjudged: Vec<u64> = (0..S::LEDGERS)
+            .map(|ledger| 512_u64.saturating_sub(state.get(Field::Counts, ledger)))
+            .collect();
+        match self {
+            Places::RefusedPasses => (Passed, unjudged),
+            Places::ZerosPass if all_zero(state) => (Passed, unjudged),
+            Places::BoundsAlone if in_bounds(state) => (Passed, unjudged),
+            Places::SumNotLookedAt if sum_wrong => (Passed, unjudged),
+            Places::BesideRefusal => (answer, unjudged),
+            Places::ZerosForFarOnly => {
+                unjudged[1] = 0;
+                (answer, unjudged)
+            }
+            Places::PlaceOfRefusal => {
+                let number = answer.number();
+                (Refused { number, place: 1 }, left)
+            }
+            _ => (answer, left),
+        }
+    }
+
+    fn told_of_accepted<S: Fields>(self, state: &S, left: Vec<u64>) -> (Answer, Vec<u64>) {
+        let told = match self {
+            Places::FullIsRefused if left.contains(&0) => {
+                return (refused(41), vec![0; left.len()]);
+            }
+            Places::Exchanged => vec![left[1], left[0]],
+            Places::HomeTwice => vec![left[0]; 2],
+            Places::FarTwice => vec![left[1]; 2],
+            Places::OneTableForBoth => vec![(left[0] + left[1]).saturating_sub(512); 2],
+            _ => (0..left.len())
+                .map(|ledger| self.told_of_ledger(state, ledger, left[ledger]))
+                .collect(),
+        };
+        (Passed, told)
+    }
+
+    fn told_of_ledger<S: Fields>(self, state: &S, ledger: usize, left: u64) -> u64 {
+        let zeros = |field, entries: std::ops::Range<usize>| {
+            let zero = |&entry: &usize| state.get(field, 512 * ledger + entry) == 0;
+            entries.filter(zero).count() as u64
+        };
+        match self {
+            Places::Held => 512 - left,
+            Places::OneTooFew => left.saturating_sub(1),
+            Places::OneTooMany => left + 1,
+            Places::OneWhenFull => left.max(1),
+            Places::NoneForTheLast if left == 1 => 0,
+            Places::LowByte => left & 0xff,
+            Places::EmptyEntries => zeros(Field::Kinds, 0..512),
+            Places::NumberZeroIsEmpty => left + zeros(Field::Numbers, 0..512 - left as usize),
+            _ => left,
+        }
+    }
+}
+
+fn all_zero<S: Fields>(state: &S) -> bool {
+    let zero = |&field: &Field| (0..S::length(field)).all(|index| state.get(field, index) == 0);
+    S::FIELDS.iter().all(zero)
+}
+
+/// Whether the counts are within bounds.
+fn in_bounds<S: Fields>(state: &S) -> bool {
+    let accounts = |ledger| (1..=56).contains(&state.get(Field::Accounts, ledger));
+    let held = |ledger| state.get(Field::Counts, ledger) <= 512;
+    (0..2).all(accounts) && (0..S::LEDGERS).all(held)
+}
+
+/// The state with the stake that its sum asks for.
+fn pair_with_sum(state: &PairState) -> Option<Box<PairState>> {
+    let book = state.book()?;
+    let sum = book.home_total() + book.far_total() + book.in_flight();
+    let mut state = Box::new(state.clone());
+    state.supply = u64::try_from(sum).ok()?;
+    Some(state)
+}
+
+fn home_with_sum(state: &HomeState) -> Option<Box<HomeState>> {
+    let sum = state.guard()?.home_total() + u128::from(state.pool);
+    let mut state = Box::new(state.clone());
+    state.supply = u64::try_from(sum).ok()?;
+    Some(state)
+}
+
 /// What a wrong part looks at.
 struct Seen {
     guard: bool,
@@ -682,6 +868,18 @@ impl Part for Wrong {
         (answer, balance)
     }
 
+    fn pair_places_left(&mut self, state: &PairState) -> (Answer, [u64; 2]) {
+        self.listener.note_state(state);
+        self.listener.pair_handed_in(state);
+        let (answer, left) = self.right.pair_places_left(state);
+        let Fault::PairPlaces(wrong) = self.fault else {
+            return (answer, left);
+        };
+        let sum_wrong = pair_with_sum(state).is_some_and(|state| state.places_left().0.passed());
+        let (answer, told) = wrong.told(state, (answer, left.to_vec()), sum_wrong);
+        (answer, [told[0], told[1]])
+    }
+
     fn home_open(&mut self, home: &[u64], fars: usize, far_total: u64) -> (Answer, Box<HomeState>) {
         let (answer, state) = self.right.home_open(home, fars, far_total);
         self.listener.home_opened(&state);
@@ -718,6 +916,18 @@ impl Part for Wrong {
     fn home_balance(&mut self, state: &HomeState, account: u16) -> (Answer, u64) {
         self.listener.home_handed_in(state);
         self.right.home_balance(state, account)
+    }
+
+    fn home_places_left(&mut self, state: &HomeState) -> (Answer, u64) {
+        self.listener.note_state(state);
+        self.listener.home_handed_in(state);
+        let (answer, left) = self.right.home_places_left(state);
+        let Fault::HomePlaces(wrong) = self.fault else {
+            return (answer, left);
+        };
+        let sum_wrong = home_with_sum(state).is_some_and(|state| state.places_left().0.passed());
+        let (answer, told) = wrong.told(state, (answer, vec![left]), sum_wrong);
+        (answer, told[0])
     }
 
     fn record_read(&mut self, bytes: &[u8]) -> (Answer, Held) {

@@ -6,7 +6,9 @@ use std::os::unix::fs::PermissionsExt;
 use std::path::{Path, PathBuf};
 use std::time::Duration;
 
+use second_validator::journal::{seal, BLOCK, FULL, ITEMS};
 use second_validator::listing::listing;
+use second_validator::record::RECORD;
 use second_validator::runner::families::{self, Plan};
 use second_validator::runner::full::{self, Fill};
 use second_validator::runner::process::{PrivateFolder, Runner};
@@ -115,12 +117,116 @@ fn stored_journals() {
             );
         }
     }
-    assert!(samples.len() <= 60 && size < 1_000_000);
+    assert!(samples.len() == 62 && size < 1_000_000);
     for key in [2, 11, 12, 13, 14].map(|number| (true, number)) {
         assert!(tally.contains_key(&key));
     }
     for key in [0, 21, 22, 23, 24, 25, 31, 41].map(|number| (false, number)) {
         assert!(tally.contains_key(&key));
+    }
+}
+
+fn stored(name: &str) -> Vec<u8> {
+    let mut samples = store::samples().into_iter();
+    samples.find(|sample| sample.name == name).unwrap().journal
+}
+
+/// The ledger byte and the answer of each listed record.
+fn ledgers_and_answers(journal: &[u8]) -> Vec<(u8, u32)> {
+    let text = String::from_utf8(listing(journal)).unwrap();
+    let records = text.lines().skip(2).filter(|line| !line.starts_with('f'));
+    let of_record = |(index, line): (usize, &str)| {
+        let block = &journal[(2 + index / FULL) * BLOCK..];
+        let ledger = block[ITEMS + index % FULL * RECORD + 1];
+        (ledger, line.split(' ').nth(2).unwrap().parse().unwrap())
+    };
+    records.enumerate().map(of_record).collect()
+}
+
+#[test]
+fn lengths_of_long_stored_journals() {
+    for (name, blocks, last, listed) in [
+        ("long_130_blocks", 130, 14, 128 * FULL),
+        ("long_131_blocks", 131, 1, 128 * FULL + 1),
+        ("long_150_blocks_bad_last", 150, 14, 147 * FULL),
+    ] {
+        let journal = stored(name);
+        assert_eq!(journal.len(), blocks * BLOCK, "{name}");
+        assert_eq!(journal[(blocks - 1) * BLOCK + 5], last, "{name}");
+        assert_eq!(ledgers_and_answers(&journal).len(), listed, "{name}");
+        let text = String::from_utf8(listing(&journal)).unwrap();
+        let fault = text.lines().find(|line| line.starts_with("fault"));
+        let bad = name.ends_with("bad_last");
+        assert_eq!(fault, bad.then_some("fault 12 149"), "{name}");
+    }
+}
+
+/// The long stored journals, the last check put right, with the ledger whose
+/// table fills and the block to which it surely has places.
+fn long_sound() -> [(Vec<u8>, u8, usize); 3] {
+    let sound = |name| {
+        let mut journal = stored(name);
+        let last = journal.len() - BLOCK;
+        seal(&mut journal[last..]);
+        journal
+    };
+    [
+        (sound("long_130_blocks"), 0, 120),
+        (sound("long_131_blocks"), 1, 120),
+        (sound("long_150_blocks_bad_last"), 0, 105),
+    ]
+}
+
+#[test]
+fn long_stored_journals_pass_and_refuse_to_their_end() {
+    for (journal, full, until) in long_sound() {
+        let answers = ledgers_and_answers(&journal);
+        assert_eq!(answers.len().div_ceil(FULL) + 2, journal.len() / BLOCK);
+        // Within any six blocks both ledgers pass records, as long as they
+        // have places, and some are refused.
+        for (at, some) in answers.chunks_exact(6 * FULL).enumerate() {
+            let block = 2 + 6 * at;
+            assert!(some.contains(&(full, 0)) || block >= until, "{block}");
+            assert!(some.contains(&(1 - full, 0)), "{block}");
+            assert!(some.iter().any(|&(_, answer)| answer != 0), "{block}");
+        }
+        for quarter in answers.chunks(answers.len().div_ceil(4)) {
+            for answer in [21, 22, 23, 24, 25, 31] {
+                assert!(quarter.contains(&(0, answer)), "{answer}");
+                assert!(quarter.contains(&(1, answer)), "{answer}");
+            }
+        }
+        let count = |ledger, answer| {
+            let same = |other: &&(u8, u32)| **other == (ledger, answer);
+            answers.iter().filter(same).count()
+        };
+        assert_eq!(count(full, 0), 512);
+        assert!((490..512).contains(&count(1 - full, 0)));
+        assert!(count(full, 41) > 20 && count(1 - full, 41) == 0);
+    }
+}
+
+#[test]
+fn long_stored_journals_end_with_what_they_began() {
+    for (journal, full, _) in long_sound() {
+        let blocks = journal.len() / BLOCK;
+        let record = |block: usize, place: usize| {
+            let at = block * BLOCK + ITEMS + place * RECORD;
+            &journal[at..at + RECORD]
+        };
+        let first = record(2, 0);
+        let count = usize::from(journal[(blocks - 1) * BLOCK + 5]);
+        let last = record(blocks - 1, count - 1);
+        assert_eq!((first[0], last[0]), (2, 3));
+        assert_eq!((first[1], last[1]), (full, 1 - full));
+        assert_eq!(first[2..], last[2..]);
+        assert_eq!(ledgers_and_answers(&journal).last(), Some(&(1 - full, 0)));
+        // The figures of the opening do not come back, so that a book opened
+        // anew in any block shows.
+        let text = String::from_utf8(listing(&journal)).unwrap();
+        let figures = |line: &str| line.splitn(4, ' ').nth(3).unwrap().to_string();
+        let opened = figures(text.lines().nth(1).unwrap());
+        assert!(text.lines().skip(2).all(|line| figures(line) != opened));
     }
 }
 

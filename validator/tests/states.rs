@@ -77,6 +77,7 @@ fn assert_pair_refused(alter: impl Fn(&mut PairState)) {
     assert_eq!(state.figures(), (refused(3), [0; 3]));
     assert_eq!(state.balance(0, 0), (refused(3), 0));
     assert_eq!(state.balance(2, 60), (refused(3), 0));
+    assert_eq!(state.places_left(), (refused(3), [0; 2]));
     assert!(state == before);
 }
 
@@ -92,6 +93,7 @@ fn assert_home_refused(alter: impl Fn(&mut HomeState)) {
     assert_eq!(state.figures(), (refused(3), [0; 2]));
     assert_eq!(state.balance(0), (refused(3), 0));
     assert_eq!(state.balance(60), (refused(3), 0));
+    assert_eq!(state.places_left(), (refused(3), 0));
     assert!(state == before);
 }
 
@@ -154,6 +156,8 @@ fn refused_openings_hand_back_zeros() {
     // The state of zeros has no accounts.
     assert_eq!(PairState::ZERO.clone().check_list(&[]), refused(3));
     assert_eq!(HomeState::ZERO.clone().check_list(&[]), refused(3));
+    assert_eq!(PairState::ZERO.places_left(), (refused(3), [0; 2]));
+    assert_eq!(HomeState::ZERO.places_left(), (refused(3), 0));
 }
 
 #[test]
@@ -269,6 +273,7 @@ fn entries_beyond_the_counts_stay() {
     junk(&mut state);
     let before = state.clone();
     assert_eq!(state.figures(), traded().figures());
+    assert_eq!(state.places_left(), (Passed, [508, 509]));
     let list = [local(Home, 0, 1, 20, 1), local(Home, 1, 0, 21, 1)];
     let bytes: Vec<u8> = list.iter().flat_map(Record::bytes).collect();
     assert_eq!(
@@ -305,6 +310,7 @@ fn entries_beyond_the_count_of_the_guard_stay() {
         state.put_held(entry, &odd);
     }
     let before = state.clone();
+    assert_eq!(state.places_left(), (Passed, 509));
     assert_eq!(
         state.check_record(&local(Home, 0, 0, 6, 1).bytes()),
         refused(24)
@@ -464,6 +470,86 @@ fn balances_of_accounts() {
     assert_eq!(full.balance(0, 55), (Passed, 1));
     assert_eq!(full.balance(1, 55), (Passed, 2));
     assert_eq!(full.balance(1, 56), (refused(22), 0));
+}
+
+#[test]
+fn places_left_of_both_ledgers() {
+    assert_eq!(pair().places_left(), (Passed, [512, 512]));
+    assert_eq!(traded().places_left(), (Passed, [508, 509]));
+    let mut state = traded();
+    let before = state.clone();
+    for (record, answer) in [
+        (local(Home, 0, 0, 6, 1), refused(24)),
+        (local(Far, 0, 0, 11, MAX_AMOUNT), refused(25)),
+        (arrival(Far, 0, 0, 11, 1), refused(31)),
+    ] {
+        assert_eq!(state.check_record(&record.bytes()), answer);
+        assert_eq!(state.places_left(), (Passed, [508, 509]));
+    }
+    assert!(state == before);
+    // Each arrival and each sending takes a place on its own ledger.
+    let arrived = sending(Home, 1, 0, 9, 10).matching_arrival();
+    assert_eq!(state.check_record(&arrived.bytes()), Passed);
+    assert_eq!(state.places_left(), (Passed, [508, 508]));
+    let list = [sending(Home, 0, 0, 20, 1), sending(Home, 0, 0, 21, 1)];
+    let bytes: Vec<u8> = list.iter().flat_map(Record::bytes).collect();
+    assert_eq!(state.check_list(&bytes), Passed);
+    assert_eq!(state.places_left(), (Passed, [506, 508]));
+    assert_eq!(state.check_list(&bytes), refused(24));
+    assert_eq!(state.places_left(), (Passed, [506, 508]));
+    // A held record less leaves a place more, as far as it is accepted.
+    state.counts[0] -= 1;
+    assert_eq!(state.places_left(), (refused(3), [0, 0]));
+    state.balances[0] += 1;
+    assert_eq!(state.places_left(), (Passed, [507, 508]));
+}
+
+#[test]
+fn places_left_down_to_full_tables() {
+    let mut state = pair();
+    let mut guard = home();
+    for number in 0..512 {
+        let left = 512 - number;
+        assert_eq!(state.places_left(), (Passed, [left, 512]));
+        assert_eq!(guard.places_left(), (Passed, left));
+        let record = local(Home, 0, 0, number, 1).bytes();
+        assert_eq!(state.check_record(&record), Passed);
+        assert_eq!(guard.check_record(&record), Passed);
+    }
+    let record = local(Home, 0, 0, 512, 1).bytes();
+    assert_eq!(state.check_record(&record), refused(41));
+    assert_eq!(state.places_left(), (Passed, [0, 512]));
+    assert_eq!(guard.check_record(&record), refused(41));
+    assert_eq!(guard.places_left(), (Passed, 0));
+    let far = |number| local(Far, 0, 0, number, 1).bytes();
+    let list: Vec<u8> = (0..511).flat_map(far).collect();
+    assert_eq!(state.check_list(&list), Passed);
+    assert_eq!(state.places_left(), (Passed, [0, 1]));
+    assert_eq!(state.check_record(&far(511)), Passed);
+    assert_eq!(state.places_left(), (Passed, [0, 0]));
+    // A full table of a refused state is told as zeros too, and refused.
+    state.supply -= 1;
+    assert_eq!(state.places_left(), (refused(3), [0, 0]));
+    guard.pool += 1;
+    assert_eq!(guard.places_left(), (refused(3), 0));
+}
+
+#[test]
+fn places_left_of_the_guard() {
+    assert_eq!(home().places_left(), (Passed, 512));
+    let mut state = traded_home();
+    assert_eq!(state.places_left(), (Passed, 509));
+    let far = local(Far, 0, 0, 1, 1).bytes();
+    assert_eq!(state.check_record(&far), refused(33));
+    assert_eq!(state.places_left(), (Passed, 509));
+    assert_eq!(
+        state.check_record(&arrival(Home, 0, 0, 1, 1).bytes()),
+        Passed
+    );
+    assert_eq!(state.places_left(), (Passed, 508));
+    // The guard asks nothing of what its records have moved.
+    state.count -= 1;
+    assert_eq!(state.places_left(), (Passed, 509));
 }
 
 #[test]

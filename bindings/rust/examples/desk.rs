@@ -1,5 +1,5 @@
 //! A paying desk that sees the home ledger alone. It takes records one by one, hands goods over where a record passed and pays the
-//! desk, says why not otherwise, keeps its state in a file and takes it up again.
+//! desk, says why not otherwise, keeps its state in a file and takes it up again, and closes when the ledger has no place left.
 //!
 //!     cargo run --example desk STATE_FILE
 //!
@@ -10,7 +10,7 @@
 //! - Neither finds a forger who rewrites state and digest to fit, or who puts an older pair of them back. Keep the latest digest where
 //!   nobody else can write it.
 
-use moatbetony::{sha256, state_version, Answer, HomeValidator, Kind, Ledger, Record};
+use moatbetony::{sha256, state_version, Answer, HomeValidator, Kind, Ledger, Record, CAPACITY};
 use std::error::Error;
 use std::fs::{self, File};
 use std::io::Write;
@@ -115,6 +115,39 @@ impl Desk {
     }
 }
 
+// A ledger that fills up.
+impl Desk {
+    // How many more records can pass. A state that is refused has no place.
+    fn places_left(&self) -> u64 {
+        self.validator.places_left().unwrap_or(0)
+    }
+
+    // Serves while there is a place left. With none the desk is closed: no record makes room again, and the networks make a new opening
+    // together. A desk that does not look learns it from refusal 41, with the customer standing there.
+    fn serve_while_open(&mut self, label: &str, bytes: &[u8]) -> Outcome<()> {
+        if self.places_left() == 0 {
+            println!("{label}: no place left, closed until the networks make a new opening");
+            return Ok(());
+        }
+        self.serve(label, bytes, true)
+    }
+
+    // As many records as there are places left, of our account to itself, as one list.
+    fn busy_day(&mut self) -> Outcome<()> {
+        let places = self.places_left();
+        println!("places left: {places} of {CAPACITY}");
+        let mut list = Vec::new();
+        for number in 1000..1000 + places {
+            list.extend(wire(Kind::Local, Ledger::Home, OURS, OURS, number, 1)?);
+        }
+        self.validator.check_list(&list).into_result()?;
+        self.store()?;
+        println!("after as many records more: {} of {CAPACITY}", self.places_left());
+        self.serve_while_open("a payment of 30, to a desk that looks", &payment(2000, 30)?)?;
+        self.serve("a payment of 30, to one that does not", &payment(2000, 30)?, true)
+    }
+}
+
 // Whether a record that passed pays the desk the price. One account paying itself, or somebody else, passes too.
 fn pays_us(record: &Record) -> bool {
     let comes_in = match record.kind {
@@ -203,6 +236,8 @@ fn main() -> Outcome<()> {
     let mut desk = Desk::take_up(&path)?.ok_or("the stored state was not taken up")?;
     desk.print_figures("the next day, taken up from the file");
     desk.serve("yesterday's payment of 30 again", &payment(yesterdays, 30)?, true)?;
+    // A copy, and the desk goes on below from before that day.
+    Desk { path: path.clone(), validator: desk.validator.clone() }.busy_day()?;
 
     println!("a payment of 30, after somebody altered the file:");
     tamper(&desk, "a balance raised", raise_a_balance, false, fresh)?;

@@ -55,6 +55,12 @@ pub(crate) fn pair_balance(state: &ffi::PairValidator, ledger: u8, account: u16)
     unsafe { ffi::moatbetony_pair_balance(*state, ledger, account) }
 }
 
+pub(crate) fn pair_places_left(state: &ffi::PairValidator) -> ffi::PairPlacesTold {
+    belongs();
+    // SAFETY: values alone.
+    unsafe { ffi::moatbetony_pair_places_left(*state) }
+}
+
 pub(crate) fn home_open(home_balances: &[u64], far_accounts: usize, far_total: u64) -> ffi::HomeTold {
     belongs();
     // SAFETY: the slice is lent with its length.
@@ -83,6 +89,12 @@ pub(crate) fn home_balance(state: &ffi::HomeValidator, account: u16) -> ffi::Bal
     belongs();
     // SAFETY: values alone.
     unsafe { ffi::moatbetony_home_balance(*state, account) }
+}
+
+pub(crate) fn home_places_left(state: &ffi::HomeValidator) -> ffi::HomePlacesTold {
+    belongs();
+    // SAFETY: values alone.
+    unsafe { ffi::moatbetony_home_places_left(*state) }
 }
 
 pub(crate) fn record_read(bytes: &[u8]) -> ffi::RecordTold {

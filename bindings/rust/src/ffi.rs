@@ -4,6 +4,7 @@
 #[derive(Clone, Copy)]
 pub(crate) struct Told {
     pub(crate) number: u32,
+    pub(crate) passed: u32,
     pub(crate) place: u64,
 }
 
@@ -56,6 +57,13 @@ pub(crate) struct PairFiguresTold {
 }
 
 #[repr(C)]
+pub(crate) struct PairPlacesTold {
+    pub(crate) answer: Told,
+    pub(crate) home: u64,
+    pub(crate) far: u64,
+}
+
+#[repr(C)]
 pub(crate) struct HomeTold {
     pub(crate) answer: Told,
     pub(crate) state: HomeValidator,
@@ -66,6 +74,12 @@ pub(crate) struct HomeFiguresTold {
     pub(crate) answer: Told,
     pub(crate) home: u64,
     pub(crate) pool: u64,
+}
+
+#[repr(C)]
+pub(crate) struct HomePlacesTold {
+    pub(crate) answer: Told,
+    pub(crate) home: u64,
 }
 
 #[repr(C)]
@@ -130,6 +144,7 @@ extern "C" {
     pub(crate) fn moatbetony_pair_check_list(state: PairValidator, bytes: *const u8, bytes_len: usize) -> PairTold;
     pub(crate) fn moatbetony_pair_figures(state: PairValidator) -> PairFiguresTold;
     pub(crate) fn moatbetony_pair_balance(state: PairValidator, ledger: u8, account: u16) -> BalanceTold;
+    pub(crate) fn moatbetony_pair_places_left(state: PairValidator) -> PairPlacesTold;
     pub(crate) fn moatbetony_home_open(
         home_balances: *const u64,
         home_balances_len: usize,
@@ -140,6 +155,7 @@ extern "C" {
     pub(crate) fn moatbetony_home_check_list(state: HomeValidator, bytes: *const u8, bytes_len: usize) -> HomeTold;
     pub(crate) fn moatbetony_home_figures(state: HomeValidator) -> HomeFiguresTold;
     pub(crate) fn moatbetony_home_balance(state: HomeValidator, account: u16) -> BalanceTold;
+    pub(crate) fn moatbetony_home_places_left(state: HomeValidator) -> HomePlacesTold;
     pub(crate) fn moatbetony_record_read(bytes: *const u8, bytes_len: usize) -> RecordTold;
     pub(crate) fn moatbetony_record_encode(
         kind: u8,

@@ -62,6 +62,10 @@
 //! again, or an older state put back. Keep the latest digest of a stored state where nobody else can write it, and store a new state
 //! before goods are handed over on it.
 //!
+//! A validator holds [`CAPACITY`] passed records of a ledger, and then passes no further one (41, [`Refusal::Full`]): no record makes
+//! room again. Ask [`HomeValidator::places_left`] or [`PairValidator::places_left`], so that you see 41 coming: warn while there is time
+//! for the networks to make a new opening, and close the desk with no place left.
+//!
 //! What is proved is the library's code, for every input. This crate, like every caller, is not covered by the proofs: it turns slices
 //! into pointers and lengths, and numbers into enums. A thread that calls needs 256 KB of stack for a [`PairValidator`] and 128 KB for a
 //! [`HomeValidator`]; Rust's own threads have 2 MB. Any number of threads may call at once, each with a validator of its own.
@@ -69,7 +73,8 @@
 //! The crate links `libmoatbetony.a` from the folder that `MOATBETONY_LIB_DIR` names at build time. The archive of another version may
 //! have other arguments and other states, so the first call compares [`version`] and [`state_version`] with [`VERSION`] and
 //! [`STATE_VERSION`]; where they differ, it and every later call but these two panic with "libmoatbetony.a and this crate do not belong
-//! together".
+//! together". An answer crosses as a number and as whether it passed. Where the two contradict each other, which the library never
+//! tells, a call panics before the validator is altered.
 
 #![deny(missing_docs)]
 #![deny(unsafe_code)]
@@ -87,10 +92,10 @@ mod validators;
 
 pub use record::{Kind, Ledger, Record};
 pub use refusal::{Answer, Refusal};
-pub use validators::{HomeFigures, HomeValidator, PairFigures, PairValidator};
+pub use validators::{HomeFigures, HomeValidator, PairFigures, PairPlaces, PairValidator};
 
 /// The library's version that this crate was written for: major * 10,000 + minor * 100 + patch.
-pub const VERSION: u32 = 100;
+pub const VERSION: u32 = 200;
 /// The layout of the two states. Store it with a state, and take a state up only under its own.
 pub const STATE_VERSION: u32 = 1;
 /// The bytes of a record.

@@ -25,10 +25,16 @@ pub enum Answer {
 }
 
 impl Answer {
+    /// Passed only where the library says so twice, by number 0 and by `passed`; a refusal where neither says so.
+    ///
+    /// # Panics
+    ///
+    /// On any other pair of the two: the library never tells one.
     pub(crate) fn of(told: Told) -> Answer {
-        match told.number {
-            0 => Answer::Passed,
-            number => Answer::Refused { refusal: Refusal::of(number), place: told.place },
+        match told {
+            Told { number: 0, passed: 1, .. } => Answer::Passed,
+            Told { number: 1.., passed: 0, place } => Answer::Refused { refusal: Refusal::of(told.number), place },
+            Told { number, passed, .. } => panic!("libmoatbetony.a told no answer: number {number}, passed {passed}"),
         }
     }
 
@@ -148,3 +154,23 @@ refusals! {
 }
 
 impl std::error::Error for Refusal {}
+
+#[cfg(test)]
+mod tests {
+    use super::*;
+
+    fn told(number: u32, passed: u32) -> std::thread::Result<Answer> {
+        std::panic::catch_unwind(|| Answer::of(Told { number, passed, place: 7 }))
+    }
+
+    #[test]
+    fn answers_say_the_same_twice() {
+        assert_eq!(told(0, 1).expect("passed"), Answer::Passed);
+        assert_eq!(told(25, 0).expect("refused"), Answer::Refused { refusal: Refusal::Balance, place: 7 });
+        assert_eq!(told(99, 0).expect("refused"), Answer::Refused { refusal: Refusal::Other(99), place: 7 });
+        // A struct of zeros, as one that was cleared and never filled, is no answer; nor is anything else.
+        for (number, passed) in [(0, 0), (0, 2), (25, 1), (1, u32::MAX), (u32::MAX, u32::MAX)] {
+            assert!(told(number, passed).is_err(), "number {number}, passed {passed}");
+        }
+    }
+}

@@ -15,6 +15,15 @@ pub struct PairFigures {
     pub flight: u64,
 }
 
+/// The places left that a [`PairValidator`] gives: how many more records of each ledger can pass before [`Refusal::Full`].
+#[derive(Clone, Copy, Debug, PartialEq, Eq, Hash)]
+pub struct PairPlaces {
+    /// On home.
+    pub home: u64,
+    /// On far.
+    pub far: u64,
+}
+
 /// The totals that a [`HomeValidator`] gives. The two make the supply.
 #[derive(Clone, Copy, Debug, PartialEq, Eq, Hash)]
 pub struct HomeFigures {
@@ -81,8 +90,9 @@ macro_rules! validator {
             #[doc = $refusals]
             pub fn check_record(&mut self, record: &[u8]) -> Answer {
                 let told = calls::$check_record(&self.state, record);
+                let answer = Answer::of(told.answer);
                 *self.state = told.state;
-                Answer::of(told.answer)
+                answer
             }
 
             /// Checks a list of records, 32 bytes each, all or none. The place of a refusal is the index of the first refused record,
@@ -91,8 +101,9 @@ macro_rules! validator {
             #[doc = $refusals]
             pub fn check_list(&mut self, records: &[u8]) -> Answer {
                 let told = calls::$check_list(&self.state, records);
+                let answer = Answer::of(told.answer);
                 *self.state = told.state;
-                Answer::of(told.answer)
+                answer
             }
 
             /// The state's bytes, to be stored. Store [`STATE_VERSION`](crate::STATE_VERSION) and a digest with them, and keep the
@@ -169,6 +180,30 @@ impl PairValidator {
         let told = calls::pair_balance(&self.state, ledger.byte(), account);
         value(told.answer, told.balance)
     }
+
+    /// The places left: how many more records of each ledger can pass before [`Refusal::Full`]. No record makes room again.
+    ///
+    /// ```
+    /// use moatbetony::{Kind, Ledger, PairPlaces, PairValidator, Record, CAPACITY};
+    ///
+    /// let mut pair = PairValidator::open(&[100, 50], &[20])?;
+    /// let all = CAPACITY as u64;
+    /// assert_eq!(pair.places_left()?, PairPlaces { home: all, far: all });
+    /// let sent = Record {
+    ///     kind: Kind::Sending, ledger: Ledger::Home, sender: 0, receiver: 0, number: 7, amount: 30, verified: true,
+    /// };
+    /// assert!(pair.check_record(&sent.encode()?).is_passed());
+    /// assert_eq!(pair.places_left()?, PairPlaces { home: all - 1, far: all });
+    /// # Ok::<(), moatbetony::Refusal>(())
+    /// ```
+    ///
+    /// # Errors
+    ///
+    /// [`Refusal::State`].
+    pub fn places_left(&self) -> Result<PairPlaces, Refusal> {
+        let told = calls::pair_places_left(&self.state);
+        value(told.answer, PairPlaces { home: told.home, far: told.far })
+    }
 }
 
 impl HomeValidator {
@@ -201,6 +236,24 @@ impl HomeValidator {
     pub fn balance(&self, account: u16) -> Result<u64, Refusal> {
         let told = calls::home_balance(&self.state, account);
         value(told.answer, told.balance)
+    }
+
+    /// The places left: how many more home records can pass before [`Refusal::Full`]. No record makes room again.
+    ///
+    /// ```
+    /// use moatbetony::{HomeValidator, CAPACITY};
+    ///
+    /// let home = HomeValidator::open(&[100, 50], 1, 20)?;
+    /// assert_eq!(home.places_left()?, CAPACITY as u64);
+    /// # Ok::<(), moatbetony::Refusal>(())
+    /// ```
+    ///
+    /// # Errors
+    ///
+    /// [`Refusal::State`].
+    pub fn places_left(&self) -> Result<u64, Refusal> {
+        let told = calls::home_places_left(&self.state);
+        value(told.answer, told.home)
     }
 }
 

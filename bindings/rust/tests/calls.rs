@@ -2,7 +2,7 @@
 
 use moatbetony::journal::{self, BlockKind};
 use moatbetony::{
-    sha256, Answer, HomeFigures, HomeValidator, Kind, Ledger, PairFigures, PairValidator, Record, Refusal, MAX_SUPPLY,
+    sha256, Answer, HomeFigures, HomeValidator, Kind, Ledger, PairFigures, PairPlaces, PairValidator, Record, Refusal, MAX_SUPPLY,
 };
 
 fn record(kind: Kind, ledger: Ledger, sender: u16, receiver: u16, number: u64, amount: u64) -> [u8; 32] {
@@ -130,10 +130,26 @@ fn home_validator_cases() {
 fn ledgers_fill_up() {
     let mut it = home();
     for number in 0..512 {
+        assert_eq!(it.places_left(), Ok(512 - number));
         assert!(it.check_record(&local(0, 0, number, 1)).is_passed());
     }
+    assert_eq!(it.places_left(), Ok(0));
     assert_eq!(it.check_record(&local(0, 0, 512, 1)), refused(Refusal::Full, 0));
     assert_eq!(it.check_record(&local(0, 0, 511, 1)), refused(Refusal::NumberUsed, 0));
+    assert_eq!(it.places_left(), Ok(0));
+
+    let mut it = pair();
+    assert_eq!(it.places_left(), Ok(PairPlaces { home: 512, far: 512 }));
+    assert!(it.check_record(&record(Kind::Sending, Ledger::Home, 0, 0, 7, 30)).is_passed());
+    assert!(it.check_record(&local(0, 1, 8, 5)).is_passed());
+    assert_eq!(it.check_record(&local(0, 1, 8, 5)), refused(Refusal::NumberUsed, 0));
+    assert!(it.check_record(&record(Kind::Arrival, Ledger::Far, 0, 0, 7, 30)).is_passed());
+    assert_eq!(it.places_left(), Ok(PairPlaces { home: 510, far: 511 }));
+    let list: Vec<u8> = (0..511).flat_map(|n| record(Kind::Local, Ledger::Far, 0, 0, 1000 + n, 1)).collect();
+    assert!(it.check_list(&list).is_passed());
+    assert_eq!(it.places_left(), Ok(PairPlaces { home: 510, far: 0 }));
+    assert_eq!(it.check_record(&record(Kind::Local, Ledger::Far, 0, 0, 9, 1)), refused(Refusal::Full, 0));
+    assert!(it.check_record(&local(0, 1, 9, 1)).is_passed());
 }
 
 #[test]
@@ -156,6 +172,7 @@ fn states_as_bytes() {
         assert_eq!(forged.check_list(&[]), refused(Refusal::State, 0));
         assert_eq!(forged.figures(), Err(Refusal::State));
         assert_eq!(forged.balance(0), Err(Refusal::State));
+        assert_eq!(forged.places_left(), Err(Refusal::State));
         assert_eq!(forged.as_bytes(), bytes);
     }
     let mut forged = PairValidator::from_bytes(&[0xff; PairValidator::STATE_SIZE]).expect("a state's length");
@@ -163,6 +180,7 @@ fn states_as_bytes() {
     assert_eq!(forged.check_list(&[]), refused(Refusal::State, 0));
     assert_eq!(forged.figures(), Err(Refusal::State));
     assert_eq!(forged.balance(Ledger::Far, 0), Err(Refusal::State));
+    assert_eq!(forged.places_left(), Err(Refusal::State));
 }
 
 #[test]
@@ -209,6 +227,7 @@ fn calls_fit_their_stacks() {
         assert!(it.check_list(&list()).is_passed());
         assert_eq!(it.check_record(&local(0, 1, 1, 1)), refused(Refusal::Full, 0));
         assert_eq!(it.balance(Ledger::Home, 0), Ok(488));
+        assert_eq!(it.places_left(), Ok(PairPlaces { home: 0, far: 512 }));
         assert!(it.figures().is_ok() && it != before && PairValidator::from_bytes(it.as_bytes()) == Some(it));
     });
     fits(128 * 1024, || {
@@ -217,6 +236,7 @@ fn calls_fit_their_stacks() {
         assert!(it.check_list(&list()).is_passed());
         assert_eq!(it.check_record(&local(0, 1, 1, 1)), refused(Refusal::Full, 0));
         assert_eq!(it.balance(0), Ok(488));
+        assert_eq!(it.places_left(), Ok(0));
         assert!(it.figures().is_ok() && it != before && HomeValidator::from_bytes(it.as_bytes()) == Some(it));
     });
 }

@@ -17,8 +17,8 @@ placeOf (Refused n p) = p
 
 -- ## Which answer
 
--- the case with document 01's number n and place p: passed for 0, and else that refusal. Every promise says by it which
--- case comes back, so none gives a refusal with number 0
+-- the case with document 01's number n and place p: passed for 0, and else that refusal. Every definition that a contract cites
+-- makes its answers by it, so that none gives a refusal with number 0; claims name the case that then comes back
 abbrev pub answer : ℕ → ℕ → Answer
 answer zero p = Passed
 answer (suc n) p = Refused (suc n) p

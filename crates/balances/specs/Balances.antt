@@ -4,16 +4,16 @@ use mathlib.Core.Bool.{Bool, false, true}
 use mathlib.Core.List.{List}
 use lib.Dec.{ltb}
 use lib.ListN.{getD, length}
-use Rattle.answers.specs.declared.Answer.the-variants.{Passed, Refused}
+use Rattle.answers.specs.Answers.{answer}
 use Rattle.balances.specs.declared.Balance.{Balance}
 
 -- a refusal in place of a balance
 abbrev pub balanceRefused : ℕ → Balance
-balanceRefused n = record { answer = Refused n 0; balance = 0 }
+balanceRefused n = record { answer = answer n 0; balance = 0 }
 
 -- a balance where the account is open, and 22 where it is not (Refusals: 22)
 abbrev pub ifOpen : Bool → ℕ → Balance
-ifOpen true n = record { answer = Passed; balance = n }
+ifOpen true n = record { answer = answer 0 0; balance = n }
 ifOpen false n = balanceRefused 22
 
 -- the balance of the account with a number, of those that have these balances

@@ -16,7 +16,7 @@ pub fn balance_refused(number: u32) -> Balance
     ensures { λ r. ⌜ r ≡ balanceRefused number ⌝ }
 {
     Balance {
-        answer: Answer::Refused { number, place: 0 },
+        answer: Answer::new(number, 0),
         balance: 0,
     }
 }

@@ -17,6 +17,7 @@ pub extern "C" fn bench_pair_echo(state: PairValidator) -> PairTold
     PairTold {
         answer: Told {
             number: 0,
+            passed: 1,
             place: 0,
         },
         state,
@@ -31,6 +32,7 @@ pub extern "C" fn bench_home_echo(state: HomeValidator) -> HomeTold
     HomeTold {
         answer: Told {
             number: 0,
+            passed: 1,
             place: 0,
         },
         state,

@@ -7,8 +7,7 @@ use mathlib.Core.Path.{_≡_}
 use Rattle.ledgers.specs.declared.Kind.the-variants.{Local, Receiving, Sending}
 use Rattle.ledgers.specs.declared.Ledger.the-variants.{Home}
 use Rattle.records.specs.Records.{reading}
-use Rattle.records.specs.declared.Reading.{Reading}
-use Rattle.records.specs.declared.Reading.the-variants.{Read, Unreadable}
+use Rattle.records.specs.declared.Reading.the-variants.{Read}
 use Rattle.records.specs.declared.Record.{Record}
 use Rattle.ledgers.specs.declared.Kind.{Kind}
 use Rattle.entries.specs.declared.Entry.{Entry}
@@ -45,11 +44,6 @@ noRecord refusal =
       refusal = refusal;
       read = record { kind = Local Home; sender = 0; receiver = 0; number = 0; amount = 0; verified = false };
     }
-
--- 21 of bytes that do not read, and else the refusal of the record that they read as
-abbrev pub judgedAs : (Record → ℕ) → Reading → ℕ
-judgedAs judge Unreadable = 21
-judgedAs judge (Read r) = judge r
 
 -- bytes with refusal n, and without one the record that they read as
 pub record Found (b : List ℕ) (n : ℕ) (j : Judgement) : Type 0 where

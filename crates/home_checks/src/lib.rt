@@ -6,13 +6,13 @@ ghost use mathlib.Core.Path.{_≡_};
 ghost use lib.Dec.{eqb};
 ghost use lib.ListN.{length, getD};
 ghost use Rattle.answers.specs.Answers.{refuse};
-ghost use Rattle.entries.specs.Entries.{judgedAs, Found};
+ghost use Rattle.entries.specs.Entries.{Found};
 ghost use Rattle.home_checks.specs.Accepting.{acceptsHomeAt};
 ghost use Rattle.home_tables.specs.Judging.{homeJudgeAt};
 ghost use Rattle.home_tables.specs.Tables.{homeBounds};
 ghost use Rattle.ledgers.specs.Limits.{accountLimit, capacity, maxAmount};
 ghost use Rattle.number_index.specs.Index.{chainCount, Indexed};
-ghost use Rattle.records.specs.Records.{reading};
+ghost use Rattle.records.specs.Records.{reading, readingRefusal};
 ghost use Rattle.tables.specs.Places.{sumAt};
 use entries::Judgement;
 use entries::is_count_allowed;
@@ -134,7 +134,7 @@ pub fn judge_call<'a>(
         × (length (now amounts) ≡ capacity) × (length (now verdicts) ≡ capacity) ⌝ }
     ensures { λ j. ⌜ Found (now (bytes .entry)) (refuse (not (acceptsHomeAt supply pool homes fars count (now (balances .entry))
         (now (kinds .entry)) (now (ledgers .entry)) (now (senders .entry)) (now (receivers .entry)) (now (numbers .entry))
-        (now (amounts .entry)) (now (verdicts .entry)))) 3 (judgedAs (homeJudgeAt homes fars pool count (now (balances .entry))
+        (now (amounts .entry)) (now (verdicts .entry)))) 3 (readingRefusal (homeJudgeAt homes fars pool count (now (balances .entry))
         (now (numbers .entry))) (reading (now (bytes .entry))))) j ⌝ }
 {
     let mut heads = [0u16; CHAINS];

@@ -1,5 +1,5 @@
 -- The claims about the home validator's calls: runs over the program's states are runs over the rules' states. Assumes nothing.
-use Prim.Native.Nat.{_+_, _≤_, suc, zero, ℕ}
+use Prim.Native.Nat.{_+_, _-_, _≤_, suc, zero, ℕ}
 use mathlib.Core.Bool.{Bool, false, true}
 use mathlib.Core.List.{List, _++_}
 use mathlib.Core.Logic.{_↔_}
@@ -8,13 +8,16 @@ use native.Mathlib.Omega.{arith}
 use lib.Dec.{leb}
 use lib.ListN.{length}
 use borrow.Author.Tests.{leb-false, leb-true}
+use Rattle.answers.specs.Answers.{answer}
 use Rattle.answers.specs.declared.Answer.the-variants.{Passed, Refused}
+use Rattle.home_laws.proofs.Accept.{length-home-held}
 use Rattle.home_laws.proofs.Passing.{HomeSound, home-next-of, home-sound-accepts, home-sound-of}
 use Rattle.home_tables.specs.Tables.{acceptsHome, homeIn}
 use Rattle.home_validator.proofs.HomeOpened.{home-opened-sound, home-opened-view, home-zero-refused}
-use Rattle.home_claims.specs.Claims.{HomeCallsAsRules, HomeListsAndRefusals, HomeOpenedAsRules, HomeStateAnswers}
-use Rattle.home_claims.specs.Claims.{HomeStateWithin, HomeStatesAnswer, HomeStatesStayAccepted, HomeStatesWithin}
-use Rattle.home_claims.specs.Claims.{HomeThreeExactly, HomeZeroRefused, homePassedOfRun, homeStateOfRun}
+use Rattle.home_claims.specs.Claims.{HomeCallsAsRules, HomeFullWhenNoneLeft, HomeListsAndRefusals, HomeOpenedAsRules}
+use Rattle.home_claims.specs.Claims.{HomePlacesLeft, HomeStateAnswers, HomeStateWithin, HomeStatesAnswer}
+use Rattle.home_claims.specs.Claims.{HomeStatesStayAccepted, HomeStatesWithin, HomeThreeExactly, HomeZeroRefused}
+use Rattle.home_claims.specs.Claims.{homePassedOfRun, homePlacesLeft, homeStateOfRun}
 use Rattle.home_validator.specs.State.{homeChecker, homeOpenedState, homeTablesOf, homeViewOfState, homeZeroState}
 use Rattle.home_validator.specs.declared.HomeValidator.{HomeValidator}
 use Rattle.inputs.proofs.Parts.{call-unaccepted}
@@ -241,3 +244,43 @@ home-states-within homes fars farTotal ok ds = within-state homes fars farTotal 
 pub home-zero-is-refused : HomeZeroRefused
 unfolding HomeZeroRefused
 home-zero-is-refused d = call-unaccepted homeChecker homeZeroState d home-zero-refused
+
+-- ## The places left
+
+-- those of accepted tables
+left-is : (s : HomeValidator) → acceptsHome (homeTablesOf s) ≡ true
+    → homePlacesLeft s .home ≡ capacity - length (homeViewOfState s .home .passed)
+left-is s a = rw a
+
+-- after every run
+pub home-places-left : HomePlacesLeft
+unfolding HomePlacesLeft
+home-places-left homes fars farTotal ok ds =
+    let s = homeStateOfRun homes fars farTotal ds in
+    let z = run-follows homes fars farTotal ok ds .invariant in
+    let w = within-state homes fars farTotal ok ds in
+    record {
+      told = rw (w .accepted);
+      with-passed = omega (arith, left-is s (w .accepted), ap length (w .table), length-home-held (homeTablesOf s), z .bounds .room);
+    }
+
+-- 41 exactly when no place is left
+pub home-full-when-none-left : HomeFullWhenNoneLeft
+unfolding HomeFullWhenNoneLeft
+home-full-when-none-left s z a b r q j = (only, whenever)
+  where
+    f : HomeStateAnswers s b
+    f = state-answers s (home-sound-of (homeTablesOf s) z a) b
+
+    n : ℕ
+    n = length (homeViewOfState s .home .passed)
+
+    whenever : homePlacesLeft s .home ≡ 0 → call homeChecker s (one b) .answer ≡ answer 41 0
+    whenever e = ap (λ (x : Result HomeValidator). x .answer) (f .refuses-full r q j (omega (arith, e, left-is s a)))
+
+    only : call homeChecker s (one b) .answer ≡ answer 41 0 → homePlacesLeft s .home ≡ 0
+    only h = go (leb capacity n) refl
+      where
+        go : (t : Bool) → leb capacity n ≡ t → homePlacesLeft s .home ≡ 0
+        go true e = omega (arith, left-is s a, leb-true capacity n e)
+        go false e = absurd (never-both 41 0 (sym (f .passes r q j (leb-false capacity n e)) ∙ h))

@@ -1,13 +1,15 @@
--- What is claimed of the home validator's calls over the state that the program holds: the second half of demand 3.
--- Assumes nothing.
+-- What is claimed of the home validator's calls over the state that the program holds: the second half of demand 3, and what the places
+-- left say of 41. Assumes nothing.
 use Prim.Native.Nat.{_+_, _<_, _≤_, suc, ℕ}
 use mathlib.Core.Bool.{false, true}
 use mathlib.Core.List.{List, _++_, _∷_}
 use mathlib.Core.Logic.{_↔_}
 use mathlib.Core.Path.{_≡_}
 use lib.ListN.{length}
+use Rattle.answers.specs.Answers.{answer}
 use Rattle.answers.specs.declared.Answer.the-variants.{Passed, Refused}
-use Rattle.home_figures.specs.Figures.{homeFiguresOf}
+use Rattle.home_figures.specs.Figures.{homeFiguresOf, homePlacesOf}
+use Rattle.home_figures.specs.declared.HomePlaces.{HomePlaces}
 use Rattle.home_tables.specs.Tables.{HomeSized, acceptsHome, homeIn}
 use Rattle.home_validator.specs.State.{homeChecker, homeOpenedState, homeTablesOf, homeViewOfState, homeZeroState}
 use Rattle.home_validator.specs.declared.HomeValidator.{HomeValidator}
@@ -135,3 +137,30 @@ HomeStatesWithin =
 -- beside a refused opening stands a state that every call refuses with 3
 unfoldable pub HomeZeroRefused : Type 0
 HomeZeroRefused = (d : Call) → call homeChecker homeZeroState d ≡ record { answer = Refused 3 0; state = homeZeroState }
+
+-- ## The places left
+
+-- what the validator gives for a state
+abbrev pub homePlacesLeft : HomeValidator → HomePlaces
+homePlacesLeft s = homePlacesOf (acceptsHome (homeTablesOf s)) (homeTablesOf s)
+
+-- what holds of it after the calls of a run
+pub record HomePlacesLeftAfter (homes : List ℕ) (fars farTotal : ℕ) (ds : List Call) : Type 0 where
+  -- it is told
+  pub told : homePlacesLeft (homeStateOfRun homes fars farTotal ds) .answer ≡ answer 0 0
+  -- with the passed records it makes the capacity
+  pub with-passed : homePlacesLeft (homeStateOfRun homes fars farTotal ds) .home
+      + length (recordsOn Home (homePassedOfRun homes fars farTotal ds)) ≡ capacity
+
+-- at every accepted opening and after every list of calls, the places left are the capacity less the passed records
+unfoldable pub HomePlacesLeft : Type 0
+HomePlacesLeft =
+    (homes : List ℕ) (fars farTotal : ℕ) → homeOpeningRefusal homes fars farTotal ≡ 0 → (ds : List Call)
+    → HomePlacesLeftAfter homes fars farTotal ds
+
+-- in every state that the home validator accepts, a record that no other refusal stops is refused 41 exactly when no place is left
+unfoldable pub HomeFullWhenNoneLeft : Type 0
+HomeFullWhenNoneLeft =
+    (s : HomeValidator) → HomeSized (homeTablesOf s) → acceptsHome (homeTablesOf s) ≡ true → (b : List ℕ) (r : Record)
+    → reading b ≡ Read r → homeJudgeRecord (homeViewOfState s) r ≡ 0
+    → (call homeChecker s (one b) .answer ≡ answer 41 0) ↔ (homePlacesLeft s .home ≡ 0)

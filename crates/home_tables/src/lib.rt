@@ -6,8 +6,8 @@ ghost use lib.ListN.{length};
 ghost use Rattle.home_tables.specs.Judging.{accountsOn, homeLastAt, homeJudgeAt};
 ghost use Rattle.rules.specs.HomeValidator.{isFar, poolRefusal};
 ghost use Rattle.number_index.specs.Index.{chainCount, Indexed};
-ghost use Rattle.records.specs.Records.{reading};
-ghost use Rattle.entries.specs.Entries.{judgedAs, Found};
+ghost use Rattle.records.specs.Records.{reading, readingRefusal};
+ghost use Rattle.entries.specs.Entries.{Found};
 use answers::first_refusal;
 use answers::refusal_if;
 use entries::Judgement;
@@ -101,7 +101,7 @@ pub fn judge_bytes<'a>(
 ) -> Judgement
     requires { ⌜ (homes ≤ length (now balances)) × (count ≤ length (now numbers)) × (chainCount ≤ length (now heads))
         × (count ≤ length (now nexts)) × Indexed (now numbers) (now heads) (now nexts) 0 0 count ⌝ }
-    ensures { λ j. ⌜ Found (now (bytes .entry)) (judgedAs (homeJudgeAt homes fars pool count (now (balances .entry))
+    ensures { λ j. ⌜ Found (now (bytes .entry)) (readingRefusal (homeJudgeAt homes fars pool count (now (balances .entry))
         (now (numbers .entry))) (reading (now (bytes .entry)))) j ⌝ }
 {
     let Reading::Read(r) = Record::read(bytes) else {

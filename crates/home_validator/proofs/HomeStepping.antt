@@ -21,7 +21,7 @@ use Rattle.ledgers.specs.Ledgers.{kindByte, ledgerByte, ledgerOf}
 use Rattle.ledgers.specs.Limits.{accountLimit, capacity, maxAmount}
 use Rattle.number_index.proofs.Index.{index-added}
 use Rattle.number_index.specs.Index.{Indexed, chainCount}
-use Rattle.records.specs.Records.{reading}
+use Rattle.records.specs.Records.{reading, readingRefusal}
 use Rattle.records.specs.declared.Reading.{Reading}
 use Rattle.records.specs.declared.Reading.the-variants.{Read, Unreadable}
 use Rattle.records.specs.declared.Record.{Record}
@@ -32,7 +32,7 @@ use Rattle.rules.specs.Lists.{lowered, raised}
 use Rattle.table_laws.proofs.Held.{given-most, stored-fits, taken-given}
 use Rattle.entries.specs.Entries.{takenBy}
 use Rattle.tables.specs.Columns.{withRow}
-use Rattle.entries.specs.Entries.{Found, entryOf, judgedAs}
+use Rattle.entries.specs.Entries.{Found, entryOf}
 use Rattle.entries.specs.declared.Entry.{Entry}
 use Rattle.entries.specs.declared.Judgement.{Judgement}
 
@@ -119,14 +119,14 @@ judgeHomeTables t r = homeJudgeAt (t .homes) (t .fars) (t .pool) (t .count) (t .
 
 -- of bytes, 21 first
 abbrev pub judgeHomeBytes : HomeTables → List ℕ → ℕ
-judgeHomeBytes t b = judgedAs (judgeHomeTables t) (reading b)
+judgeHomeBytes t b = readingRefusal (judgeHomeTables t) (reading b)
 
 module _ (s : HomeValidator) (z : HomeSound (homeTablesOf s)) where
   -- the refusal is the rules'
   judged-home : (b : List ℕ) → judgeHomeBytes (homeTablesOf s) b ≡ homeChecker .judge s b
   judged-home b = go (reading b)
     where
-      go : (x : Reading) → judgedAs (judgeHomeTables (homeTablesOf s)) x ≡ homeJudge capacity (homeViewOfState s) x
+      go : (x : Reading) → readingRefusal (judgeHomeTables (homeTablesOf s)) x ≡ homeJudge capacity (homeViewOfState s) x
       go Unreadable = refl
       go (Read r) = judge-home-is (homeTablesOf s) (z .sized) (z .bounds .home-fits) r
 

@@ -5,7 +5,6 @@ use mathlib.Core.List.{List, [], _∷_}
 use mathlib.Core.Path.{_∙_, _≡_, ap, refl, subst, sym}
 use native.Mathlib.Omega.{arith}
 use lib.ListN.{length, length-replicate, length-take, replicate, take}
-use Rattle.block_listing.specs.Runs.{Bounded}
 use Rattle.block_format.specs.Blocks.{balancesOf}
 use Rattle.ledgers.specs.Limits.{capacity}
 use Rattle.number_index.specs.Index.{chainCount}
@@ -35,10 +34,6 @@ long-as n xs q = q ∙ length-replicate {A = ℕ} n 0
 -- what fits in part of a list fits in it
 pub room-kept : (n m e : ℕ) (xs : List ℕ) → length xs ≡ n → e ≤ m → m ≤ n → e ≤ length xs
 room-kept n m e xs q h k = omega (arith, q)
-
--- the run that begins after an opening is in bounds
-pub first-bounded : (b : ℕ) → Bounded (record { index = 0; block = 2; before = b; end = 0; going = true })
-first-bounded b = record { records = omega arith; block-fits = omega arith; index-fits = omega arith }
 
 -- at an opening nothing is in flight
 none-in-flight : (homes fars : List ℕ) → inFlight (opened homes fars) ≡ 0

@@ -1,23 +1,60 @@
--- A turn of the program's loop: what it leaves, however it ends. Assumes nothing.
-use Prim.Native.Nat.{_≤_, ℕ}
-use mathlib.Core.Bool.{Bool, cond, false, true}
-use mathlib.Core.List.{List}
-use mathlib.Core.Path.{_∙_, _≡_, ap, sym}
+-- A turn of the program's loop: what it leaves, and that as many turns as there are chunks end the listing. Assumes nothing.
+use Prim.Native.Nat.{_*_, _+_, _-_, _<_, _≤_, suc, ℕ}
+use mathlib.Core.Bool.{Bool, false, not, true}
+use mathlib.Core.List.{List, [], _∷_}
+use mathlib.Core.Path.{_∙_, _≡_, ap, refl, sym}
 use native.Mathlib.Omega.{arith}
-use lib.ListN.{length, take}
+use lib.Dec.{eqb}
+use lib.ListN.{length, length-take, take}
 use lib.Seq.{length-take-le}
-use Rattle.block_listing.specs.Runs.{Bounded, StandsAt}
+use borrow.Author.Tests.{eq-eqb, eqb-true, ne-eqb, not-false, not-true}
+use Rattle.block_format.specs.Blocks.{maxBlock}
+use Rattle.block_listing.specs.Runs.{Bounded, StandsAt, standing}
 use Rattle.block_listing.specs.declared.Run.{Run}
-use Rattle.journal_listing.specs.Turns.{Turned}
-use Rattle.listing.specs.Chunks.{afterChunk, chunkSize}
-use Rattle.listing.specs.Listing.{Standing}
+use Rattle.journal_listing.specs.Turns.{Reached, Turned, afterTurn, firstRun, goesOn, here, resumedRun, turned}
+use Rattle.journal_listing.specs.declared.TurnResult.{TurnResult}
+use Rattle.listing.proofs.Blocks.{went-on}
+use Rattle.listing.proofs.Chunked.{chunk-count}
+use Rattle.listing.specs.Chunks.{afterChunk, chunkBlocks, chunkSize, chunkText, mostChunks}
+use Rattle.listing.specs.Listing.{Standing, blocksIn, opened}
 use Rattle.pair_validator.specs.declared.PairValidator.{PairValidator}
+use Rattle.rules.proofs.Lists.{never-both-tests}
+use Rattle.wire.specs.BigEndian.{every}
 
--- a run that has the buffer to itself again
-abbrev pub resumedRun : Run → Bool → Run
-resumedRun run going = record { index = run .index; block = run .block; before = run .before; end = 0; going = going }
+-- ## Going on
 
--- it is bounded as the run is
+-- not after a text that was not written
+pub stops-unwritten : (written : Bool) (n : ℕ) (going : Bool) → not written ≡ true → false ≡ goesOn written n going
+unfolding goesOn every
+stops-unwritten written n going h = rw (not-true written h)
+
+-- nor after a chunk that was not full
+pub stops-short : (written : Bool) (n : ℕ) (going : Bool) → not written ≡ false → (n ≡ chunkSize → ⊥)
+    → false ≡ goesOn written n going
+unfolding goesOn every
+stops-short written n going h k = rw (not-false written h, ne-eqb n chunkSize k)
+
+-- else as the chunk says
+pub goes-as : (written : Bool) (n : ℕ) (going : Bool) → not written ≡ false → n ≡ chunkSize
+    → going ≡ goesOn written n going
+unfolding goesOn every
+goes-as written n true h k = rw (not-false written h, eq-eqb n chunkSize k)
+goes-as written n false h k = rw (not-false written h, eq-eqb n chunkSize k)
+
+-- where the listing goes on, the chunk was full and had no bad block
+goes-full : (written : Bool) (n : ℕ) (going : Bool) → goesOn written n going ≡ true → (n ≡ chunkSize) × (going ≡ true)
+unfolding goesOn every
+goes-full false n going h = absurd (never-both-tests (sym h))
+goes-full true n going h = go (eqb n chunkSize) going refl h
+  where
+    go : (f g : Bool) → eqb n chunkSize ≡ f → every (f ∷ g ∷ []) ≡ true → (n ≡ chunkSize) × (g ≡ true)
+    go false g q k = absurd (never-both-tests (sym k))
+    go true false q k = absurd (never-both-tests (sym k))
+    go true true q k = (eqb-true n chunkSize q, refl)
+
+-- ## A turn
+
+-- a run that has the buffer to itself again is bounded as the run is
 pub resumed-bounded : {run r : Run} {going : Bool} → r ≡ resumedRun run going → Bounded run → Bounded r
 resumed-bounded e b = rw e (record { records = b .records; block-fits = b .block-fits; index-fits = b .index-fits })
 
@@ -25,35 +62,71 @@ resumed-bounded e b = rw e (record { records = b .records; block-fits = b .block
 pub resumed-end : (run : Run) {r : Run} {going : Bool} → r ≡ resumedRun run going → r .end ≡ 0
 resumed-end run e = ap (λ (x : Run). x .end) e
 
--- false is not true
-never-true : false ≡ true → ⊥
-never-true e = omega (arith, ap {B = ℕ} (λ (b : Bool). cond b 1 0) e)
+-- standings with the same parts are the same
+same-standing : {s t : PairValidator} {i j b d m n : ℕ} {g h : Bool} → s ≡ t → i ≡ j → b ≡ d → m ≡ n → g ≡ h
+    → _≡_ {A = Standing PairValidator} (record { state = s; index = i; block = b; before = m; going = g })
+    (record { state = t; index = j; block = d; before = n; going = h })
+same-standing p q e f k = cc
 
-module _ (p : Standing PairValidator) (input : List ℕ) (n : ℕ) {run r : Run} {s : PairValidator}
-    (a : StandsAt run (afterChunk p (take n input))) (q : s ≡ afterChunk p (take n input) .state) where
-  -- a turn that stops the listing
-  pub turned-last : r ≡ resumedRun run false → Turned p input r s
-  turned-last e =
-      record {
-        count = n;
-        index-is = ap (λ (x : Run). x .index) e ∙ a .index-is;
-        block-is = ap (λ (x : Run). x .block) e ∙ a .block-is;
-        before-is = ap (λ (x : Run). x .before) e ∙ a .before-is;
-        state-is = q;
-        goes-on = λ g. absurd (never-true (sym (ap (λ (x : Run). x .going) e) ∙ g));
-      }
+-- the chunk that was read, its text, and the run that stands after it
+pub turned-by : (p : Standing PairValidator) (input out : List ℕ) (n e : ℕ) (w g : Bool) (run r : Run) (s : PairValidator)
+    → n ≤ length input → take e out ≡ chunkText p (take n input) → StandsAt run (afterChunk p (take n input))
+    → s ≡ afterChunk p (take n input) .state → g ≡ goesOn w n (run .going) → r ≡ resumedRun run g
+    → Turned p input out (record { run = r; read = n; text = e; written = w }) s
+turned-by p input out n e w g run r s fits text a state q d =
+    record {
+      read-fits = fits;
+      text-is = text;
+      stands =
+          same-standing state (ap (λ (x : Run). x .index) d ∙ a .index-is) (ap (λ (x : Run). x .block) d ∙ a .block-is)
+          (ap (λ (x : Run). x .before) d ∙ a .before-is)
+          (ap (λ (x : Run). x .going) d
+          ∙ q
+          ∙ ap (λ (t : Bool). goesOn w n t) (a .going-is)
+          ∙ ap (λ (k : ℕ). goesOn w k (afterChunk p (take n input) .going)) (sym (length-take-le n input fits)));
+    }
 
-  -- a turn with a full chunk
-  pub turned-full : r ≡ resumedRun run (run .going) → chunkSize ≤ n → length input ≡ chunkSize → n ≤ length input → Turned p input r s
-  turned-full e m l f =
-      record {
-        count = n;
-        index-is = ap (λ (x : Run). x .index) e ∙ a .index-is;
-        block-is = ap (λ (x : Run). x .block) e ∙ a .block-is;
-        before-is = ap (λ (x : Run). x .before) e ∙ a .before-is;
-        state-is = q;
-        goes-on = λ g. (
-          let z : n ≡ chunkSize = omega (arith, m, l, f) in length-take-le n input f ∙ z,
-          sym (a .going-is) ∙ sym (ap (λ (x : Run). x .going) e) ∙ g,
-        );
-      }
+-- ## Turn after turn
+
+-- the number that a block has after as many full chunks as there are turns: beyond the greatest
+abbrev pub numberAfter : ℕ
+numberAfter = 2 + chunkBlocks * mostChunks
+
+-- a turn more
+pub reached-next : {p q : Standing PairValidator} {input out : List ℕ} {t : TurnResult} {s : PairValidator} → Reached p q
+    → q .going ≡ true → length input ≡ chunkSize → Turned q input out t s → Reached p (standing (t .run) s)
+reached-next {p} {q} {input} {out} {t} {s} r g l d =
+    rw (d .stands) (turned r g (take (t .read) input) (omega (arith, length-take (t .read) input, l)) (t .written))
+
+-- a turn after which the listing goes on leaves as many turns as there are chunks of block numbers left
+pub numbers-next : {q : Standing PairValidator} {input out : List ℕ} {t : TurnResult} {s : PairValidator} (turns : ℕ) → 0 < turns
+    → Turned q input out t s → q .block + chunkBlocks * turns ≡ numberAfter → t .run .going ≡ true
+    → t .run .block + chunkBlocks * (turns - 1) ≡ numberAfter
+numbers-next {q} {input} {out} {t} {s} turns h d e g =
+    let chunk = take (t .read) input in
+    let f = goes-full (t .written) (length chunk) (afterChunk q chunk .going)
+    (sym (ap (λ (x : Standing PairValidator). x .going) (d .stands)) ∙ g) in
+    let w = went-on q (blocksIn chunk) (f .1) in
+    omega (arith, ap (λ (x : Standing PairValidator). x .block) (d .stands), w .number, chunk-count chunk (f .0))
+
+-- with no turn left the listing does not go on
+pub turns-end : (run : Run) (turns : ℕ) → Bounded run → (run .going ≡ true → run .block + chunkBlocks * turns ≡ numberAfter)
+    → turns ≤ 0 → run .going ≡ false
+turns-end run turns b f z = go (run .going) refl
+  where
+    go : (g : Bool) → run .going ≡ g → g ≡ false
+    go false q = refl
+    go true q = absurd (omega (arith, f q, b .block-fits))
+
+module _ (run : Run) (before : ℕ) (e : run ≡ firstRun before) where
+  -- the first run is in bounds
+  pub first-bounded : Bounded run
+  first-bounded = rw e (record { records = omega arith; block-fits = omega arith; index-fits = omega arith })
+
+  -- the first turn is made from the opening
+  pub first-reached : (s : PairValidator) → Reached (opened s before) (standing run s)
+  first-reached s = rw e here
+
+  -- with all turns left
+  pub first-numbers : run .going ≡ true → run .block + chunkBlocks * mostChunks ≡ numberAfter
+  first-numbers g = rw e

@@ -1,12 +1,14 @@
 // Lists a journal: reads it from one file and prints its lines to another, in chunks of 64 blocks. That the chunks' texts are the
-// listing is proved (crates listing, opening_listing, block_listing). That the chunks are read and written one after the other is
-// read off the loop here: what the system reads and writes is not said.
+// listing is proved (crates listing, opening_listing, block_listing), and so is what a turn makes of the bytes that it was handed and that
+// the turns end where the journal does. Which file is read and which is written is read off the code here (docs/DECISIONS.md, 47).
+ghost use mathlib.Core.Bool.{false};
 ghost use mathlib.Core.Path.{_≡_};
 ghost use lib.ListN.{length};
 ghost use Rattle.block_listing.specs.Runs.{Bounded, standing};
 ghost use Rattle.hex_digits.specs.Hex.{pairTable};
-ghost use Rattle.journal_listing.specs.Turns.{Turned};
+ghost use Rattle.journal_listing.specs.Turns.{Reached, Turned, firstRun, goesOn, resumedRun};
 ghost use Rattle.listing.specs.Chunks.{chunkRoom, chunkSize};
+ghost use Rattle.listing.specs.Listing.{opened};
 ghost use Rattle.pair_steps.specs.Steps.{Ready, lent};
 use block_format::BLOCK_SIZE;
 use block_format::RECORDS;
@@ -14,11 +16,13 @@ use block_listing::Run;
 use block_listing::list_chunk;
 use hex_digits::pairs;
 use lines::LINE;
-use opening_listing::list_opening;
+use opening_listing::list_start;
 use pair_tables::HEADS;
 use pair_tables::PLACES;
 use pair_validator::ACCOUNTS;
 
+// The bytes of blocks 0 and 1.
+const OPENING: usize = 2 * BLOCK_SIZE;
 // The blocks of a chunk.
 const CHUNK_BLOCKS: usize = 64;
 // The bytes of a chunk.
@@ -28,9 +32,31 @@ const TEXT: usize = CHUNK_BLOCKS * RECORDS * LINE;
 // The most chunks after blocks 0 and 1.
 const CHUNKS: u64 = 1024;
 
+// What a turn leaves: where the listing stands, the bytes that it read, the length of the text that it handed on, and whether that was
+// written.
+struct TurnResult {
+    run: Run,
+    read: usize,
+    text: usize,
+    written: bool,
+}
+
+// The run of an accepted opening, with the count of block 1.
+fn first_run(before: u64) -> Run
+    ensures { λ r. ⌜ r ≡ firstRun before ⌝ }
+{
+    Run {
+        index: 0,
+        block: 2,
+        before,
+        end: 0,
+        going: true,
+    }
+}
+
 // A run that has the buffer to itself again.
 fn resumed(run: Run, going: bool) -> Run
-    ensures { λ r. ⌜ r ≡ record { index = run .index; block = run .block; before = run .before; end = 0; going = going } ⌝ }
+    ensures { λ r. ⌜ r ≡ resumedRun run going ⌝ }
 {
     Run {
         index: run.index,
@@ -41,7 +67,21 @@ fn resumed(run: Run, going: bool) -> Run
     }
 }
 
-// One chunk: read, listed and written. A write that fails stops the listing, so that what is printed is a beginning of it.
+// Whether the listing goes on after a chunk: its text was written, it was full and had no bad block. So what is printed is always a
+// beginning of the listing.
+fn goes_on(written: bool, n: usize, going: bool) -> bool
+    ensures { λ r. ⌜ r ≡ goesOn written n going ⌝ }
+{
+    if !written {
+        return false;
+    }
+    if n != CHUNK {
+        return false;
+    }
+    going
+}
+
+// One chunk: read, listed and written.
 fn turn<'a>(
     source: i32,
     target: i32,
@@ -63,24 +103,24 @@ fn turn<'a>(
     verdicts: &'a mut [u8],
     heads: &'a mut [u16],
     nexts: &'a mut [u16],
-) -> Run
+) -> TurnResult
     requires { ⌜ Bounded run × (run .end ≡ 0) × (length (now input) ≡ chunkSize) × (length (now out) ≡ chunkRoom)
         × (now digits ≡ pairTable) × Ready (lent supply (now accounts) (now counts) (now balances) (now numbers) (now amounts)
         (now senders) (now receivers) (now kinds) (now ledgers) (now verdicts)) (now figures) (now heads) (now nexts) ⌝ }
-    ensures keeps { λ r. ⌜ Bounded r × (r .end ≡ 0) × Ready (lent supply (now (accounts .entry)) (now (counts .exit))
+    ensures keeps { λ r. ⌜ Bounded (r .run) × (r .run .end ≡ 0) × Ready (lent supply (now (accounts .entry)) (now (counts .exit))
         (now (balances .exit)) (now (numbers .exit)) (now (amounts .exit)) (now (senders .exit)) (now (receivers .exit))
         (now (kinds .exit)) (now (ledgers .exit)) (now (verdicts .exit))) (now (figures .exit)) (now (heads .exit))
         (now (nexts .exit)) ⌝ }
     ensures turns { λ r. ⌜ Turned (standing run (lent supply (now (accounts .entry)) (now (counts .entry))
         (now (balances .entry)) (now (numbers .entry)) (now (amounts .entry)) (now (senders .entry)) (now (receivers .entry))
-        (now (kinds .entry)) (now (ledgers .entry)) (now (verdicts .entry)))) (now (input .exit)) r (lent supply
+        (now (kinds .entry)) (now (ledgers .entry)) (now (verdicts .entry)))) (now (input .exit)) (now (out .exit)) r (lent supply
         (now (accounts .entry)) (now (counts .exit)) (now (balances .exit)) (now (numbers .exit)) (now (amounts .exit))
         (now (senders .exit)) (now (receivers .exit)) (now (kinds .exit)) (now (ledgers .exit)) (now (verdicts .exit))) ⌝ }
 {
-    let n = io::read_full(source, input);
+    let read = io::read_full(source, input);
     let next = list_chunk(
         run,
-        &input[..n],
+        &input[..read],
         digits,
         out,
         supply,
@@ -98,22 +138,23 @@ fn turn<'a>(
         heads,
         nexts,
     );
-    let end = next.end;
-    if !io::write_all(target, &out[..end]) {
-        return resumed(next, false);
+    let text = next.end;
+    let written = io::write_all(target, &out[..text]);
+    let going = goes_on(written, read, next.going);
+    TurnResult {
+        run: resumed(next, going),
+        read,
+        text,
+        written,
     }
-    if n < CHUNK {
-        return resumed(next, false);
-    }
-    let going = next.going;
-    resumed(next, going)
 }
 
-// The blocks after an accepted opening, chunk by chunk, up to a bad block or the end of the journal.
+// The blocks after an accepted opening, chunk by chunk, up to a bad block, the end of the journal or a text that could not be written. As
+// many turns as there are chunks get there from every journal.
 fn list_rest<'a>(
     source: i32,
     target: i32,
-    start: Run,
+    before: u64,
     input: &'a mut [u8],
     digits: &'a [u8; 512],
     out: &'a mut [u8],
@@ -131,18 +172,24 @@ fn list_rest<'a>(
     verdicts: &'a mut [u8],
     heads: &'a mut [u16],
     nexts: &'a mut [u16],
-)
-    requires { ⌜ Bounded start × (start .end ≡ 0) × (length (now input) ≡ chunkSize) × (length (now out) ≡ chunkRoom)
+) -> Run
+    requires { ⌜ (length (now input) ≡ chunkSize) × (length (now out) ≡ chunkRoom)
         × (now digits ≡ pairTable) × Ready (lent supply (now accounts) (now counts) (now balances) (now numbers) (now amounts)
         (now senders) (now receivers) (now kinds) (now ledgers) (now verdicts)) (now figures) (now heads) (now nexts) ⌝ }
+    ensures ends { λ r. ⌜ r .going ≡ false ⌝ }
+    ensures reached { λ r. ⌜ Reached (opened (lent supply (now (accounts .entry)) (now (counts .entry))
+        (now (balances .entry)) (now (numbers .entry)) (now (amounts .entry)) (now (senders .entry)) (now (receivers .entry))
+        (now (kinds .entry)) (now (ledgers .entry)) (now (verdicts .entry))) before) (standing r (lent supply
+        (now (accounts .entry)) (now (counts .exit)) (now (balances .exit)) (now (numbers .exit)) (now (amounts .exit))
+        (now (senders .exit)) (now (receivers .exit)) (now (kinds .exit)) (now (ledgers .exit)) (now (verdicts .exit)))) ⌝ }
 {
-    let mut run = start;
+    let mut run = first_run(before);
     let mut turns = CHUNKS;
     while 0 < turns {
         if !run.going {
-            return;
+            return run;
         }
-        run = turn(
+        let t = turn(
             source,
             target,
             run,
@@ -164,8 +211,10 @@ fn list_rest<'a>(
             heads,
             nexts,
         );
+        run = t.run;
         turns -= 1;
     }
+    run
 }
 
 // The listing of the journal in the file `source`, to the file `target` (descriptors). Not published, and without an `ensures`: a
@@ -187,13 +236,10 @@ pub fn list(source: i32, target: i32) {
     let mut verdicts = [0u8; PLACES];
     let mut heads = [0u16; HEADS];
     let mut nexts = [0u16; PLACES];
-    let mut home = [0u8; BLOCK_SIZE];
-    let mut far = [0u8; BLOCK_SIZE];
-    let a = io::read_full(source, &mut home);
-    let b = io::read_full(source, &mut far);
-    let start = list_opening(
-        &home[..a],
-        &far[..b],
+    let mut opening = [0u8; OPENING];
+    let read = io::read_full(source, &mut opening);
+    let start = list_start(
+        &opening[..read],
         &mut out,
         &mut figures,
         &mut accounts,
@@ -206,17 +252,10 @@ pub fn list(source: i32, target: i32) {
     if !start.going {
         return;
     }
-    let run = Run {
-        index: 0,
-        block: 2,
-        before: start.before,
-        end: 0,
-        going: true,
-    };
     list_rest(
         source,
         target,
-        run,
+        start.before,
         &mut input,
         &digits,
         &mut out,

@@ -9,9 +9,10 @@ use Rattle.answers.specs.declared.Answer.{Answer}
 use Rattle.answers.specs.declared.Answer.the-variants.{Refused}
 use Rattle.block_format.specs.Blocks.{recordPart}
 use Rattle.journal_reader.specs.Judged.{partOf, recordRefusal}
-use Rattle.moatbetony.specs.Told.{encodedTold, partTold, told}
+use Rattle.moatbetony.specs.Told.{encodedTold, partTold, recordTold, told}
 use Rattle.moatbetony.specs.declared.EncodedTold.{EncodedTold}
 use Rattle.moatbetony.specs.declared.PartTold.{PartTold}
+use Rattle.moatbetony.specs.declared.RecordTold.{RecordTold}
 use Rattle.moatbetony.specs.declared.Told.{Told}
 use Rattle.records.specs.Records.{reading}
 use Rattle.records.specs.declared.Reading.{Reading}
@@ -53,14 +54,25 @@ module _ {a : Answer} {t : Told} (b : List ℕ) (k before place : ℕ) (tells : 
     ap (λ (n : ℕ). unlessRefused n (take 32 (drop (32 + 32 * place) b)) []) (sym z),
   )
 
+-- no fields of bytes that do not read
+pub record-unread : {r : Reading} {t : Told} → t ≡ told (answer 21 0) → r ≡ Unreadable
+    → _≡_ {A = RecordTold}
+    (record { answer = t; kind = 0; ledger = 0; sender = 0; receiver = 0; number = 0; amount = 0; verdict = 0 }) (recordTold r)
+record-unread a e =
+    (λ i. record { answer = a i; kind = 0; ledger = 0; sender = 0; receiver = 0; number = 0; amount = 0; verdict = 0 })
+    ∙ ap recordTold (sym e)
+
 module _ {b f : List ℕ} {r : Reading} (same : b ≡ f) (reads : r ≡ reading b) where
   -- bytes that do not read
-  pub encoded-unread : r ≡ Unreadable
-      → _≡_ {A = EncodedTold} (record { answer = record { number = 21; place = 0 }; bytes = replicate 32 0 }) (encodedTold (reading f) f)
-  encoded-unread e = ap (λ (x : Reading). encodedTold x f) (sym e ∙ reads ∙ ap reading same)
+  pub encoded-unread : {t : Told} → t ≡ told (answer 21 0) → r ≡ Unreadable
+      → _≡_ {A = EncodedTold} (record { answer = t; bytes = replicate 32 0 }) (encodedTold (reading f) f)
+  encoded-unread a e =
+      (λ i. record { answer = a i; bytes = replicate 32 0 })
+      ∙ ap (λ (x : Reading). encodedTold x f) (sym e ∙ reads ∙ ap reading same)
 
   -- bytes that read
-  pub encoded-read : {x : Record} → r ≡ Read x
-      → _≡_ {A = EncodedTold} (record { answer = record { number = 0; place = 0 }; bytes = b }) (encodedTold (reading f) f)
-  encoded-read {x} e =
-      ap (encodedTold (Read x)) same ∙ ap (λ (y : Reading). encodedTold y f) (sym e ∙ reads ∙ ap reading same)
+  pub encoded-read : {t : Told} → t ≡ told (answer 0 0) → {x : Record} → r ≡ Read x
+      → _≡_ {A = EncodedTold} (record { answer = t; bytes = b }) (encodedTold (reading f) f)
+  encoded-read a {x} e =
+      (λ i. record { answer = a i; bytes = same i })
+      ∙ ap (λ (y : Reading). encodedTold y f) (sym e ∙ reads ∙ ap reading same)

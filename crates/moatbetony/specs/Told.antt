@@ -1,12 +1,14 @@
--- What the library's exports hand back: answers as numbers and places, beside what a call hands out. Assumes nothing.
+-- What the library's exports hand back: answers as plain numbers, beside what a call hands out. Assumes nothing.
 use Prim.Native.Nat.{_*_, _+_, ℕ}
 use mathlib.Core.Bool.{cond}
 use mathlib.Core.List.{List}
 use lib.ListN.{replicate}
 use Rattle.answers.specs.Answers.{answer, numberOf, placeOf, unlessRefused}
 use Rattle.answers.specs.declared.Answer.{Answer}
+use Rattle.answers.specs.declared.Answer.the-variants.{Passed, Refused}
 use Rattle.balances.specs.declared.Balance.{Balance}
 use Rattle.home_figures.specs.declared.HomeFigures.{HomeFigures}
+use Rattle.home_figures.specs.declared.HomePlaces.{HomePlaces}
 use Rattle.home_validator.specs.declared.HomeValidator.{HomeValidator}
 use Rattle.journal_reader.specs.declared.Balances.{Balances}
 use Rattle.journal_reader.specs.declared.Counted.{Counted}
@@ -16,22 +18,27 @@ use Rattle.moatbetony.specs.declared.BalancesTold.{BalancesTold}
 use Rattle.moatbetony.specs.declared.CountTold.{CountTold}
 use Rattle.moatbetony.specs.declared.EncodedTold.{EncodedTold}
 use Rattle.moatbetony.specs.declared.HomeFiguresTold.{HomeFiguresTold}
+use Rattle.moatbetony.specs.declared.HomePlacesTold.{HomePlacesTold}
 use Rattle.moatbetony.specs.declared.HomeTold.{HomeTold}
 use Rattle.moatbetony.specs.declared.PairFiguresTold.{PairFiguresTold}
+use Rattle.moatbetony.specs.declared.PairPlacesTold.{PairPlacesTold}
 use Rattle.moatbetony.specs.declared.PairTold.{PairTold}
 use Rattle.moatbetony.specs.declared.PartTold.{PartTold}
 use Rattle.moatbetony.specs.declared.RecordTold.{RecordTold}
 use Rattle.moatbetony.specs.declared.Told.{Told}
 use Rattle.pair_figures.specs.declared.PairFigures.{PairFigures}
+use Rattle.pair_figures.specs.declared.PairPlaces.{PairPlaces}
 use Rattle.pair_validator.specs.declared.PairValidator.{PairValidator}
+use Rattle.records.specs.Records.{readingRefusal}
 use Rattle.records.specs.declared.Reading.{Reading}
 use Rattle.records.specs.declared.Reading.the-variants.{Read, Unreadable}
+use Rattle.records.specs.declared.Record.{Record}
 
 -- ## Versions
 
--- 0.1.0: major times 10,000, minor times 100 and patch
+-- 0.2.0: major times 10,000, minor times 100 and patch
 abbrev pub libraryVersion : ℕ
-libraryVersion = 100
+libraryVersion = 200
 
 -- the layout of both states
 abbrev pub stateVersion : ℕ
@@ -39,9 +46,14 @@ stateVersion = 1
 
 -- ## Answers
 
--- document 01's number and place
+-- 1 for passed, which a struct of zeros does not have
+abbrev pub passedOf : Answer → ℕ
+passedOf Passed = 1
+passedOf (Refused n p) = 0
+
+-- document 01's number and place, and whether it passed
 abbrev pub told : Answer → Told
-told a = record { number = numberOf a; place = placeOf a }
+told a = record { number = numberOf a; passed = passedOf a; place = placeOf a }
 
 -- ## The validators
 
@@ -53,6 +65,10 @@ pairTold a s = record { answer = told a; state = s }
 abbrev pub pairFiguresTold : PairFigures → PairFiguresTold
 pairFiguresTold f = record { answer = told (f .answer); home = f .home; far = f .far; flight = f .flight }
 
+-- its places left
+abbrev pub pairPlacesTold : PairPlaces → PairPlacesTold
+pairPlacesTold p = record { answer = told (p .answer); home = p .home; far = p .far }
+
 -- an outcome of the home validator
 abbrev pub homeTold : Answer → HomeValidator → HomeTold
 homeTold a s = record { answer = told a; state = s }
@@ -61,17 +77,25 @@ homeTold a s = record { answer = told a; state = s }
 abbrev pub homeFiguresTold : HomeFigures → HomeFiguresTold
 homeFiguresTold f = record { answer = told (f .answer); home = f .home; pool = f .pool }
 
+-- its places left
+abbrev pub homePlacesTold : HomePlaces → HomePlacesTold
+homePlacesTold p = record { answer = told (p .answer); home = p .home }
+
 -- the balance of an account
 abbrev pub balanceTold : Balance → BalanceTold
 balanceTold b = record { answer = told (b .answer); balance = b .balance }
 
 -- ## Records
 
+-- whether it was read: 21 where not
+abbrev pub readTold : Reading → Told
+readTold x = told (answer (readingRefusal (λ (r : Record). 0) x) 0)
+
 -- the fields of what was read; 21 and zeros where it does not read
 abbrev pub recordTold : Reading → RecordTold
 recordTold (Read r) =
     record {
-      answer = record { number = 0; place = 0 };
+      answer = readTold (Read r);
       kind = kindByte (r .kind);
       ledger = ledgerByte (ledgerOf (r .kind));
       sender = r .sender;
@@ -82,7 +106,7 @@ recordTold (Read r) =
     }
 recordTold Unreadable =
     record {
-      answer = record { number = 21; place = 0 };
+      answer = readTold Unreadable;
       kind = 0;
       ledger = 0;
       sender = 0;
@@ -94,8 +118,8 @@ recordTold Unreadable =
 
 -- bytes that read as a record; 21 and zeros where they do not
 abbrev pub encodedTold : Reading → List ℕ → EncodedTold
-encodedTold (Read r) b = record { answer = record { number = 0; place = 0 }; bytes = b }
-encodedTold Unreadable b = record { answer = record { number = 21; place = 0 }; bytes = replicate 32 0 }
+encodedTold (Read r) b = record { answer = readTold (Read r); bytes = b }
+encodedTold Unreadable b = record { answer = readTold Unreadable; bytes = replicate 32 0 }
 
 -- ## The journal
 

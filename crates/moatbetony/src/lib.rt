@@ -1,10 +1,11 @@
 // The library that makers link from C, Rust and what can call C: each published call under the C calling convention. Nothing is judged
-// here. An enum does not cross, so that an answer goes as its number and its place. include/moatbetony.h declares all of it.
+// here. An enum does not cross, so that an answer goes as its number, whether it passed, and its place. include/moatbetony.h declares all
+// of it.
 ghost use Prim.Native.Nat.{_+_, _*_};
 ghost use mathlib.Core.Path.{_≡_};
 ghost use lib.ListN.{drop, length, take};
 ghost use Rattle.answers.specs.Answers.{answer, unlessRefused};
-ghost use Rattle.home_figures.specs.Figures.{homeFiguresOf, homeBalanceOf};
+ghost use Rattle.home_figures.specs.Figures.{homeFiguresOf, homeBalanceOf, homePlacesOf};
 ghost use Rattle.home_tables.specs.Tables.{acceptsHome};
 ghost use Rattle.home_validator.specs.State.{homeTablesOf, homeChecker, homeOpenedState, homeZeroState};
 ghost use Rattle.block_checks.specs.Checked.{blockRefusal};
@@ -12,8 +13,8 @@ ghost use Rattle.journal_reader.specs.Judged.{recordRefusal, partOf, countOf, o
 ghost use Rattle.journal_writer.specs.Written.{writeRefusal, written};
 ghost use Rattle.moatbetony.specs.Told.{libraryVersion, stateVersion, told, pairTold, pairFiguresTold, homeTold};
 ghost use Rattle.moatbetony.specs.Told.{homeFiguresTold, balanceTold, recordTold, encodedTold, partTold};
-ghost use Rattle.moatbetony.specs.Told.{countTold, balancesTold};
-ghost use Rattle.pair_figures.specs.Figures.{figuresOf, balanceOf};
+ghost use Rattle.moatbetony.specs.Told.{countTold, balancesTold, pairPlacesTold, homePlacesTold};
+ghost use Rattle.pair_figures.specs.Figures.{figuresOf, balanceOf, placesOf};
 ghost use Rattle.pair_tables.specs.Tables.{accepts};
 ghost use Rattle.pair_validator.specs.State.{tablesOf, pairChecker, openedState, zeroState};
 ghost use Rattle.record_fields.specs.Fields.{fieldBytes};
@@ -39,7 +40,7 @@ use records::verdict_byte;
 pub extern "C" fn moatbetony_version() -> u32
     ensures { λ r. ⌜ r ≡ libraryVersion ⌝ }
 {
-    100
+    200
 }
 
 // The version of the layout of both states. A stored state is taken up only under the version that it was stored with.
@@ -52,20 +53,30 @@ pub extern "C" fn moatbetony_state_version() -> u32
 
 // ## Answers
 
-// An answer: 0 for passed or a refusal's number, and its place.
+// An answer: 0 for passed or a refusal's number; 1 for passed, which a struct of zeros does not have, and 0 for a refusal; its place.
 #[repr(C)]
 pub struct Told {
     pub number: u32,
+    pub passed: u32,
     pub place: u64,
 }
 
-// An answer as number and place.
+// An answer as it crosses.
 fn tell(a: Answer) -> Told
     ensures { λ r. ⌜ r ≡ told a ⌝ }
 {
-    let number = a.number();
-    let place = a.place();
-    Told { number, place }
+    match a {
+        Answer::Passed => Told {
+            number: 0,
+            passed: 1,
+            place: 0,
+        },
+        Answer::Refused { number, place } => Told {
+            number,
+            passed: 0,
+            place,
+        },
+    }
 }
 
 // ## The pair validator
@@ -84,6 +95,14 @@ pub struct PairFiguresTold {
     pub home: u64,
     pub far: u64,
     pub flight: u64,
+}
+
+// An answer, and the places left on both ledgers.
+#[repr(C)]
+pub struct PairPlacesTold {
+    pub answer: Told,
+    pub home: u64,
+    pub far: u64,
 }
 
 // An answer, and the balance of an account.
@@ -120,10 +139,10 @@ pub extern "C" fn moatbetony_pair_check_record(state: PairValidator, bytes: &[u8
         (call pairChecker state (one (now (bytes .entry))) .state) ⌝ }
 {
     let o = state.check_record(bytes);
-    let a = o.answer;
+    let record_answer = o.answer;
     let pair_next = o.state;
     PairTold {
-        answer: tell(a),
+        answer: tell(record_answer),
         state: pair_next,
     }
 }
@@ -135,10 +154,10 @@ pub extern "C" fn moatbetony_pair_check_list(state: PairValidator, bytes: &[u8])
         (call pairChecker state (list (now (bytes .entry))) .state) ⌝ }
 {
     let o = state.check_list(bytes);
-    let a = o.answer;
+    let list_answer = o.answer;
     let pair_last = o.state;
     PairTold {
-        answer: tell(a),
+        answer: tell(list_answer),
         state: pair_last,
     }
 }
@@ -175,6 +194,20 @@ pub extern "C" fn moatbetony_pair_balance(
     }
 }
 
+// The places left on both ledgers.
+#[no_mangle]
+pub extern "C" fn moatbetony_pair_places_left(state: PairValidator) -> PairPlacesTold
+    ensures { λ r. ⌜ r ≡ pairPlacesTold (placesOf (accepts (tablesOf state)) (tablesOf state)) ⌝ }
+{
+    let both = pair_figures::places_left(state);
+    let a = both.answer;
+    PairPlacesTold {
+        answer: tell(a),
+        home: both.home,
+        far: both.far,
+    }
+}
+
 // ## The home validator
 
 // An answer, and the state to go on with.
@@ -190,6 +223,13 @@ pub struct HomeFiguresTold {
     pub answer: Told,
     pub home: u64,
     pub pool: u64,
+}
+
+// An answer, and the places left on the home ledger.
+#[repr(C)]
+pub struct HomePlacesTold {
+    pub answer: Told,
+    pub home: u64,
 }
 
 // An opening.
@@ -219,10 +259,10 @@ pub extern "C" fn moatbetony_home_check_record(state: HomeValidator, bytes: &[u8
         (call homeChecker state (one (now (bytes .entry))) .state) ⌝ }
 {
     let o = state.check_record(bytes);
-    let a = o.answer;
+    let home_record_answer = o.answer;
     let home_next = o.state;
     HomeTold {
-        answer: tell(a),
+        answer: tell(home_record_answer),
         state: home_next,
     }
 }
@@ -234,10 +274,10 @@ pub extern "C" fn moatbetony_home_check_list(state: HomeValidator, bytes: &[u8])
         (call homeChecker state (list (now (bytes .entry))) .state) ⌝ }
 {
     let o = state.check_list(bytes);
-    let a = o.answer;
+    let home_list_answer = o.answer;
     let home_last = o.state;
     HomeTold {
-        answer: tell(a),
+        answer: tell(home_list_answer),
         state: home_last,
     }
 }
@@ -247,12 +287,12 @@ pub extern "C" fn moatbetony_home_check_list(state: HomeValidator, bytes: &[u8])
 pub extern "C" fn moatbetony_home_figures(state: HomeValidator) -> HomeFiguresTold
     ensures { λ r. ⌜ r ≡ homeFiguresTold (homeFiguresOf (acceptsHome (homeTablesOf state)) (homeTablesOf state)) ⌝ }
 {
-    let f = home_figures::figures(state);
-    let a = f.answer;
+    let h = home_figures::figures(state);
+    let a = h.answer;
     HomeFiguresTold {
         answer: tell(a),
-        home: f.home,
-        pool: f.pool,
+        home: h.home,
+        pool: h.pool,
     }
 }
 
@@ -261,11 +301,24 @@ pub extern "C" fn moatbetony_home_figures(state: HomeValidator) -> HomeFiguresTo
 pub extern "C" fn moatbetony_home_balance(state: HomeValidator, account: u16) -> BalanceTold
     ensures { λ r. ⌜ r ≡ balanceTold (homeBalanceOf (acceptsHome (homeTablesOf state)) (homeTablesOf state) account) ⌝ }
 {
-    let b = home_figures::balance(state, account);
-    let a = b.answer;
+    let held = home_figures::balance(state, account);
+    let a = held.answer;
     BalanceTold {
         answer: tell(a),
-        balance: b.balance,
+        balance: held.balance,
+    }
+}
+
+// The places left on the home ledger.
+#[no_mangle]
+pub extern "C" fn moatbetony_home_places_left(state: HomeValidator) -> HomePlacesTold
+    ensures { λ r. ⌜ r ≡ homePlacesTold (homePlacesOf (acceptsHome (homeTablesOf state)) (homeTablesOf state)) ⌝ }
+{
+    let left = home_figures::places_left(state);
+    let a = left.answer;
+    HomePlacesTold {
+        answer: tell(a),
+        home: left.home,
     }
 }
 
@@ -297,10 +350,7 @@ fn tell_record(r: Record) -> RecordTold
 {
     let k = r.kind;
     RecordTold {
-        answer: Told {
-            number: 0,
-            place: 0,
-        },
+        answer: tell(Answer::Passed),
         kind: k.byte(),
         ledger: k.ledger().byte(),
         sender: r.sender,
@@ -318,10 +368,7 @@ pub extern "C" fn moatbetony_record_read(bytes: &[u8]) -> RecordTold
 {
     let Reading::Read(r) = Record::read(bytes) else {
         return RecordTold {
-            answer: Told {
-                number: 21,
-                place: 0,
-            },
+            answer: tell(Answer::new(21, 0)),
             kind: 0,
             ledger: 0,
             sender: 0,
@@ -351,18 +398,12 @@ pub extern "C" fn moatbetony_record_encode(
     let bytes = field_bytes(kind, ledger, sender, receiver, number, amount, verdict);
     let Reading::Read(_) = Record::read(&bytes) else {
         return EncodedTold {
-            answer: Told {
-                number: 21,
-                place: 0,
-            },
+            answer: tell(Answer::new(21, 0)),
             bytes: [0; 32],
         };
     };
     EncodedTold {
-        answer: Told {
-            number: 0,
-            place: 0,
-        },
+        answer: tell(Answer::Passed),
         bytes,
     }
 }

@@ -3,7 +3,7 @@ ghost use Prim.Native.Nat.{ℕ, _+_, _*_, _≤_};
 ghost use mathlib.Core.Bool.{true, false};
 ghost use mathlib.Core.List.{List, [], _∷_, _++_};
 ghost use mathlib.Core.Path.{_≡_};
-ghost use lib.ListN.{length, replicate};
+ghost use lib.ListN.{drop, length, replicate, take};
 ghost use Rattle.ledgers.specs.Limits.{accountLimit};
 ghost use Rattle.lines.specs.Lines.{Put, headerLine};
 ghost use Rattle.listing.specs.Listing.{openingText};
@@ -12,9 +12,11 @@ ghost use Rattle.rules.specs.Lists.{total};
 ghost use Rattle.rules.specs.PairValidator.{pairOpeningRefusal};
 ghost use Rattle.tables.specs.Columns.{padded};
 use answers::Answer;
+use block_format::BLOCK_SIZE;
 use entries::copy_numbers;
 use exact_sums::Wide;
 use exact_sums::add_balances;
+use inputs::part_end;
 use journal_reader::opening_balances;
 use ledgers::Ledger;
 use lines::put_fault;
@@ -67,7 +69,7 @@ fn open_columns<'a>(
 }
 
 // The header line, and the line of the opening of blocks 0 and 1 or the fault of one of them.
-pub fn list_opening<'a>(
+fn list_opening<'a>(
     home: &'a [u8],
     far: &'a [u8],
     out: &'a mut [u8],
@@ -119,4 +121,36 @@ pub fn list_opening<'a>(
         end,
         going: true,
     }
+}
+
+// The same of a journal's first bytes, which are blocks 0 and 1 or what there is of them.
+pub fn list_start<'a>(
+    bytes: &'a [u8],
+    out: &'a mut [u8],
+    figures: &'a mut [u64],
+    accounts: &'a mut [usize],
+    balances: &'a mut [u64],
+) -> Start
+    requires { ⌜ (256 ≤ length (now out)) × (now figures ≡ replicate 3 0) × (now accounts ≡ replicate 2 0)
+        × (now balances ≡ replicate (2 * accountLimit) 0) ⌝ }
+    ensures puts { λ r. ⌜ Put (now (out .entry)) 0 (headerLine ++ openingText (take 512 (now (bytes .entry)))
+        (take 512 (drop 512 (now (bytes .entry)))) []) (now (out .exit)) (r .end) ⌝ }
+    ensures opens { λ r. ⌜ (r .going ≡ true → OpenedIn (take 512 (now (bytes .entry))) (take 512 (drop 512 (now (bytes .entry)))) r
+        (now (figures .exit)) (now (accounts .exit)) (now (balances .exit))) ⌝ }
+    ensures stops { λ r. ⌜ (r .going ≡ false → (rest : List ℕ)
+        → openingText (take 512 (now (bytes .entry))) (take 512 (drop 512 (now (bytes .entry)))) rest
+        ≡ openingText (take 512 (now (bytes .entry))) (take 512 (drop 512 (now (bytes .entry)))) []) ⌝ }
+    ensures fits { λ r. ⌜ r .end ≤ 256 ⌝ }
+{
+    let n = bytes.len();
+    let middle = part_end(BLOCK_SIZE, 0, n);
+    let end = part_end(BLOCK_SIZE, middle, n);
+    list_opening(
+        &bytes[..middle],
+        &bytes[middle..end],
+        out,
+        figures,
+        accounts,
+        balances,
+    )
 }

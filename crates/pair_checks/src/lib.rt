@@ -5,12 +5,12 @@ ghost use mathlib.Core.Bool.{not, true};
 ghost use mathlib.Core.Path.{_≡_};
 ghost use lib.ListN.{length, getD};
 ghost use Rattle.answers.specs.Answers.{refuse};
-ghost use Rattle.entries.specs.Entries.{judgedAs, Found};
+ghost use Rattle.entries.specs.Entries.{Found};
 ghost use Rattle.ledgers.specs.Limits.{accountLimit, capacity};
 ghost use Rattle.pair_checks.specs.Accepting.{paddedAt, rowsAt, matchedAt, addsUpAt, acceptsAt};
 ghost use Rattle.pair_tables.specs.Judging.{judgeAt, Indexes};
 ghost use Rattle.pair_tables.specs.Tables.{inBounds};
-ghost use Rattle.records.specs.Records.{reading};
+ghost use Rattle.records.specs.Records.{reading, readingRefusal};
 use entries::Judgement;
 use entries::is_count_allowed;
 use entries::refused;
@@ -294,7 +294,7 @@ pub fn judge_call<'a>(
     ensures { λ j. ⌜ Found (now (bytes .entry)) (refuse (not (acceptsAt supply (now (accounts .entry)) (now (counts .entry))
         (now (balances .entry)) (now (kinds .entry)) (now (ledgers .entry)) (now (senders .entry)) (now (receivers .entry))
         (now (numbers .entry)) (now (amounts .entry)) (now (verdicts .entry)))) 3
-        (judgedAs (judgeAt (now (accounts .entry)) (now (counts .entry)) (now (balances .entry)) (now (kinds .entry))
+        (readingRefusal (judgeAt (now (accounts .entry)) (now (counts .entry)) (now (balances .entry)) (now (kinds .entry))
         (now (senders .entry)) (now (receivers .entry)) (now (numbers .entry)) (now (amounts .entry)))
         (reading (now (bytes .entry))))) j ⌝ }
 {

@@ -1,20 +1,26 @@
 -- The claims about the pair validator's calls: runs over the program's states are runs over the rules' states. Assumes nothing.
-use Prim.Native.Nat.{_+_, suc, ℕ}
-use mathlib.Core.Bool.{true}
+use Prim.Native.Nat.{_+_, _-_, _≤_, suc, ℕ}
+use mathlib.Core.Bool.{Bool, false, true}
 use mathlib.Core.List.{List}
 use mathlib.Core.Path.{_∙_, _≡_, ap, refl, sym}
 use native.Mathlib.Omega.{arith}
+use lib.Dec.{leb}
+use lib.ListN.{length}
+use borrow.Author.Tests.{leb-false, leb-true}
+use Rattle.answers.specs.Answers.{answer}
 use Rattle.answers.specs.declared.Answer.the-variants.{Passed, Refused}
 use Rattle.inputs.proofs.Parts.{call-unaccepted}
-use Rattle.ledgers.specs.Ledgers.{ledgerByte}
+use Rattle.ledgers.specs.Ledgers.{ledgerByte, ledgerOf}
 use Rattle.ledgers.specs.Limits.{capacity}
 use Rattle.ledgers.specs.declared.Ledger.{Ledger}
 use Rattle.ledgers.specs.declared.Ledger.the-variants.{Far, Home}
-use Rattle.pair_laws.proofs.Passing.{Sound, next-of, sound-accepts, sound-of}
+use Rattle.pair_laws.proofs.Accept.{length-held}
+use Rattle.pair_laws.proofs.Passing.{Sound, counts-fit, next-of, sound-accepts, sound-of}
 use Rattle.pair_tables.specs.Tables.{PairTables, accepts, balancesOf, heldOf, pairViewOf}
 use Rattle.pair_validator.proofs.Opened.{opened-sound, opened-view, zero-refused}
-use Rattle.pair_claims.specs.Claims.{CallsAsRules, ListsAndRefusals, OpenedAsRules, StateFollowsRules, StatesConserved}
-use Rattle.pair_claims.specs.Claims.{StatesFollowRules, StatesStayAccepted, ThreeExactly, ZeroRefused, passedOfRun, stateOfRun}
+use Rattle.pair_claims.specs.Claims.{CallsAsRules, FullWhenNoneLeft, ListsAndRefusals, OpenedAsRules, PlacesLeft}
+use Rattle.pair_claims.specs.Claims.{StateFollowsRules, StatesConserved, StatesFollowRules, StatesStayAccepted}
+use Rattle.pair_claims.specs.Claims.{ThreeExactly, ZeroRefused, leftOn, passedOfRun, placesLeft, stateOfRun}
 use Rattle.pair_validator.specs.State.{openedState, pairChecker, tablesOf, viewOfState, zeroState}
 use Rattle.pair_validator.specs.declared.PairValidator.{PairValidator}
 use Rattle.records.specs.Records.{reading}
@@ -24,9 +30,9 @@ use Rattle.rules.proofs.ListCalls.{lists-in-turn}
 use Rattle.rules.proofs.NeverThree.{never-3, pair-never-3}
 use Rattle.rules.proofs.PairConserved.{conserved}
 use Rattle.rules.proofs.PairRules.{as-the-rules}
-use Rattle.rules.proofs.Runs.{refused-unaltered}
+use Rattle.rules.proofs.Runs.{never-both, refused-unaltered}
 use Rattle.rules.proofs.Simulation.{Agree, Follows, agree-call, simulation}
-use Rattle.rules.specs.Calls.{Call, RefusedUnaltered, call, one, passedRecords, recordsOn, run}
+use Rattle.rules.specs.Calls.{Call, RefusedUnaltered, Result, call, one, passedRecords, recordsOn, run}
 use Rattle.rules.specs.Lists.{total}
 use Rattle.rules.specs.PairValidator.{AsTheRules, Conserved, ConservedAfter, FollowsRules, PairView, inFlightOf, pairJudge, pairOpened}
 use Rattle.rules.specs.PairValidator.{pairOpeningRefusal, pairValidator}
@@ -182,3 +188,53 @@ states-conserved homes fars ok ds =
 pub zero-is-refused : ZeroRefused
 unfolding ZeroRefused
 zero-is-refused d = call-unaccepted pairChecker zeroState d zero-refused
+
+-- ## The places left
+
+-- those of a ledger, of accepted tables
+left-is : (s : PairValidator) → accepts (tablesOf s) ≡ true → (l : Ledger)
+    → leftOn l (placesLeft s) ≡ capacity - length (stateOf l (viewOfState s .pair) .passed)
+left-is s a Home = rw a
+left-is s a Far = rw a
+
+-- no ledger holds more than the capacity
+held-within : (t : PairTables) → Sound t → (l : Ledger) → length (heldOf t (ledgerByte l)) ≤ capacity
+held-within t z Home = rw (length-held t 0) (counts-fit t z 0 (omega arith))
+held-within t z Far = rw (length-held t 1) (counts-fit t z 1 (omega arith))
+
+-- after every run
+pub places-left : PlacesLeft
+unfolding PlacesLeft StatesConserved
+places-left homes fars ok ds =
+    let s = stateOfRun homes fars ds in
+    let z = follows (openedState homes fars) ds (opened-sound homes fars ok) .invariant in
+    let c = states-conserved homes fars ok ds in
+    let a : accepts (tablesOf s) ≡ true = c .accepted in
+    record {
+      told = rw a;
+      with-passed = λ l.
+          omega (arith, left-is s a l, ap length (held-in (tablesOf s) l), ap length (c .tables l), held-within (tablesOf s) z l);
+    }
+
+-- 41 exactly when no place is left
+pub full-when-none-left : FullWhenNoneLeft
+unfolding FullWhenNoneLeft
+full-when-none-left s z a b r q j = (only, whenever)
+  where
+    f : StateFollowsRules s b
+    f = state-follows s (sound-of (tablesOf s) z a) b
+
+    n : ℕ
+    n = length (stateOf (ledgerOf (r .kind)) (viewOfState s .pair) .passed)
+
+    whenever : leftOn (ledgerOf (r .kind)) (placesLeft s) ≡ 0 → call pairChecker s (one b) .answer ≡ answer 41 0
+    whenever e =
+        ap (λ (x : Result PairValidator). x .answer)
+        (f .refuses-full r q j (omega (arith, e, left-is s a (ledgerOf (r .kind)))))
+
+    only : call pairChecker s (one b) .answer ≡ answer 41 0 → leftOn (ledgerOf (r .kind)) (placesLeft s) ≡ 0
+    only h = go (leb capacity n) refl
+      where
+        go : (t : Bool) → leb capacity n ≡ t → leftOn (ledgerOf (r .kind)) (placesLeft s) ≡ 0
+        go true e = omega (arith, left-is s a (ledgerOf (r .kind)), leb-true capacity n e)
+        go false e = absurd (never-both 41 0 (sym (f .passes-when r q .1 (j, leb-false capacity n e)) ∙ h))

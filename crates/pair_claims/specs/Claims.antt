@@ -1,16 +1,19 @@
--- What is claimed of the pair validator's calls over the state that the program holds: demand 2 and the first half of demand 3.
--- Assumes nothing.
+-- What is claimed of the pair validator's calls over the state that the program holds: demand 2, the first half of demand 3, and what
+-- the places left say of 41. Assumes nothing.
 use Prim.Native.Nat.{_+_, _<_, _≤_, suc, ℕ}
 use mathlib.Core.Bool.{false, true}
 use mathlib.Core.List.{List}
 use mathlib.Core.Logic.{_↔_}
 use mathlib.Core.Path.{_≡_}
 use lib.ListN.{length}
+use Rattle.answers.specs.Answers.{answer}
 use Rattle.answers.specs.declared.Answer.the-variants.{Passed, Refused}
 use Rattle.ledgers.specs.Ledgers.{ledgerByte, ledgerOf}
 use Rattle.ledgers.specs.Limits.{capacity}
 use Rattle.ledgers.specs.declared.Ledger.{Ledger}
-use Rattle.pair_figures.specs.Figures.{figuresOf}
+use Rattle.ledgers.specs.declared.Ledger.the-variants.{Far, Home}
+use Rattle.pair_figures.specs.Figures.{figuresOf, placesOf}
+use Rattle.pair_figures.specs.declared.PairPlaces.{PairPlaces}
 use Rattle.pair_tables.specs.Tables.{Sized, accepts, balancesOf, heldOf}
 use Rattle.pair_validator.specs.State.{openedState, pairChecker, tablesOf, viewOfState, zeroState}
 use Rattle.pair_validator.specs.declared.PairValidator.{PairValidator}
@@ -119,3 +122,33 @@ StatesConserved = (homes fars : List ℕ) → pairOpeningRefusal homes fars ≡ 
 -- beside a refused opening stands a state that every call refuses with 3
 unfoldable pub ZeroRefused : Type 0
 ZeroRefused = (d : Call) → call pairChecker zeroState d ≡ record { answer = Refused 3 0; state = zeroState }
+
+-- ## The places left
+
+-- what the validator gives for a state
+abbrev pub placesLeft : PairValidator → PairPlaces
+placesLeft s = placesOf (accepts (tablesOf s)) (tablesOf s)
+
+-- of them those of a ledger
+abbrev pub leftOn : Ledger → PairPlaces → ℕ
+leftOn Home p = p .home
+leftOn Far p = p .far
+
+-- what holds of them after the calls of a run
+pub record PlacesLeftAfter (homes fars : List ℕ) (ds : List Call) : Type 0 where
+  -- they are told
+  pub told : placesLeft (stateOfRun homes fars ds) .answer ≡ answer 0 0
+  -- with the passed records of a ledger they make the capacity
+  pub with-passed : (l : Ledger)
+      → leftOn l (placesLeft (stateOfRun homes fars ds)) + length (recordsOn l (passedOfRun homes fars ds)) ≡ capacity
+
+-- at every accepted opening and after every list of calls, the places left on a ledger are the capacity less its passed records
+unfoldable pub PlacesLeft : Type 0
+PlacesLeft = (homes fars : List ℕ) → pairOpeningRefusal homes fars ≡ 0 → (ds : List Call) → PlacesLeftAfter homes fars ds
+
+-- in every state that the pair validator accepts, a record that the rules pass is refused 41 exactly when its ledger has no place left
+unfoldable pub FullWhenNoneLeft : Type 0
+FullWhenNoneLeft =
+    (s : PairValidator) → Sized (tablesOf s) → accepts (tablesOf s) ≡ true → (b : List ℕ) (r : Record) → reading b ≡ Read r
+    → judge (viewOfState s .pair) r ≡ 0
+    → (call pairChecker s (one b) .answer ≡ answer 41 0) ↔ (leftOn (ledgerOf (r .kind)) (placesLeft s) ≡ 0)

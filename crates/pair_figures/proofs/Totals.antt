@@ -1,27 +1,33 @@
--- Laws of the totals and the figures of accepted tables. Assumes nothing.
+-- Laws of the totals, the figures and the places left of accepted tables. Assumes nothing.
 use Prim.Native.Nat.{_*_, _+_, _-_, _<_, _≤_, suc, zero, ℕ}
-use mathlib.Core.Bool.{false}
+use mathlib.Core.Bool.{false, true}
 use mathlib.Core.Path.{_∙_, _≡_, sym}
 use native.Mathlib.Omega.{arith}
 use lib.Dec.{ltb}
 use lib.ListN.{List·getD-eq-default, drop, getD, length, take}
 use borrow.Author.Tests.{le-ltb}
+use Rattle.answers.specs.Answers.{answer}
+use Rattle.answers.specs.declared.Answer.{Answer}
 use Rattle.answers.specs.declared.Answer.the-variants.{Passed}
 use Rattle.balances.specs.Balances.{balanceAmong, balanceRefused}
 use Rattle.exact_sums.proofs.Sums.{added-value}
 use Rattle.exact_sums.specs.Sums.{Added}
 use Rattle.exact_sums.specs.declared.Wide.{Wide}
 use Rattle.ledgers.specs.Limits.{accountLimit, capacity}
-use Rattle.pair_figures.specs.Figures.{balanceOf, figuresOf}
+use Rattle.pair_figures.specs.Figures.{balanceOf, figuresOf, placesOf}
 use Rattle.pair_figures.specs.declared.PairFigures.{PairFigures}
+use Rattle.pair_figures.specs.declared.PairPlaces.{PairPlaces}
+use Rattle.pair_checks.proofs.Bounds.{bounds-facts}
+use Rattle.pair_laws.proofs.Accept.{length-held}
 use Rattle.pair_laws.proofs.Passing.{Sound, sound-accepts}
-use Rattle.pair_tables.specs.Tables.{PairTables, accepts, accountsAt, balancesOf, pairViewOf}
+use Rattle.pair_tables.specs.Tables.{PairTables, accepts, accountsAt, balancesOf, countAt, pairViewOf}
 use Rattle.rules.proofs.PairAccepted.{accepts-facts}
 use Rattle.rules.specs.Lists.{total}
 use Rattle.rules.specs.Rules.{inFlight}
 use Rattle.table_laws.proofs.Allowed.{balances-sum}
 use Rattle.table_laws.proofs.Openings.{low-is-wide}
 use Rattle.tables.specs.Places.{sumAt}
+use Rattle.wire.proofs.Lists.{every-first}
 
 module _ (t : PairTables) (s : Sound t) where
   -- balances and in flight are the supply
@@ -75,3 +81,26 @@ module _ (t : PairTables) (s : Sound t) where
       ≡ balanceOf (accepts t) t l a
   unfolding balancesOf
   balance-passed l a = rw (sound-accepts t s)
+
+-- ## The places left
+
+-- none is told of tables that are not accepted
+pub places-refused : (t : PairTables) → accepts t ≡ false → {a : Answer} → a ≡ answer 3 0
+    → _≡_ {A = PairPlaces} (record { answer = a; home = 0; far = 0 }) (placesOf (accepts t) t)
+places-refused t h e = rw h (λ i. record { answer = e i; home = 0; far = 0 })
+
+module _ (t : PairTables) (h : accepts t ≡ true) where
+  -- both counts are within the capacity
+  pub held-fits : (countAt t 0 ≤ capacity) × (countAt t 1 ≤ capacity)
+  unfolding accepts
+  held-fits = let b = bounds-facts _ _ _ _ _ (every-first _ _ h .0) in (b .home-room, b .far-room)
+
+  -- the places left of accepted tables, by both counts
+  pub places-passed : _≡_ {A = PairPlaces} (record { answer = Passed; home = capacity - countAt t 0; far = capacity - countAt t 1 })
+      (placesOf (accepts t) t)
+  places-passed =
+      rw h (λ i. record {
+        answer = Passed;
+        home = capacity - sym (length-held t 0) i;
+        far = capacity - sym (length-held t 1) i;
+      })

@@ -6,8 +6,8 @@ ghost use mathlib.Core.Path.{_≡_};
 ghost use lib.ListN.{length, getD};
 ghost use Rattle.ledgers.specs.Ledgers.{ledgerByte};
 ghost use Rattle.pair_tables.specs.Judging.{lastAt, judgeAt, Fits, Indexes};
-ghost use Rattle.records.specs.Records.{reading};
-ghost use Rattle.entries.specs.Entries.{judgedAs, Found};
+ghost use Rattle.records.specs.Records.{reading, readingRefusal};
+ghost use Rattle.entries.specs.Entries.{Found};
 use answers::first_refusal;
 use answers::refusal_if;
 use entries::Judgement;
@@ -158,7 +158,7 @@ pub fn judge_bytes<'a>(
 ) -> Judgement
     requires { ⌜ Fits (now accounts) (now counts) (now balances) (now kinds) (now senders) (now receivers) (now numbers) (now amounts)
         × Indexes (getD (now counts) 0 0) (getD (now counts) 1 0) (now numbers) (now heads) (now nexts) ⌝ }
-    ensures { λ j. ⌜ Found (now (bytes .entry)) (judgedAs (judgeAt (now (accounts .entry)) (now (counts .entry)) (now (balances .entry))
+    ensures { λ j. ⌜ Found (now (bytes .entry)) (readingRefusal (judgeAt (now (accounts .entry)) (now (counts .entry)) (now (balances .entry))
         (now (kinds .entry)) (now (senders .entry)) (now (receivers .entry)) (now (numbers .entry)) (now (amounts .entry)))
         (reading (now (bytes .entry)))) j ⌝ }
 {

@@ -21,7 +21,7 @@ use Rattle.pair_checks.specs.Accepting.{acceptsAt}
 use Rattle.pair_tables.specs.Tables.{PairTables, Sized, accepts, withRecord}
 use Rattle.pair_validator.specs.State.{pairChecker, stateWith, tablesOf, viewOfState}
 use Rattle.pair_validator.specs.declared.PairValidator.{PairValidator}
-use Rattle.records.specs.Records.{reading}
+use Rattle.records.specs.Records.{reading, readingRefusal}
 use Rattle.records.specs.declared.Reading.{Reading}
 use Rattle.records.specs.declared.Reading.the-variants.{Read, Unreadable}
 use Rattle.records.specs.declared.Record.{Record}
@@ -32,7 +32,7 @@ use Rattle.rules.specs.PairValidator.{pairJudge}
 use Rattle.table_laws.proofs.Held.{given-most, stored-fits, taken-given}
 use Rattle.entries.specs.Entries.{takenBy}
 use Rattle.tables.specs.Columns.{withRow}
-use Rattle.entries.specs.Entries.{Found, entryOf, judgedAs}
+use Rattle.entries.specs.Entries.{Found, entryOf}
 use Rattle.entries.specs.declared.Entry.{Entry}
 use Rattle.entries.specs.declared.Judgement.{Judgement}
 
@@ -106,13 +106,13 @@ acceptsTables t =
 
 -- the refusal of bytes by the columns
 abbrev pub bytesRefusal : PairValidator → List ℕ → ℕ
-bytesRefusal s b = judgedAs (judgeTables (tablesOf s)) (reading b)
+bytesRefusal s b = readingRefusal (judgeTables (tablesOf s)) (reading b)
 
 -- it is the rules'
 pub bytes-judged : (s : PairValidator) → Sound (tablesOf s) → (b : List ℕ) → bytesRefusal s b ≡ pairChecker .judge s b
 bytes-judged s z b = go (reading b)
   where
-    go : (x : Reading) → judgedAs (judgeTables (tablesOf s)) x ≡ pairJudge capacity (viewOfState s .pair) x
+    go : (x : Reading) → readingRefusal (judgeTables (tablesOf s)) x ≡ pairJudge capacity (viewOfState s .pair) x
     go Unreadable = refl
     go (Read r) = judge-is (tablesOf s) (z .sized) (accounts-fit (tablesOf s) z) r
 
@@ -146,7 +146,7 @@ pub judged-of : (s : PairValidator) → Sound (tablesOf s) → (b : List ℕ) (n
     → Judged s b (j .read)
 judged-of s z b n j f h k =
     let q = f .read-is h in
-    record { sound = z; reads = q; passes = sym (ap (judgedAs (judgeTables (tablesOf s))) q) ∙ k }
+    record { sound = z; reads = q; passes = sym (ap (readingRefusal (judgeTables (tablesOf s))) q) ∙ k }
 
 -- ## The state after a pass
 

@@ -49,6 +49,11 @@ recordIn b =
 unfoldable pub reading : List ℕ → Reading
 reading b = cond (formed b) (Read (recordIn b)) Unreadable
 
+-- document 01's number of each case: 21 of what does not read, and of a record the number that it is given (0: none)
+abbrev pub readingRefusal : (Record → ℕ) → Reading → ℕ
+readingRefusal given Unreadable = 21
+readingRefusal given (Read r) = given r
+
 -- ## Encoding
 
 -- the 32 bytes of a record

@@ -61,11 +61,11 @@ module _ {S : Type 0} where
   -- no refusal of the record at index i: what the rest of the list gives; else that refusal and the state from before the call
   abbrev pub orStop : ℕ → ℕ → S → Result S → Result S
   orStop zero i start rest = rest
-  orStop (suc n) i start rest = record { answer = Refused (suc n) i; state = start }
+  orStop (suc n) i start rest = record { answer = answer (suc n) i; state = start }
 
   -- a list from its record at index i on, up to the first refusal (Refusals: a call with a list)
   unfoldable pub callList : Checker S → S → ℕ → S → List (List ℕ) → Result S
-  callList c start i s [] = record { answer = Passed; state = s }
+  callList c start i s [] = record { answer = answer 0 0; state = s }
   callList c start i s (b ∷ bs) = orStop (c .judge s b) i start (callList c start (suc i) (c .after s b) bs)
 
   -- a call in an accepted state
@@ -76,7 +76,7 @@ module _ {S : Type 0} where
   -- 3, once and before all else, at place 0
   abbrev pub ifAccepted : Bool → S → Result S → Result S
   ifAccepted true s r = r
-  ifAccepted false s r = record { answer = Refused 3 0; state = s }
+  ifAccepted false s r = record { answer = answer 3 0; state = s }
 
   -- what a call answers and hands back
   unfoldable pub call : Checker S → S → Call → Result S

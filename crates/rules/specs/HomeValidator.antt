@@ -9,7 +9,7 @@ use lib.Dec.{eqb, ltb, leb}
 use lib.ListN.{length}
 use Rattle.answers.specs.Answers.{refuse, orElse}
 use Rattle.ledgers.specs.Ledgers.{ledgerOf}
-use Rattle.records.specs.Records.{reading}
+use Rattle.records.specs.Records.{reading, readingRefusal}
 use Rattle.rules.specs.Calls.{Call, handed, CallBytes, Checker, call, run, passedRecords, recordsOn, KeepsAccepted, one}
 use Rattle.rules.specs.Lists.{sum, all, Interleaving, total}
 use Rattle.rules.specs.PairValidator.{roomRefusal, countAllowed, supplyAllowed, heldAllowed, unshared, standsUnder, openingRefusal}
@@ -72,8 +72,8 @@ homeJudgeRecord v r =
 
 -- 21 before these and 41 after them (Refusals: order of the guard); 3 is judged by the call
 abbrev pub homeJudge : ℕ → HomeView → Reading → ℕ
-homeJudge capacity v Unreadable = 21
-homeJudge capacity v (Read r) = orElse (homeJudgeRecord v r) (roomRefusal capacity (v .home .passed))
+homeJudge capacity v x =
+    readingRefusal (λ (r : Record). orElse (homeJudgeRecord v r) (roomRefusal capacity (v .home .passed))) x
 
 -- the far pool once a record has passed: a sending adds its amount, a receiving takes it off
 abbrev pub poolAfter : ℕ → Record → Kind → ℕ

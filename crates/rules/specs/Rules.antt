@@ -9,7 +9,7 @@ use lib.Dec.{eqb, ltb, leb}
 use lib.ListN.{length, getD}
 use Rattle.answers.specs.Answers.{refuse}
 use Rattle.ledgers.specs.Ledgers.{counterpart, ledgerOf, senderLedger, receiverLedger}
-use Rattle.records.specs.Records.{reading}
+use Rattle.records.specs.Records.{reading, readingRefusal}
 use Rattle.rules.specs.Lists.{sum, any, lowered, raised}
 use Rattle.wire.specs.BigEndian.{every}
 pub use Rattle.ledgers.specs.declared.Ledger.{Ledger}
@@ -144,8 +144,7 @@ after p r = withState (ledgerOf (r .kind)) (held (stateOf (ledgerOf (r .kind)) p
 
 -- what does not read is refused before anything else (Rules: form; 21)
 abbrev pub judgeReading : PairState → Reading → ℕ
-judgeReading p Unreadable = 21
-judgeReading p (Read r) = judge p r
+judgeReading p x = readingRefusal (judge p) x
 
 -- what does not read leaves both ledgers as they are
 abbrev pub afterReading : PairState → Reading → PairState

@@ -22,11 +22,15 @@ impl Library {
     }
 }
 
-/// An answer as it crosses. One that passed with a place is no answer of the papers, and differs from every one of theirs.
+/// An answer as it crosses. One whose number and `passed` contradict each other, or that passed with a place, is no answer of the papers,
+/// and differs from every one of theirs.
 fn answer(told: ffi::Told) -> Answer {
     match told {
-        ffi::Told { number: 0, place: 0 } => Answer::Passed,
-        ffi::Told { number, place } => Answer::Refused { number: u8::try_from(number).unwrap_or(u8::MAX), place },
+        ffi::Told { number: 0, passed: 1, place: 0 } => Answer::Passed,
+        ffi::Told { number: number @ 1.., passed: 0, place } => {
+            Answer::Refused { number: u8::try_from(number).unwrap_or(u8::MAX), place }
+        }
+        ffi::Told { place, .. } => Answer::Refused { number: u8::MAX, place },
     }
 }
 
@@ -87,6 +91,11 @@ impl Part for Library {
         (answer(told.answer), told.balance)
     }
 
+    fn pair_places_left(&mut self, state: &PairState) -> (Answer, [u64; 2]) {
+        let told = unsafe { ffi::moatbetony_pair_places_left(pair_in(state)) };
+        (answer(told.answer), [told.home, told.far])
+    }
+
     fn home_open(&mut self, home: &[u64], fars: usize, far_total: u64) -> (Answer, Box<HomeState>) {
         home_out(unsafe { ffi::moatbetony_home_open(self.first.lend(home), home.len(), fars, far_total) })
     }
@@ -107,6 +116,11 @@ impl Part for Library {
     fn home_balance(&mut self, state: &HomeState, account: u16) -> (Answer, u64) {
         let told = unsafe { ffi::moatbetony_home_balance(home_in(state), account) };
         (answer(told.answer), told.balance)
+    }
+
+    fn home_places_left(&mut self, state: &HomeState) -> (Answer, u64) {
+        let told = unsafe { ffi::moatbetony_home_places_left(home_in(state)) };
+        (answer(told.answer), told.home)
     }
 
     fn record_read(&mut self, bytes: &[u8]) -> (Answer, Held) {

@@ -5,14 +5,16 @@ use crate::{Function, Interface, Named, Read, Type};
 use std::collections::BTreeMap;
 
 // The structs' names here and in the Rattle sources.
-const STRUCTS: [(&str, &str); 14] = [
+const STRUCTS: [(&str, &str); 16] = [
     ("moatbetony_answer_t", "Told"),
     ("moatbetony_pair_t", "PairValidator"),
     ("moatbetony_home_t", "HomeValidator"),
     ("moatbetony_pair_outcome_t", "PairTold"),
     ("moatbetony_pair_figures_t", "PairFiguresTold"),
+    ("moatbetony_pair_places_t", "PairPlacesTold"),
     ("moatbetony_home_outcome_t", "HomeTold"),
     ("moatbetony_home_figures_t", "HomeFiguresTold"),
+    ("moatbetony_home_places_t", "HomePlacesTold"),
     ("moatbetony_balance_t", "BalanceTold"),
     ("moatbetony_record_t", "RecordTold"),
     ("moatbetony_encoded_t", "EncodedTold"),

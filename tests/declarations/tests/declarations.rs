@@ -85,8 +85,8 @@ fn header_binding_and_exports_agree() {
     let complaints = Sources::as_they_are().complaints();
     assert!(complaints.is_empty(), "\n{}", complaints.join("\n"));
     let exports = Sources::as_they_are().exports().expect("the exports");
-    assert_eq!(exports.functions.len(), 21);
-    assert_eq!(exports.structs.len(), 14);
+    assert_eq!(exports.functions.len(), 23);
+    assert_eq!(exports.structs.len(), 16);
 }
 
 #[test]
@@ -134,7 +134,7 @@ fn refusals_agree() {
         .map(|(_, number)| number)
         .collect();
     let mut told = texts(&header).expect("the header's texts");
-    assert_eq!(told.remove(&0).as_deref(), Some("passed"));
+    assert_eq!(told.remove(&0).as_deref(), Some("no refusal"));
     assert_eq!(told, refusals(&source("bindings/rust/src/refusal.rs")).expect("the table of refusals"));
     assert_eq!(told.keys().copied().collect::<BTreeSet<u64>>(), numbers);
     let listed: BTreeSet<u64> =
@@ -176,7 +176,7 @@ fn binding_asks_before_it_calls() {
     let bodies: Vec<&str> = calls.split("\npub(crate) fn ").filter(|body| body.contains("ffi::moatbetony_")).collect();
     assert_eq!(bodies.len(), calls.matches("ffi::moatbetony_").count(), "a function has one call");
     let unasked: Vec<&str> = bodies.iter().filter(|body| !body.contains(" {\n    belongs();\n")).copied().collect();
-    assert_eq!(bodies.len(), 21);
+    assert_eq!(bodies.len(), 23);
     assert!(unasked.len() == 2 && unasked.iter().all(|body| body.starts_with("version()") || body.starts_with("state_version()")));
 }
 
@@ -214,6 +214,11 @@ fn differences_in_the_header_are_found() {
         "HomeValidator: field 12",
     );
     found("    size_t start;\n    size_t length;", "    size_t length;\n    size_t start;", "PartTold: field 2");
+    found(
+        "    uint32_t number; /* enum moatbetony_refusal */\n    uint32_t passed; /* 1 if passed, else 0 */\n",
+        "    uint32_t passed; /* 1 if passed, else 0 */\n    uint32_t number; /* enum moatbetony_refusal */\n",
+        "Told: field 1",
+    );
     found("uint64_t flight;", "uint64_t floating;", "PairFiguresTold: field 4");
     // pointers
     found("    uint8_t *out,", "    const uint8_t *out,", "moatbetony_block_write: parameter 1");
@@ -226,7 +231,8 @@ fn differences_in_the_header_are_found() {
         "moatbetony_more: in the header, and missing in the exports",
     );
     found("size_t far_accounts, uint64_t far_total", "size_t far_accounts", "moatbetony_home_open: parameter 4");
-    found("    uint64_t far;\n", "", "PairFiguresTold: field 3");
+    found("    uint64_t far;\n    uint64_t flight;\n", "    uint64_t flight;\n", "PairFiguresTold: field 3");
+    found("    uint32_t passed; /* 1 if passed, else 0 */\n", "", "Told: field 2");
     found(
         "moatbetony_home_figures_t moatbetony_home_figures(",
         "moatbetony_balance_t moatbetony_home_figures(",
@@ -283,6 +289,7 @@ fn differences_in_the_exports_are_found() {
         "moatbetony_sha256: in the header, and missing in the exports",
     );
     found(EXPORTS, "    pub number: u32,", "    pub number: u64,", "Told: field 1");
+    found(EXPORTS, "    pub passed: u32,", "    pub passed: u8,", "Told: field 2");
     found(
         EXPORTS,
         "#[no_mangle]\npub extern \"C\" fn moatbetony_version",

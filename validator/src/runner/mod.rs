@@ -10,4 +10,5 @@ pub mod full;
 pub mod process;
 pub mod rng;
 pub mod store;
+pub mod stored_long;
 pub mod trader;

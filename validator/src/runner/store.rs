@@ -1,5 +1,6 @@
 //! A small set of stored journals with their listings: the same bytes each
-//! time, one for every refusal that a journal can bring about.
+//! time, one for every refusal that a journal can bring about, and some of more
+//! than a hundred blocks.
 
 use std::fs;
 use std::io;
@@ -14,6 +15,7 @@ use super::families::full_tables::{case_13, filled_journal, Filled};
 use super::families::honest::sample_records;
 use super::families::Sample;
 use super::rng::Rng;
+use super::stored_long::Long;
 use super::trader::{Numbers, Trader};
 use crate::journal::{seal, BLOCK, CHECK, FULL};
 use crate::listing::listing;
@@ -40,6 +42,7 @@ pub fn samples() -> Vec<Sample> {
     push_blocks(&mut samples);
     push_records(&mut samples);
     push_tables(&mut samples);
+    push_long(&mut samples);
     samples
 }
 
@@ -429,4 +432,37 @@ fn push_tables(samples: &mut Vec<Sample>) {
     let mut damaged = case_13(Home);
     damaged[last * BLOCK + 100] ^= 1;
     push(samples, "refusal_12_after_full_table", damaged);
+}
+
+/// Journals of 130 blocks and more. In each, one table fills while the other
+/// has places left to the end.
+fn push_long(samples: &mut Vec<Sample>) {
+    let length = 128 * FULL;
+    let full_last_block = Long {
+        seed: 130,
+        numbers: Numbers::Random,
+        length,
+        full_after: [length - 5 * FULL, length + 3 * FULL],
+        first: Home,
+    };
+    push(samples, "long_130_blocks", full_last_block.journal());
+    let one_in_last_block = Long {
+        seed: 131,
+        numbers: Numbers::LowBitsAlike { base: 7, shift: 32 },
+        length: length + 1,
+        full_after: [length + 3 * FULL, length - 5 * FULL],
+        first: Far,
+    };
+    push(samples, "long_131_blocks", one_in_last_block.journal());
+    let length = 148 * FULL;
+    let longest = Long {
+        seed: 150,
+        numbers: Numbers::Counting(u64::MAX - 900),
+        length,
+        full_after: [length * 3 / 4, length + 3 * FULL],
+        first: Home,
+    };
+    let mut bad_last = longest.journal();
+    *bad_last.last_mut().expect("a check") ^= 1;
+    push(samples, "long_150_blocks_bad_last", bad_last);
 }

@@ -6,7 +6,7 @@ use lib.ListN.{length, length-replicate}
 use lib.Seq.{length-take-le}
 use borrow.Author.Needs.{needs}
 use borrow.Author.Tests.{not-false}
-use Rattle.journal_listing.proofs.Started.{first-bounded, long-as, room-in, room-kept, started}
+use Rattle.journal_listing.proofs.Started.{long-as, room-in, room-kept, started}
 use Rattle.ledgers.specs.Limits.{capacity}
 use Rattle.number_index.specs.Index.{chainCount}
 use Rattle.journal_listing.proofs.list.Statement.{statement}
@@ -16,61 +16,49 @@ pairs-requires : tie.Need-pairs-requires
 pairs-requires c κs = tt
 
 slice-aggregate-read-full : tie.Need-slice-aggregate-read-full
-slice-aggregate-read-full c = sym (length-replicate {A = ℕ} 512 0)
+slice-aggregate-read-full c = sym (length-replicate {A = ℕ} 1024 0)
 
 read-full-requires : tie.Need-read-full-requires
 read-full-requires c κs = tt
 
-slice-aggregate-read-full-2 : tie.Need-slice-aggregate-read-full-2
-slice-aggregate-read-full-2 c = sym (length-replicate {A = ℕ} 512 0)
+array-share-prefix-opening : tie.Need-array-share-prefix-opening
+array-share-prefix-opening c = search needs
 
-read-full-requires-2 : tie.Need-read-full-requires-2
-read-full-requires-2 c κs = tt
+slice-aggregate-list-start : tie.Need-slice-aggregate-list-start
+slice-aggregate-list-start c = search needs
 
-array-share-prefix-home : tie.Need-array-share-prefix-home
-array-share-prefix-home c = search needs
+slice-aggregate-list-start-2 : tie.Need-slice-aggregate-list-start-2
+slice-aggregate-list-start-2 c = sym (length-replicate {A = ℕ} 114688 0)
 
-slice-aggregate-list-opening : tie.Need-slice-aggregate-list-opening
-slice-aggregate-list-opening c = search needs
+slice-aggregate-list-start-3 : tie.Need-slice-aggregate-list-start-3
+slice-aggregate-list-start-3 c = sym (length-replicate {A = ℕ} 3 0)
 
-array-share-prefix-far : tie.Need-array-share-prefix-far
-array-share-prefix-far c = search needs
+slice-aggregate-list-start-4 : tie.Need-slice-aggregate-list-start-4
+slice-aggregate-list-start-4 c = sym (length-replicate {A = ℕ} 2 0)
 
-slice-aggregate-list-opening-2 : tie.Need-slice-aggregate-list-opening-2
-slice-aggregate-list-opening-2 c = search needs
+slice-aggregate-list-start-5 : tie.Need-slice-aggregate-list-start-5
+slice-aggregate-list-start-5 c = sym (length-replicate {A = ℕ} 112 0)
 
-slice-aggregate-list-opening-3 : tie.Need-slice-aggregate-list-opening-3
-slice-aggregate-list-opening-3 c = sym (length-replicate {A = ℕ} 114688 0)
-
-slice-aggregate-list-opening-4 : tie.Need-slice-aggregate-list-opening-4
-slice-aggregate-list-opening-4 c = sym (length-replicate {A = ℕ} 3 0)
-
-slice-aggregate-list-opening-5 : tie.Need-slice-aggregate-list-opening-5
-slice-aggregate-list-opening-5 c = sym (length-replicate {A = ℕ} 2 0)
-
-slice-aggregate-list-opening-6 : tie.Need-slice-aggregate-list-opening-6
-slice-aggregate-list-opening-6 c = sym (length-replicate {A = ℕ} 112 0)
-
-list-opening-requires : tie.Need-list-opening-requires
-list-opening-requires c κs =
+list-start-requires : tie.Need-list-start-requires
+list-start-requires c κs =
     (room-in 114688 256 (lit≤ tt), refl, refl, refl)
 
 -- the room for a chunk's lines is as long as before
-room-at : (c : tie.After-list-opening) → length (c .list-opening .last .1 .1 .0) ≡ 114688
-room-at c = long-as 114688 (c .list-opening .last .1 .1 .0) (c .list-opening .kept .1 .1 .0)
+room-at : (c : tie.After-list-start) → length (c .list-start .last .1 .0) ≡ 114688
+room-at c = long-as 114688 (c .list-start .last .1 .0) (c .list-start .kept .1 .0)
 
 array-share-prefix-out : tie.Need-array-share-prefix-out
 array-share-prefix-out c =
     let o = c .before .before .before .before in
-    let r = o .list-opening in
-    room-kept 114688 256 (r .result .end) (r .last .1 .1 .0) (room-at o) (r .ensures .1 .1 .1) (lit≤ tt)
+    let r = o .list-start in
+    room-kept 114688 256 (r .result .end) (r .last .1 .0) (room-at o) (r .ensures .1 .1 .1) (lit≤ tt)
 
 slice-aggregate-write-all : tie.Need-slice-aggregate-write-all
 slice-aggregate-write-all c =
     let o = c .before .before .before .before .before in
-    let r = o .list-opening in
-    sym (length-take-le (r .result .end) (r .last .1 .1 .0)
-    (room-kept 114688 256 (r .result .end) (r .last .1 .1 .0) (room-at o) (r .ensures .1 .1 .1) (lit≤ tt)))
+    let r = o .list-start in
+    sym (length-take-le (r .result .end) (r .last .1 .0)
+    (room-kept 114688 256 (r .result .end) (r .last .1 .0) (room-at o) (r .ensures .1 .1 .1) (lit≤ tt)))
 
 write-all-requires : tie.Need-write-all-requires
 write-all-requires c κs = tt
@@ -90,13 +78,13 @@ slice-aggregate-list-rest-2 c =
 
 slice-aggregate-list-rest-3 : tie.Need-slice-aggregate-list-rest-3
 slice-aggregate-list-rest-3 c =
-    sym (c .before .before .before .before .before .before .before .before .before .before .before .before .before .list-opening
-    .kept .1 .1 .1 .0 ∙ length-replicate {A = ℕ} 3 0)
+    sym (c .before .before .before .before .before .before .before .before .before .before .before .before .before .list-start .kept .1
+    .1 .0 ∙ length-replicate {A = ℕ} 3 0)
 
 slice-aggregate-list-rest-4 : tie.Need-slice-aggregate-list-rest-4
 slice-aggregate-list-rest-4 c =
-    sym (c .before .before .before .before .before .before .before .before .before .before .before .before .before .before
-    .list-opening .kept .1 .1 .1 .1 .0 ∙ length-replicate {A = ℕ} 2 0)
+    sym (c .before .before .before .before .before .before .before .before .before .before .before .before .before .before .list-start
+    .kept .1 .1 .1 .0 ∙ length-replicate {A = ℕ} 2 0)
 
 slice-aggregate-list-rest-5 : tie.Need-slice-aggregate-list-rest-5
 slice-aggregate-list-rest-5 c = sym (length-replicate {A = ℕ} 2 0)
@@ -104,7 +92,7 @@ slice-aggregate-list-rest-5 c = sym (length-replicate {A = ℕ} 2 0)
 slice-aggregate-list-rest-6 : tie.Need-slice-aggregate-list-rest-6
 slice-aggregate-list-rest-6 c =
     sym (c .before .before .before .before .before .before .before .before .before .before .before .before .before .before .before
-    .before .list-opening .kept .1 .1 .1 .1 .1 .0 ∙ length-replicate {A = ℕ} 112 0)
+    .before .list-start .kept .1 .1 .1 .1 .0 ∙ length-replicate {A = ℕ} 112 0)
 
 slice-aggregate-list-rest-7 : tie.Need-slice-aggregate-list-rest-7
 slice-aggregate-list-rest-7 c = sym (length-replicate {A = ℕ} (2 * capacity) 0)
@@ -135,17 +123,15 @@ slice-aggregate-list-rest-15 c = sym (length-replicate {A = ℕ} (2 * capacity) 
 
 list-rest-requires : tie.Need-list-rest-requires
 list-rest-requires c κs =
-    let c16 = c .before .before .before .before .before .before .before .before .before .before .before .before .before .before
-    .before .before in
+    let c16 = c .before .before .before .before .before .before .before .before .before .before .before .before .before .before .before
+    .before in
     let c25 = c16 .before .before .before .before .before .before .before .before .before in
-    let c38 = c25 .before .before .before .before .before .before .before .before .before .before .before .before .before in
-    let o = c25 .list-opening in (
-      first-bounded (o .result .before),
-      refl,
+    let c34 = c25 .before .before .before .before .before .before .before .before .before in
+    let o = c25 .list-start in (
       length-replicate {A = ℕ} 32768 0,
       room-at c25,
-      c38 .pairs .ensures,
-      started _ _ (o .result) (o .last .1 .1 .1 .0) (o .last .1 .1 .1 .1 .0) (o .last .1 .1 .1 .1 .1 .0)
+      c34 .pairs .ensures,
+      started _ _ (o .result) (o .last .1 .1 .0) (o .last .1 .1 .1 .0) (o .last .1 .1 .1 .1 .0)
           (o .ensures .1 .0 (not-false _ (c16 .if2 .left))),
     )
 
@@ -159,17 +145,13 @@ list-spec =
     pairs-requires
     slice-aggregate-read-full
     read-full-requires
-    slice-aggregate-read-full-2
-    read-full-requires-2
-    array-share-prefix-home
-    slice-aggregate-list-opening
-    array-share-prefix-far
-    slice-aggregate-list-opening-2
-    slice-aggregate-list-opening-3
-    slice-aggregate-list-opening-4
-    slice-aggregate-list-opening-5
-    slice-aggregate-list-opening-6
-    list-opening-requires
+    array-share-prefix-opening
+    slice-aggregate-list-start
+    slice-aggregate-list-start-2
+    slice-aggregate-list-start-3
+    slice-aggregate-list-start-4
+    slice-aggregate-list-start-5
+    list-start-requires
     array-share-prefix-out
     slice-aggregate-write-all
     write-all-requires

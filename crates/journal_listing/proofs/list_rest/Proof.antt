@@ -1,188 +1,195 @@
 -- `journal_listing::list_rest` meets its contract. Assumes nothing.
-use Prim.Native.Nat.{_*_}
-use mathlib.Core.Path.{_≡_, _∙_, sym}
+use Prim.Native.Nat.{_*_, _+_}
+use mathlib.Core.Bool.{true}
+use mathlib.Core.Path.{_∙_, _≡_, ap, sym}
 use native.Mathlib.Omega.{arith}
 use lib.ListN.{length}
 use borrow.Author.Needs.{needs}
+use borrow.Author.Tests.{not-false, not-true}
 use Rattle.block_listing.proofs.Records.{three-figures}
-use Rattle.block_listing.specs.Runs.{Bounded}
+use Rattle.block_listing.specs.Runs.{Bounded, standing}
+use Rattle.block_listing.specs.declared.Run.{Run}
+use Rattle.journal_listing.proofs.Turning.{first-bounded, first-numbers, first-reached, numberAfter, numbers-next, reached-next}
+use Rattle.journal_listing.proofs.Turning.{turns-end}
+use Rattle.journal_listing.specs.Turns.{Reached}
+use Rattle.listing.specs.Listing.{opened}
 use Rattle.pair_steps.specs.Steps.{Ready, lent}
 use Rattle.journal_listing.proofs.list_rest.Statement.{statement}
 use Rattle.journal_listing.proofs.list_rest.Tie as tie
 
+-- the turns made so far led from the opening to where the run stands, and while it goes on the turns left are those of the block
+-- numbers left
 abbrev Inv-loop : tie.InvT-loop
-Inv-loop source target input₀ digits out₀ supply figures₀ accounts counts₀ balances₀ numbers₀ amounts₀ senders₀ receivers₀ kinds₀
-    ledgers₀ verdicts₀ heads₀ nexts₀ run₀ turns₀ input out figures counts balances numbers amounts senders receivers kinds ledgers
-    verdicts heads nexts run turns =
+Inv-loop source target before input₀ digits out₀ supply figures₀ accounts counts₀ balances₀ numbers₀ amounts₀ senders₀ receivers₀
+    kinds₀ ledgers₀ verdicts₀ heads₀ nexts₀ run₀ turns₀ input out figures counts balances numbers amounts senders receivers kinds
+    ledgers verdicts heads nexts run turns =
     Bounded run × (run .end ≡ 0) × (length input ≡ 64 * 512) × (length out ≡ 64 * (14 * 128)) × Ready (lent supply accounts counts
-    balances numbers amounts senders receivers kinds ledgers verdicts) figures heads nexts
+    balances numbers amounts senders receivers kinds ledgers verdicts) figures heads nexts × Reached (opened (lent supply accounts
+    counts₀ balances₀ numbers₀ amounts₀ senders₀ receivers₀ kinds₀ ledgers₀ verdicts₀) before) (standing run (lent supply accounts
+    counts balances numbers amounts senders receivers kinds ledgers verdicts)) × (run .going ≡ true → run .block + 64 * turns ≡
+    numberAfter)
 
 abbrev μ-loop : tie.MeasureT-loop
-μ-loop source target input₀ digits out₀ supply figures₀ accounts counts₀ balances₀ numbers₀ amounts₀ senders₀ receivers₀ kinds₀
+μ-loop source target before input₀ digits out₀ supply figures₀ accounts counts₀ balances₀ numbers₀ amounts₀ senders₀ receivers₀ kinds₀
     ledgers₀ verdicts₀ heads₀ nexts₀ run₀ turns₀ input out figures counts balances numbers amounts senders receivers kinds ledgers
     verdicts heads nexts run turns =
     turns
 
+first-run-requires : tie.Need-first-run-requires Inv-loop μ-loop
+first-run-requires c κs = search needs
+
 -- the state is ready
-ready-at : (c : tie.After-slice-known14 Inv-loop μ-loop) → Ready (lent (c .before .before .before .before .before .before .before
-    .before .before .before .before .before .before .before .before .args .supply) (c .before .before .before .before .before
-    .before .before .before .before .before .before .before .before .before .before .args .accounts .now) (c .before .before
+ready-at : (c : tie.After-first-run Inv-loop μ-loop) → Ready (lent (c .before .before .before .before .before .before .before .before
+    .before .before .before .before .before .before .before .before .args .supply) (c .before .before .before .before .before .before
+    .before .before .before .before .before .before .before .before .before .before .args .accounts .now) (c .before .before .before
     .before .before .before .before .before .before .before .before .before .before .before .before .before .args .counts .now) (c
+    .before .before .before .before .before .before .before .before .before .before .before .before .before .before .before .before
+    .args .balances .now) (c .before .before .before .before .before .before .before .before .before .before .before .before .before
+    .before .before .before .args .numbers .now) (c .before .before .before .before .before .before .before .before .before .before
+    .before .before .before .before .before .before .args .amounts .now) (c .before .before .before .before .before .before .before
+    .before .before .before .before .before .before .before .before .before .args .senders .now) (c .before .before .before .before
+    .before .before .before .before .before .before .before .before .before .before .before .before .args .receivers .now) (c .before
     .before .before .before .before .before .before .before .before .before .before .before .before .before .before .before .args
-    .balances .now) (c .before .before .before .before .before .before .before .before .before .before .before .before .before
-    .before .before .args .numbers .now) (c .before .before .before .before .before .before .before .before .before .before .before
-    .before .before .before .before .args .amounts .now) (c .before .before .before .before .before .before .before .before .before
-    .before .before .before .before .before .before .args .senders .now) (c .before .before .before .before .before .before .before
-    .before .before .before .before .before .before .before .before .args .receivers .now) (c .before .before .before .before
-    .before .before .before .before .before .before .before .before .before .before .before .args .kinds .now) (c .before .before
-    .before .before .before .before .before .before .before .before .before .before .before .before .before .args .ledgers .now) (c
-    .before .before .before .before .before .before .before .before .before .before .before .before .before .before .before .args
-    .verdicts .now)) (c .before .before .before .before .before .before .before .before .before .before .before .before .before
-    .before .before .args .figures .now) (c .before .before .before .before .before .before .before .before .before .before .before
-    .before .before .before .before .args .heads .now) (c .before .before .before .before .before .before .before .before .before
-    .before .before .before .before .before .before .args .nexts .now)
+    .kinds .now) (c .before .before .before .before .before .before .before .before .before .before .before .before .before .before
+    .before .before .args .ledgers .now) (c .before .before .before .before .before .before .before .before .before .before .before
+    .before .before .before .before .before .args .verdicts .now)) (c .before .before .before .before .before .before .before .before
+    .before .before .before .before .before .before .before .before .args .figures .now) (c .before .before .before .before .before
+    .before .before .before .before .before .before .before .before .before .before .before .args .heads .now) (c .before .before
+    .before .before .before .before .before .before .before .before .before .before .before .before .before .before .args .nexts .now)
 ready-at c =
-    let c15 = c .before .before .before .before .before .before .before .before .before .before .before .before .before .before .before in
-    c15 .pre .5
+    let c16 = c .before .before .before .before .before .before .before .before .before .before .before .before .before .before .before
+    .before in
+    c16 .pre .3
 
 loop-holds : tie.Need-loop-holds Inv-loop μ-loop
 loop-holds c =
-    let c15 = c .before .before .before .before .before .before .before .before .before .before .before .before .before .before .before in
-    (c15 .pre .0, c15 .pre .1, c15 .pre .2, c15 .pre .3, ready-at (c))
+    let c16 = c .before .before .before .before .before .before .before .before .before .before .before .before .before .before .before
+    .before in
+    let r = c .first-run .result in
+    let e = c .first-run .ensures in
+    (first-bounded r _ e, ap (λ (x : Run). x .end) e, c16 .pre .0, c16 .pre .1, ready-at c, first-reached r _ e _, first-numbers r _ e)
 
 same-length : tie.Need-same-length Inv-loop μ-loop
 same-length c =
-    let c3 = c .before .before .before in
-    let c19 = c3 .before .before .before .before .before .before .before .before .before .before .before .before .before .before
-    .before .before in
-    c3 .loop .inv .2 ∙ sym (c19 .pre .2)
+    let o = c .before .before .before .before .before .before .before .before .before .before .before .before .before .before .before
+    .before .before .before .before .before in
+    c .before .before .before .loop .inv .2 ∙ sym (o .pre .0)
 
 same-length-2 : tie.Need-same-length-2 Inv-loop μ-loop
 same-length-2 c =
-    let c3 = c .before .before .before in
-    let c19 = c3 .before .before .before .before .before .before .before .before .before .before .before .before .before .before
-    .before .before in
-    c3 .loop .inv .3 ∙ sym (c19 .pre .3)
+    let o = c .before .before .before .before .before .before .before .before .before .before .before .before .before .before .before
+    .before .before .before .before .before in
+    c .before .before .before .loop .inv .3 ∙ sym (o .pre .1)
 
 same-length-3 : tie.Need-same-length-3 Inv-loop μ-loop
 same-length-3 c =
-    let c3 = c .before .before .before in
-    let c4 = c3 .before in
-    three-figures _ (c3 .loop .inv .4) ∙ sym (three-figures _ (ready-at c4))
+    three-figures _ (c .before .before .before .loop .inv .4) ∙ sym (three-figures _ (ready-at (c .before .before .before .before)))
 
 same-length-4 : tie.Need-same-length-4 Inv-loop μ-loop
 same-length-4 c =
-    let c3 = c .before .before .before in
-    let c4 = c3 .before in
-    c3 .loop .inv .4 .sized .counts-are ∙ sym (ready-at c4 .sized .counts-are)
+    c .before .before .before .loop .inv .4 .sized .counts-are ∙ sym (ready-at (c .before .before .before .before) .sized .counts-are)
 
 same-length-5 : tie.Need-same-length-5 Inv-loop μ-loop
 same-length-5 c =
-    let c3 = c .before .before .before in
-    let c4 = c3 .before in
-    c3 .loop .inv .4 .sized .balances-are ∙ sym (ready-at c4 .sized .balances-are)
+    c .before .before .before .loop .inv .4 .sized .balances-are ∙ sym (ready-at (c .before .before .before .before) .sized
+    .balances-are)
 
 same-length-6 : tie.Need-same-length-6 Inv-loop μ-loop
 same-length-6 c =
-    let c3 = c .before .before .before in
-    let c4 = c3 .before in
-    c3 .loop .inv .4 .sized .numbers-are ∙ sym (ready-at c4 .sized .numbers-are)
+    c .before .before .before .loop .inv .4 .sized .numbers-are ∙ sym (ready-at (c .before .before .before .before) .sized .numbers-are)
 
 same-length-7 : tie.Need-same-length-7 Inv-loop μ-loop
 same-length-7 c =
-    let c3 = c .before .before .before in
-    let c4 = c3 .before in
-    c3 .loop .inv .4 .sized .amounts-are ∙ sym (ready-at c4 .sized .amounts-are)
+    c .before .before .before .loop .inv .4 .sized .amounts-are ∙ sym (ready-at (c .before .before .before .before) .sized .amounts-are)
 
 same-length-8 : tie.Need-same-length-8 Inv-loop μ-loop
 same-length-8 c =
-    let c3 = c .before .before .before in
-    let c4 = c3 .before in
-    c3 .loop .inv .4 .sized .senders-are ∙ sym (ready-at c4 .sized .senders-are)
+    c .before .before .before .loop .inv .4 .sized .senders-are ∙ sym (ready-at (c .before .before .before .before) .sized .senders-are)
 
 same-length-9 : tie.Need-same-length-9 Inv-loop μ-loop
 same-length-9 c =
-    let c3 = c .before .before .before in
-    let c4 = c3 .before in
-    c3 .loop .inv .4 .sized .receivers-are ∙ sym (ready-at c4 .sized .receivers-are)
+    c .before .before .before .loop .inv .4 .sized .receivers-are ∙ sym (ready-at (c .before .before .before .before) .sized
+    .receivers-are)
 
 same-length-10 : tie.Need-same-length-10 Inv-loop μ-loop
 same-length-10 c =
-    let c3 = c .before .before .before in
-    let c4 = c3 .before in
-    c3 .loop .inv .4 .sized .kinds-are ∙ sym (ready-at c4 .sized .kinds-are)
+    c .before .before .before .loop .inv .4 .sized .kinds-are ∙ sym (ready-at (c .before .before .before .before) .sized .kinds-are)
 
 same-length-11 : tie.Need-same-length-11 Inv-loop μ-loop
 same-length-11 c =
-    let c3 = c .before .before .before in
-    let c4 = c3 .before in
-    c3 .loop .inv .4 .sized .ledgers-are ∙ sym (ready-at c4 .sized .ledgers-are)
+    c .before .before .before .loop .inv .4 .sized .ledgers-are ∙ sym (ready-at (c .before .before .before .before) .sized .ledgers-are)
 
 same-length-12 : tie.Need-same-length-12 Inv-loop μ-loop
 same-length-12 c =
-    let c3 = c .before .before .before in
-    let c4 = c3 .before in
-    c3 .loop .inv .4 .sized .verdicts-are ∙ sym (ready-at c4 .sized .verdicts-are)
+    c .before .before .before .loop .inv .4 .sized .verdicts-are ∙ sym (ready-at (c .before .before .before .before) .sized
+    .verdicts-are)
 
 same-length-13 : tie.Need-same-length-13 Inv-loop μ-loop
 same-length-13 c =
-    let c3 = c .before .before .before in
-    let c4 = c3 .before in
-    c3 .loop .inv .4 .indexes .heads-are ∙ sym (ready-at c4 .indexes .heads-are)
+    c .before .before .before .loop .inv .4 .indexes .heads-are ∙ sym (ready-at (c .before .before .before .before) .indexes .heads-are)
 
 same-length-14 : tie.Need-same-length-14 Inv-loop μ-loop
 same-length-14 c =
-    let c3 = c .before .before .before in
-    let c4 = c3 .before in
-    c3 .loop .inv .4 .indexes .nexts-are ∙ sym (ready-at c4 .indexes .nexts-are)
+    c .before .before .before .loop .inv .4 .indexes .nexts-are ∙ sym (ready-at (c .before .before .before .before) .indexes .nexts-are)
 
 returns : tie.Need-returns Inv-loop μ-loop
-returns c = search needs
+returns c = (not-true _ (c .if1 .taken), c .before .before .before .loop .inv .5)
 
 turn-requires : tie.Need-turn-requires Inv-loop μ-loop
 turn-requires c κs =
-    let c17 = c .before .before .before .before .before .before .before .before .before .before .before .before .before .before
-    .before .before .before in
-    let c33 = c17 .before .before .before .before .before .before .before .before .before .before .before .before .before .before
+    let c17 = c .before .before .before .before .before .before .before .before .before .before .before .before .before .before .before
     .before .before in
-    (c17 .loop .inv .0, c17 .loop .inv .1, c17 .loop .inv .2, c17 .loop .inv .3, c33 .pre .4, c17 .loop .inv .4)
+    let c34 = c17 .before .before .before .before .before .before .before .before .before .before .before .before .before .before
+    .before .before .before in
+    (c17 .loop .inv .0, c17 .loop .inv .1, c17 .loop .inv .2, c17 .loop .inv .3, c34 .pre .2, c17 .loop .inv .4)
 
 sub-turns : tie.Need-sub-turns Inv-loop μ-loop
 sub-turns c =
-    let c45 = c .before .before .before .before .before .before .before .before .before .before .before .before .before .before
+    let c46 = c .before .before .before .before .before .before .before .before .before .before .before .before .before .before .before
     .before .before .before .before .before .before .before .before .before .before .before .before .before .before .before .before
     .before .before .before .before .before .before .before .before .before .before .before .before .before .before .before in
-    omega (arith, c45 .loop-test .taken)
+    omega (arith, c46 .loop-test .taken)
 
 loop-less : tie.Need-loop-less Inv-loop μ-loop
 loop-less c =
-    let c45 = c .before .before .before .before .before .before .before .before .before .before .before .before .before .before
+    let c46 = c .before .before .before .before .before .before .before .before .before .before .before .before .before .before .before
     .before .before .before .before .before .before .before .before .before .before .before .before .before .before .before .before
     .before .before .before .before .before .before .before .before .before .before .before .before .before .before .before in
-    omega (arith, c45 .loop-test .taken)
+    omega (arith, c46 .loop-test .taken)
 
 loop-again : tie.Need-loop-again Inv-loop μ-loop
 loop-again c =
-    let c25 = c .before .before .before .before .before .before .before .before .before .before .before .before .before .before
+    let c26 = c .before .before .before .before .before .before .before .before .before .before .before .before .before .before .before
     .before .before .before .before .before .before .before .before .before .before .before in
-    let c27 = c25 .before .before in
-    let c28 = c27 .before in
-    let c46 = c28 .before .before .before .before .before .before .before .before .before .before .before .before .before .before
-    .before .before .before .before in
-    let e = c28 .turn .ensures in
-    (e .0 .0, e .0 .1, c27 .input .given ∙ c46 .loop .inv .2, c25 .out .given ∙ c46 .loop .inv .3, e .0 .2)
+    let c28 = c26 .before .before in
+    let c29 = c28 .before in
+    let c44 = c29 .before .before .before .before .before .before .before .before .before .before .before .before .before .before
+    .before in
+    let c46 = c44 .before .before in
+    let c47 = c46 .before in
+    let e = c29 .turn .ensures in
+    let l = c28 .input .given ∙ c47 .loop .inv .2 in
+    let g = not-false _ (c44 .if1 .left) in (
+      e .0 .0,
+      e .0 .1,
+      l,
+      c26 .out .given ∙ c47 .loop .inv .3,
+      e .0 .2,
+      reached-next (c47 .loop .inv .5) g l (e .1),
+      numbers-next (c47 .loop .turns) (c46 .loop-test .taken) (e .1) (c47 .loop .inv .6 g),
+    )
 
 same-length-15 : tie.Need-same-length-15 Inv-loop μ-loop
 same-length-15 c =
-    let c17 = c .before .before .before .before .before .before .before .before .before .before .before .before .before .before
+    let o = c .before .before .before .before .before .before .before .before .before .before .before .before .before .before .before
     .before .before .before in
-    c .before .loop .inv .2 ∙ sym (c17 .pre .2)
+    c .before .loop .inv .2 ∙ sym (o .pre .0)
 
 same-length-16 : tie.Need-same-length-16 Inv-loop μ-loop
 same-length-16 c =
-    let c17 = c .before .before .before .before .before .before .before .before .before .before .before .before .before .before
+    let o = c .before .before .before .before .before .before .before .before .before .before .before .before .before .before .before
     .before .before .before in
-    c .before .loop .inv .3 ∙ sym (c17 .pre .3)
+    c .before .loop .inv .3 ∙ sym (o .pre .1)
 
 same-length-17 : tie.Need-same-length-17 Inv-loop μ-loop
 same-length-17 c =
@@ -233,7 +240,12 @@ same-length-28 c =
     c .before .loop .inv .4 .indexes .nexts-are ∙ sym (ready-at (c .before .before) .indexes .nexts-are)
 
 returns-2 : tie.Need-returns-2 Inv-loop μ-loop
-returns-2 c = search needs
+returns-2 c =
+    let c1 = c .before in (
+      turns-end (c1 .loop .run) (c1 .loop .turns) (c1 .loop .inv .0) (c1 .loop .inv .6) (omega (arith, c .loop-test .left)),
+      c1 .loop
+          .inv .5,
+    )
 
 pub list-rest-spec : {M : Type 1} → statement M
 list-rest-spec =
@@ -241,6 +253,7 @@ list-rest-spec =
     (tie.spec
     Inv-loop
     μ-loop
+    first-run-requires
     loop-holds
     same-length
     same-length-2

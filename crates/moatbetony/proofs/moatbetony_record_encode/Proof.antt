@@ -1,5 +1,7 @@
 -- `moatbetony::moatbetony_record_encode` meets its contract. Assumes nothing.
+use mathlib.Core.Path.{_∙_, ap}
 use borrow.Author.Needs.{needs}
+use Rattle.moatbetony.specs.Told.{told}
 use Rattle.moatbetony.proofs.Telling.{encoded-read, encoded-unread}
 use Rattle.moatbetony.proofs.moatbetony_record_encode.Statement.{statement}
 use Rattle.moatbetony.proofs.moatbetony_record_encode.Tie as tie
@@ -19,15 +21,25 @@ enum-told c = search needs
 enum-told-2 : tie.Need-enum-told-2
 enum-told-2 c = search needs
 
+new-requires : tie.Need-new-requires
+new-requires c κs = search needs
+
+tell-requires : tie.Need-tell-requires
+tell-requires c κs = search needs
+
 returns : tie.Need-returns
 returns c =
-    let e = c .before .before .before .before .field-bytes .ensures in
-    encoded-unread e (c .before .before .read .ensures) (c .enum-told2 .given .1)
+    let r = c .before .before .before .before in
+    encoded-unread (r .before .before .field-bytes .ensures) (r .read .ensures) (c .tell .ensures ∙ ap told (c .before .new .ensures)) (c
+    .before .before .enum-told2 .given .1)
+
+tell-requires-2 : tie.Need-tell-requires-2
+tell-requires-2 c κs = search needs
 
 returns-2 : tie.Need-returns-2
 returns-2 c =
-    let e = c .before .before .before .before .field-bytes .ensures in
-    encoded-read e (c .before .before .read .ensures) (c .enum-told .given .1)
+    let r = c .before .before .before in
+    encoded-read (r .before .before .field-bytes .ensures) (r .read .ensures) (c .tell2 .ensures) (c .before .enum-told .given .1)
 
 pub moatbetony-record-encode-spec : {M : Type 1} → statement M
 moatbetony-record-encode-spec =
@@ -38,5 +50,8 @@ moatbetony-record-encode-spec =
     read-requires
     enum-told
     enum-told-2
+    new-requires
+    tell-requires
     returns
+    tell-requires-2
     returns-2)

@@ -1,7 +1,8 @@
 -- `moatbetony::moatbetony_record_read` meets its contract. Assumes nothing.
 use mathlib.Core.Path.{_∙_, ap, sym}
 use borrow.Author.Needs.{needs}
-use Rattle.moatbetony.specs.Told.{recordTold}
+use Rattle.moatbetony.specs.Told.{recordTold, told}
+use Rattle.moatbetony.proofs.Telling.{record-unread}
 use Rattle.moatbetony.proofs.moatbetony_record_read.Statement.{statement}
 use Rattle.moatbetony.proofs.moatbetony_record_read.Tie as tie
 
@@ -14,8 +15,17 @@ enum-known-r c = search needs
 enum-told : tie.Need-enum-told
 enum-told c = search needs
 
+new-requires : tie.Need-new-requires
+new-requires c κs = search needs
+
+tell-requires : tie.Need-tell-requires
+tell-requires c κs = search needs
+
 returns : tie.Need-returns
-returns c = ap recordTold (sym (sym (c .before .before .read .ensures) ∙ c .enum-told .given .1))
+returns c =
+    let c2 = c .before .before in
+    record-unread (c .tell .ensures ∙ ap told (c .before .new .ensures))
+    (sym (c2 .before .before .read .ensures) ∙ c2 .enum-told .given .1)
 
 tell-record-requires : tie.Need-tell-record-requires
 tell-record-requires c κs = search needs
@@ -27,4 +37,4 @@ returns-2 c = c .tell-record .ensures ∙ ap recordTold (sym (sym (c .before .be
 pub moatbetony-record-read-spec : {M : Type 1} → statement M
 moatbetony-record-read-spec =
     tie.close
-    (tie.spec read-requires enum-known-r enum-told returns tell-record-requires returns-2)
+    (tie.spec read-requires enum-known-r enum-told new-requires tell-requires returns tell-record-requires returns-2)

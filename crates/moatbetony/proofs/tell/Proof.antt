@@ -1,16 +1,21 @@
 -- `moatbetony::tell` meets its contract. Assumes nothing.
+use mathlib.Core.Path.{ap, sym}
 use borrow.Author.Needs.{needs}
+use Rattle.moatbetony.specs.Told.{told}
 use Rattle.moatbetony.proofs.tell.Statement.{statement}
 use Rattle.moatbetony.proofs.tell.Tie as tie
 
-number-requires : tie.Need-number-requires
-number-requires c κs = search needs
+enum-told : tie.Need-enum-told
+enum-told c = search needs
 
-place-requires : tie.Need-place-requires
-place-requires c κs = search needs
+enum-known-a : tie.Need-enum-known-a
+enum-known-a c = search needs
 
 returns : tie.Need-returns
-returns c = λ i. record { number = c .before .number .ensures i; place = c .place .ensures i }
+returns c = ap told (sym (c .enum-told .given .1))
+
+returns-2 : tie.Need-returns-2
+returns-2 c = ap told (sym (c .before .a .given .1))
 
 pub tell-spec : {M : Type 1} → statement M
-tell-spec = tie.close (tie.spec number-requires place-requires returns)
+tell-spec = tie.close (tie.spec enum-told enum-known-a returns returns-2)

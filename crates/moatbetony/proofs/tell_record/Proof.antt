@@ -5,6 +5,9 @@ use Rattle.ledgers.specs.Ledgers.{ledgerByte}
 use Rattle.moatbetony.proofs.tell_record.Statement.{statement}
 use Rattle.moatbetony.proofs.tell_record.Tie as tie
 
+tell-requires : tie.Need-tell-requires
+tell-requires c κs = search needs
+
 byte-requires : tie.Need-byte-requires
 byte-requires c κs = search needs
 
@@ -19,10 +22,10 @@ verdict-byte-requires c κs = search needs
 
 returns : tie.Need-returns
 returns c =
-    let r = c .before .before .before .before .args .r in
+    let r = c .before .before .before .before .before .args .r in
     λ i.
     record {
-      answer = record { number = 0; place = 0 };
+      answer = c .before .before .before .before .tell .ensures i;
       kind = c .before .before .before .byte .ensures i;
       ledger = (c .before .byte2 .ensures ∙ ap ledgerByte (c .before .before .ledger .ensures)) i;
       sender = r .sender;
@@ -35,4 +38,4 @@ returns c =
 pub tell-record-spec : {M : Type 1} → statement M
 tell-record-spec =
     tie.close
-    (tie.spec byte-requires ledger-requires byte-requires-2 verdict-byte-requires returns)
+    (tie.spec tell-requires byte-requires ledger-requires byte-requires-2 verdict-byte-requires returns)

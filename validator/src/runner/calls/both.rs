@@ -310,6 +310,12 @@ impl Part for Both<'_> {
         })
     }
 
+    fn pair_places_left(&mut self, state: &PairState) -> (Answer, [u64; 2]) {
+        self.call("pair_places_left", (state, &()), &[], |part, state, _| {
+            part.pair_places_left(state)
+        })
+    }
+
     fn home_open(&mut self, home: &[u64], fars: usize, far_total: u64) -> (Answer, Box<HomeState>) {
         let numbers = [fars as u64, far_total];
         self.call("home_open", (home, &()), &numbers, |part, home, _| {
@@ -341,6 +347,12 @@ impl Part for Both<'_> {
         let numbers = [u64::from(account)];
         self.call("home_balance", (state, &()), &numbers, |part, state, _| {
             part.home_balance(state, account)
+        })
+    }
+
+    fn home_places_left(&mut self, state: &HomeState) -> (Answer, u64) {
+        self.call("home_places_left", (state, &()), &[], |part, state, _| {
+            part.home_places_left(state)
         })
     }
 

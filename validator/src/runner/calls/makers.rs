@@ -105,7 +105,7 @@ pub fn lawful(trader: &mut Trader, ledger: Ledger) -> Bytes {
 }
 
 /// A record with one to three faults at once.
-fn spoilt(trader: &mut Trader, ledger: Ledger) -> Bytes {
+pub fn spoilt(trader: &mut Trader, ledger: Ledger) -> Bytes {
     let kind = trader.rng.pick(&kinds(ledger));
     let record = trader
         .lawful_of(kind)

@@ -19,9 +19,10 @@ use crate::record::{Held, RECORD};
 use crate::states::{HomeState, PairState};
 use families::FAMILIES;
 
-/// A part with all calls of paper 01, on plain numbers. Lent things stay as
-/// they are; a state comes back beside the answer, refused or passed. There
-/// are no ready-made methods, so that none is left out unseen.
+/// A part with all calls of paper 01, on plain numbers, and with the places
+/// left, which that paper does not have. Lent things stay as they are; a state
+/// comes back beside the answer, refused or passed. There are no ready-made
+/// methods, so that none is left out unseen.
 pub trait Part {
     /// Opens a pair book: 1, 2. The state of zeros beside a refusal.
     fn pair_open(&mut self, home: &[u64], far: &[u64]) -> (Answer, Box<PairState>);
@@ -38,6 +39,10 @@ pub trait Part {
     /// A balance: 3, 22. 0 beside a refusal.
     fn pair_balance(&mut self, state: &PairState, ledger: u8, account: u16) -> (Answer, u64);
 
+    /// How many more passed records home and far can take: 3. Zeros beside a
+    /// refusal.
+    fn pair_places_left(&mut self, state: &PairState) -> (Answer, [u64; 2]);
+
     /// Opens a guard: 1, 2. The state of zeros beside a refusal.
     fn home_open(&mut self, home: &[u64], fars: usize, far_total: u64) -> (Answer, Box<HomeState>);
 
@@ -52,6 +57,9 @@ pub trait Part {
 
     /// A balance of home: 3, 22. 0 beside a refusal.
     fn home_balance(&mut self, state: &HomeState, account: u16) -> (Answer, u64);
+
+    /// How many more passed records home can take: 3. 0 beside a refusal.
+    fn home_places_left(&mut self, state: &HomeState) -> (Answer, u64);
 
     /// The plain fields of a record: 21. Zeros beside a refusal.
     fn record_read(&mut self, bytes: &[u8]) -> (Answer, Held);

@@ -42,6 +42,10 @@ impl Part for Oracle {
         state.balance(ledger, account)
     }
 
+    fn pair_places_left(&mut self, state: &PairState) -> (Answer, [u64; 2]) {
+        state.places_left()
+    }
+
     fn home_open(&mut self, home: &[u64], fars: usize, far_total: u64) -> (Answer, Box<HomeState>) {
         HomeState::open(home, fars, far_total)
     }
@@ -62,6 +66,10 @@ impl Part for Oracle {
 
     fn home_balance(&mut self, state: &HomeState, account: u16) -> (Answer, u64) {
         state.balance(account)
+    }
+
+    fn home_places_left(&mut self, state: &HomeState) -> (Answer, u64) {
+        state.places_left()
     }
 
     fn record_read(&mut self, bytes: &[u8]) -> (Answer, Held) {

@@ -31,6 +31,8 @@ pub trait Checker {
 
     fn balance(both: &mut Both, state: &Self::State, ledger: u8, account: u16);
 
+    fn places_left(both: &mut Both, state: &Self::State);
+
     /// Some record for this state.
     fn record(trader: &mut Trader, state: &Self::State) -> Vec<u8>;
 
@@ -72,6 +74,10 @@ impl Checker for Pair {
         both.pair_balance(state, ledger, account);
     }
 
+    fn places_left(both: &mut Both, state: &PairState) {
+        both.pair_places_left(state);
+    }
+
     fn record(trader: &mut Trader, _: &PairState) -> Vec<u8> {
         pair_record(trader)
     }
@@ -110,6 +116,10 @@ impl Checker for Home {
 
     fn balance(both: &mut Both, state: &HomeState, _: u8, account: u16) {
         both.home_balance(state, account);
+    }
+
+    fn places_left(both: &mut Both, state: &HomeState) {
+        both.home_places_left(state);
     }
 
     fn record(trader: &mut Trader, state: &HomeState) -> Vec<u8> {
@@ -186,35 +196,49 @@ impl<C: Checker> Reached<C> {
         }
     }
 
-    /// Figures or a balance.
+    /// Figures, the places left or a balance.
     pub fn look(&mut self, both: &mut Both) {
+        match self.trader.rng.below(6) {
+            0 | 1 => C::figures(both, &self.state),
+            2 => C::places_left(both, &self.state),
+            _ => self.look_at_balance(both),
+        }
+    }
+
+    fn look_at_balance(&mut self, both: &mut Both) {
         let rng = &mut self.trader.rng;
-        if rng.chance(1, 3) {
-            C::figures(both, &self.state);
-        } else {
-            let ledger = rng.pick(&[0, 0, 0, 0, 1, 1, 1, 1, 2, 255]);
-            let opening = &self.trader.opening;
-            let mut open = [opening.home.len() as u16, opening.far.len() as u16];
-            if ledger == 1 {
-                open.swap(0, 1);
-            }
-            let [here, there] = open;
-            let within = rng.index(usize::from(here)) as u16;
-            let choices = [
-                0,
-                within,
-                within,
-                within,
-                here - 1,
-                here,
-                there,
-                55,
-                56,
-                256,
-                65_535,
-            ];
-            let account = rng.pick(&choices);
-            C::balance(both, &self.state, ledger, account);
+        let ledger = rng.pick(&[0, 0, 0, 0, 1, 1, 1, 1, 2, 255]);
+        let opening = &self.trader.opening;
+        let mut open = [opening.home.len() as u16, opening.far.len() as u16];
+        if ledger == 1 {
+            open.swap(0, 1);
+        }
+        let [here, there] = open;
+        let within = rng.index(usize::from(here)) as u16;
+        let choices = [
+            0,
+            within,
+            within,
+            within,
+            here - 1,
+            here,
+            there,
+            55,
+            56,
+            256,
+            65_535,
+        ];
+        let account = rng.pick(&choices);
+        C::balance(both, &self.state, ledger, account);
+    }
+
+    /// The places left, then after each of some records that mostly pass.
+    pub fn count_down(&mut self, both: &mut Both, records: u64) {
+        C::places_left(both, &self.state);
+        for _ in 0..records {
+            let bytes = C::lawful(&mut self.trader);
+            self.hand_in(both, &bytes);
+            C::places_left(both, &self.state);
         }
     }
 

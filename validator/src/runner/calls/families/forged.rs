@@ -49,7 +49,7 @@ fn steps(scenario: u64, length: u64) -> Range<u64> {
 
 /// A call on a forged state, and another where it goes on.
 fn call<C: Checker>(both: &mut Both, rng: &mut Rng, forged: &mut Reached<C>) {
-    match rng.below(10) {
+    match rng.below(12) {
         0..=4 => {
             let bytes = C::lawful(&mut forged.trader);
             if forged.hand_in(both, &bytes).passed() && rng.chance(1, 3) {
@@ -61,7 +61,8 @@ fn call<C: Checker>(both: &mut Both, rng: &mut Rng, forged: &mut Reached<C>) {
         7 => {
             C::check_list(both, &forged.state, &[]);
         }
-        _ => forged.look(both),
+        8 | 9 => forged.look(both),
+        _ => C::places_left(both, &forged.state),
     }
 }
 

@@ -22,12 +22,12 @@ pub struct Family {
 }
 
 pub const FAMILIES: [Family; 11] = [
-    family("pair_runs", 22, runs::scenario::<Pair>),
-    family("home_runs", 18, runs::scenario::<Home>),
+    family("pair_runs", 21, runs::scenario::<Pair>),
+    family("home_runs", 17, runs::scenario::<Home>),
     family("pair_forged", 14, forged::scenario::<Pair>),
     family("home_forged", 10, forged::scenario::<Home>),
-    family("pair_looks", 3, looks::scenario::<Pair>),
-    family("home_looks", 2, looks::scenario::<Home>),
+    family("pair_looks", 4, looks::scenario::<Pair>),
+    family("home_looks", 3, looks::scenario::<Home>),
     family("blocks", 14, blocks::scenario),
     family("writes", 7, plain::writes),
     family("records_read", 4, plain::records_read),

@@ -15,6 +15,7 @@ pub fn scenario<C: Checker>(both: &mut Both, rng: &mut Rng) {
         1 if rng.chance(1, 2) => cases::<C>(both),
         2 => {
             let base = full::<C>(both, rng);
+            base.branch(rng).count_down(both, 8);
             for _ in 0..6 {
                 base.branch(rng).go_on(both, 16);
             }
@@ -37,6 +38,7 @@ fn refused_openings<C: Checker>(both: &mut Both, rng: &mut Rng) {
             C::check_list(both, &state, &[]);
             C::figures(both, &state);
             C::balance(both, &state, 0, 0);
+            C::places_left(both, &state);
         }
         let fars = rng.pick(&[1, 1, 56, 0, 57, usize::MAX]);
         let total = rng.pick(&[0, 1, (1 << 63) - 1, 1 << 63, u64::MAX]);
@@ -71,5 +73,6 @@ fn cases<C: Checker>(both: &mut Both) {
     for record in records {
         state = C::check_record(both, &state, &record.bytes()).1;
         C::figures(both, &state);
+        C::places_left(both, &state);
     }
 }

@@ -1,0 +1,16 @@
+-- `balances::balance_refused` meets its contract. Assumes nothing.
+use mathlib.Core.Path.{ap}
+use borrow.Author.Needs.{needs}
+use Rattle.answers.specs.declared.Answer.{Answer}
+use Rattle.balances.specs.declared.Balance.{Balance}
+use Rattle.balances.proofs.balance_refused.Statement.{statement}
+use Rattle.balances.proofs.balance_refused.Tie as tie
+
+new-requires : tie.Need-new-requires
+new-requires c κs = search needs
+
+returns : tie.Need-returns
+returns c = ap {B = Balance} (λ (a : Answer). record { answer = a; balance = 0 }) (c .new .ensures)
+
+pub balance-refused-spec : {M : Type 1} → statement M
+balance-refused-spec = tie.close (tie.spec new-requires returns)
