@@ -351,7 +351,7 @@ loop-again c =
     let v = writes-at (c10) in
     let z = c39 .loop .inv .2 in
     let l = c11 .index .ensures .0 ∙ ap ledgerByte (c12 .ledger .ensures) in (
-      w .ends,
+      omega (arith, w .ends),
       omega (arith, w .starts, c39 .loop .inv .1),
       stored-sound s _ _ j _ _ l (c10 .entry-of .ensures),
       indexes-stored s _ _ z (v .ledger) (v .count-fits) (c39 .loop .inv .3) _ _ (c .before .before .add .ensures),
