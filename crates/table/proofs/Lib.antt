@@ -1,0 +1,5 @@
+-- Proofs about tables in words. Assumes nothing.
+
+pub mod Limits
+pub mod Holding
+pub mod Records

@@ -1,0 +1,120 @@
+// A ledger's table: held records of four words each, from a word of the state on.
+ghost use Prim.Native.Nat.{_+_, _*_, _/_, _%_, _^_, _<_, _≤_};
+ghost use mathlib.Core.Path.{_≡_};
+ghost use lib.ListN.{length};
+ghost use Rattle.ledgers.specs.Ledgers.{ledgerAt};
+ghost use Rattle.ledgers.specs.Limits.{accountLimit};
+ghost use Rattle.records.specs.Records.{readingWords};
+ghost use Rattle.table.specs.Table.{accountsBy, headLimits, mayHold, mayHoldAt, receiverLimits, wordsAt};
+ghost use Rattle.tables.specs.Places.{allAt};
+use records::Record;
+use records::Words;
+
+// What a word is divided by for its first byte alone, for its first two, and for its first half.
+const BYTE: u64 = 72057594037927936;
+
+const TWO_BYTES: u64 = 281474976710656;
+
+const HALF: u64 = 4294967296;
+
+// ## Refusal 3 of one record
+
+// The words of the record at a place.
+pub fn words_at(words: &[u64], from: usize, i: usize) -> Words
+    requires { ⌜ from + 4 * i + 4 ≤ length (now words) ⌝ }
+    ensures { λ w. ⌜ w ≡ wordsAt (now (words .entry)) from i ⌝ }
+{
+    let at = from + 4 * i;
+    Words {
+        head: words[at],
+        number: words[at + 1],
+        amount: words[at + 2],
+        tail: words[at + 3],
+    }
+}
+
+// Of each kind the head of a record whose sender is the first account that is not open.
+fn head_limits(l: u64, own: u64, other: u64) -> [u64; 4]
+    requires { ⌜ (l ≤ 1) × (own ≤ accountLimit) × (other ≤ accountLimit) ⌝ }
+    ensures { λ r. ⌜ r ≡ headLimits l own other ⌝ }
+{
+    [
+        0,
+        BYTE + l * TWO_BYTES + own * HALF,
+        2 * BYTE + l * TWO_BYTES + own * HALF,
+        3 * BYTE + l * TWO_BYTES + other * HALF,
+    ]
+}
+
+// Of each kind the first receiver's account that is not open.
+fn receiver_limits(own: u64, other: u64) -> [u64; 4]
+    ensures { λ r. ⌜ r ≡ receiverLimits own other ⌝ }
+{
+    [0, own, other, own]
+}
+
+// The kind of a head, of four.
+fn kind_in(head: u64) -> usize
+    ensures { λ r. ⌜ r ≡ head / 72057594037927936 % 4 ⌝ }
+{
+    (head / BYTE % 4) as usize
+}
+
+// The receiver of a head, with its zero bytes before it.
+fn receiver_in(head: u64) -> u64
+    ensures { λ r. ⌜ r ≡ head % 65536 * 65536 + head / 65536 % 65536 ⌝ }
+{
+    head % 65536 * 65536 + head / 65536 % 65536
+}
+
+// Whether a ledger may hold the record in words. A head below the limit of its kind has a right kind and an open sender; below the other
+// limit it has an open receiver and zero bytes.
+fn may_hold<'a>(
+    heads: &'a [u64; 4],
+    receivers: &'a [u64; 4],
+    l: u64,
+    own: u64,
+    other: u64,
+    w: Words,
+) -> bool
+    requires { ⌜ (l ≤ 1) × (own ≤ accountLimit) × (other ≤ accountLimit) × (now heads ≡ headLimits l own other)
+        × (now receivers ≡ receiverLimits own other) × (w .head < 2 ^ 64) × (w .tail < 2 ^ 64) ⌝ }
+    ensures { λ b. ⌜ b ≡ mayHold (ledgerAt l) (accountsBy (ledgerAt l) own other) (readingWords w) ⌝ }
+{
+    let head = w.head;
+    let kind = kind_in(head);
+    if head / TWO_BYTES % 256 != l {
+        return false;
+    }
+    if heads[kind] <= head {
+        return false;
+    }
+    if receivers[kind] <= receiver_in(head) {
+        return false;
+    }
+    if w.amount == 0 {
+        return false;
+    }
+    if Record::MAX_AMOUNT < w.amount {
+        return false;
+    }
+    w.tail == BYTE
+}
+
+// Whether a ledger may hold each of n records.
+pub fn may_hold_all(words: &[u64], from: usize, n: usize, l: u64, own: u64, other: u64) -> bool
+    requires { ⌜ (from + 4 * n ≤ length (now words)) × (l ≤ 1) × (own ≤ accountLimit) × (other ≤ accountLimit) ⌝ }
+    ensures { λ b. ⌜ b ≡ allAt (mayHoldAt (now (words .entry)) from (ledgerAt l) (accountsBy (ledgerAt l) own other)) 0 n ⌝ }
+{
+    let heads = head_limits(l, own, other);
+    let receivers = receiver_limits(own, other);
+    let mut i = 0;
+    while i < n {
+        let w = words_at(words, from, i);
+        if !may_hold(&heads, &receivers, l, own, other, w) {
+            return false;
+        }
+        i += 1;
+    }
+    true
+}
