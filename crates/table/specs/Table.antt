@@ -3,9 +3,11 @@
 use Prim.Native.Nat.{ℕ, _+_, _*_, _^_}
 use mathlib.Core.Bool.{Bool, false, _&&_}
 use mathlib.Core.List.{List, [], _∷_}
+use lib.Dec.{eqb}
 use lib.ListN.{getD}
 use Rattle.ledgers.specs.declared.Ledger.{Ledger}
 use Rattle.ledgers.specs.declared.Ledger.the-variants.{Far, Home}
+use Rattle.number_index.specs.Index.{Chains, chainCount}
 use Rattle.records.specs.Records.{readingWords, recordIn}
 use Rattle.records.specs.declared.Reading.{Reading}
 use Rattle.records.specs.declared.Reading.the-variants.{Read, Unreadable}
@@ -66,3 +68,18 @@ headLimits l own other =
 -- of each kind the first receiver's account that is not open
 abbrev pub receiverLimits : ℕ → ℕ → List ℕ
 receiverLimits own other = 0 ∷ own ∷ other ∷ own ∷ []
+
+-- ## Numbers
+
+-- the number of the record at a place
+abbrev pub numberAt : List ℕ → ℕ → ℕ → ℕ
+numberAt s from i = getD s (from + 4 * i + 1) 0
+
+-- the record at a place has number x
+abbrev pub numberedAt : ℕ → List ℕ → ℕ → ℕ → Bool
+numberedAt x s from i = eqb x (numberAt s from i)
+
+-- the index of the n numbers, from element `base` on: the heads of the chains, and after them of each place the one before it in its chain
+abbrev pub IndexOf : List ℕ → ℕ → List ℕ → ℕ → ℕ → Type 0
+IndexOf s from index base n =
+    Chains (numberAt s from) (λ (h : ℕ). getD index (base + h) 0) (λ (k : ℕ). getD index (base + chainCount + k) 0) n

@@ -1,12 +1,14 @@
-// A ledger's table: held records of four words each, from a word of the state on.
+// A ledger's table: held records of four words each, from a word of the state on, and the index of their numbers.
 ghost use Prim.Native.Nat.{_+_, _*_, _/_, _%_, _^_, _<_, _≤_};
 ghost use mathlib.Core.Path.{_≡_};
-ghost use lib.ListN.{length};
+ghost use lib.ListN.{getD, length, set};
 ghost use Rattle.ledgers.specs.Ledgers.{ledgerAt};
-ghost use Rattle.ledgers.specs.Limits.{accountLimit};
+ghost use Rattle.ledgers.specs.Limits.{accountLimit, capacity};
+ghost use Rattle.number_index.specs.Index.{chainCount};
 ghost use Rattle.records.specs.Records.{readingWords};
 ghost use Rattle.table.specs.Table.{accountsBy, headLimits, mayHold, mayHoldAt, receiverLimits, wordsAt};
-ghost use Rattle.tables.specs.Places.{allAt};
+ghost use Rattle.table.specs.Table.{IndexOf, numberedAt};
+ghost use Rattle.tables.specs.Places.{allAt, anyAt};
 use records::Record;
 use records::Words;
 
@@ -117,4 +119,86 @@ pub fn may_hold_all(words: &[u64], from: usize, n: usize, l: u64, own: u64, othe
         i += 1;
     }
     true
+}
+
+// ## Numbers
+
+// The number of chains of an index.
+pub const CHAINS: usize = 4096;
+// The steps down a chain after which the places are scanned instead.
+const STEPS: usize = 8;
+
+fn low_bits(x: u64) -> usize
+    ensures { λ r. ⌜ r ≡ x % chainCount ⌝ }
+{
+    x as usize % CHAINS
+}
+
+fn as_place(x: u16) -> usize
+    ensures { λ r. ⌜ r ≡ x ⌝ }
+{
+    x as usize
+}
+
+fn next_place(i: usize) -> u16
+    requires { ⌜ i < capacity ⌝ }
+    ensures { λ r. ⌜ r ≡ i + 1 ⌝ }
+{
+    (i + 1) as u16
+}
+
+// Whether one of n records has the number, by a scan.
+fn scanned(words: &[u64], from: usize, n: usize, x: u64) -> bool
+    requires { ⌜ from + 4 * n ≤ length (now words) ⌝ }
+    ensures { λ b. ⌜ b ≡ anyAt (numberedAt x (now (words .entry)) from) 0 n ⌝ }
+{
+    let mut found = false;
+    let mut i = 0;
+    while i < n {
+        if x == words[from + 4 * i + 1] {
+            found = true; // going on lets the compiler compare several at a time
+        }
+        i += 1;
+    }
+    found
+}
+
+// Whether one of n records has the number.
+pub fn is_used<'a>(
+    words: &'a [u64],
+    index: &'a [u16],
+    from: usize,
+    base: usize,
+    n: usize,
+    x: u64,
+) -> bool
+    requires { ⌜ (from + 4 * n ≤ length (now words)) × (base + chainCount + n ≤ length (now index))
+        × IndexOf (now words) from (now index) base n ⌝ }
+    ensures { λ b. ⌜ b ≡ anyAt (numberedAt x (now (words .entry)) from) 0 n ⌝ }
+{
+    let mut at = as_place(index[base + low_bits(x)]);
+    let mut steps = 0;
+    while 0 < at {
+        let j = at - 1;
+        if x == words[from + 4 * j + 1] {
+            return true;
+        }
+        if STEPS <= steps {
+            return scanned(words, from, n, x);
+        }
+        at = as_place(index[base + CHAINS + j]);
+        steps += 1;
+    }
+    false
+}
+
+// The number of the record at place n joins the index of those before it.
+pub fn add_number(index: &mut [u16], base: usize, n: usize, x: u64)
+    requires { ⌜ (base + chainCount + n < length (now index)) × (n < capacity) ⌝ }
+    ensures { λ _. ⌜ now (index .exit) ≡ set (set (now (index .entry)) (base + chainCount + n) (getD (now (index .entry))
+        (base + x % chainCount) 0)) (base + x % chainCount) (n + 1) ⌝ }
+{
+    let h = base + low_bits(x);
+    index[base + CHAINS + n] = index[h];
+    index[h] = next_place(n);
 }

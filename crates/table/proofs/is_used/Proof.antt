@@ -1,0 +1,143 @@
+-- `table::is_used` meets its contract. Assumes nothing.
+use mathlib.Core.Path.{sym}
+use native.Mathlib.Omega.{arith}
+use borrow.Author.Needs.{needs}
+use borrow.Author.Tests.{eq-eqb, ne-eqb}
+use Rattle.table.proofs.Walking.{WalkFor, used-end, used-first, used-found, used-lower, used-next}
+use Rattle.table.proofs.is_used.Statement.{statement}
+use Rattle.table.proofs.is_used.Tie as tie
+
+abbrev Inv-loop : tie.InvT-loop
+Inv-loop words index from base n x at₀ steps₀ at steps = WalkFor words from n x at
+
+abbrev μ-loop : tie.MeasureT-loop
+μ-loop words index from base n x at₀ steps₀ at steps = at
+
+low-bits-requires : tie.Need-low-bits-requires Inv-loop μ-loop
+low-bits-requires c κs = search needs
+
+add-as-place : tie.Need-add-as-place Inv-loop μ-loop
+add-as-place c = search needs
+
+mul-as-place : tie.Need-mul-as-place Inv-loop μ-loop
+mul-as-place c = search needs
+
+shared-slice-read-as-place : tie.Need-shared-slice-read-as-place Inv-loop μ-loop
+shared-slice-read-as-place c = search needs
+
+as-place-requires : tie.Need-as-place-requires Inv-loop μ-loop
+as-place-requires c κs = search needs
+
+loop-holds : tie.Need-loop-holds Inv-loop μ-loop
+loop-holds c =
+    let o = c .before .before .before .before .before in
+    let a = o .args in
+    let low = c .before .before .low-bits in
+    used-first (a .words .now) (a .from) (a .index .now) (a .base) (a .n) (o .pre .2) (a .x) _ (low .result) (low .ensures) (c
+    .as-place .ensures)
+
+sub-j : tie.Need-sub-j Inv-loop μ-loop
+sub-j c = search needs
+
+mul-if1 : tie.Need-mul-if1 Inv-loop μ-loop
+mul-if1 c = search needs
+
+add-if1 : tie.Need-add-if1 Inv-loop μ-loop
+add-if1 c = search needs
+
+add-if1-2 : tie.Need-add-if1-2 Inv-loop μ-loop
+add-if1-2 c = search needs
+
+mul-if1-2 : tie.Need-mul-if1-2 Inv-loop μ-loop
+mul-if1-2 c = search needs
+
+shared-slice-read-if1 : tie.Need-shared-slice-read-if1 Inv-loop μ-loop
+shared-slice-read-if1 c = search needs
+
+returns : tie.Need-returns Inv-loop μ-loop
+returns c =
+    let o = c .before .before .before .before .before .before .before .before .before in
+    let a = o .args in
+    let l = c .before .before .before .loop in
+    sym (used-found (a .words .now) (a .from) (a .index .now) (a .base) (a .n) (o .pre .2) (a .x) (l .at) (l .inv) (c .before .before
+    .loop-test .taken) (eq-eqb _ _ (c .if1 .taken)))
+
+scanned-requires : tie.Need-scanned-requires Inv-loop μ-loop
+scanned-requires c κs = search needs
+
+returns-2 : tie.Need-returns-2 Inv-loop μ-loop
+returns-2 c = search needs
+
+add-as-place-2 : tie.Need-add-as-place-2 Inv-loop μ-loop
+add-as-place-2 c = search needs
+
+add-as-place-3 : tie.Need-add-as-place-3 Inv-loop μ-loop
+add-as-place-3 c = search needs
+
+mul-as-place-2 : tie.Need-mul-as-place-2 Inv-loop μ-loop
+mul-as-place-2 c = search needs
+
+shared-slice-read-as-place-2 : tie.Need-shared-slice-read-as-place-2 Inv-loop μ-loop
+shared-slice-read-as-place-2 c = search needs
+
+as-place-requires-2 : tie.Need-as-place-requires-2 Inv-loop μ-loop
+as-place-requires-2 c κs = search needs
+
+add-steps : tie.Need-add-steps Inv-loop μ-loop
+add-steps c = search needs
+
+loop-less : tie.Need-loop-less Inv-loop μ-loop
+loop-less c =
+    let t = c .before .before .before .before .before in
+    let l = t .before .loop in
+    let o = t .before .before .before .before .before .before .before in
+    let a = o .args in
+    used-lower (a .words .now) (a .from) (a .index .now) (a .base) (a .n) (o .pre .2) (a .x) (l .at) (l .inv) _ (t .loop-test .taken)
+    (c .as-place2 .ensures)
+
+loop-again : tie.Need-loop-again Inv-loop μ-loop
+loop-again c =
+    let t = c .before .before .before .before .before in
+    let l = t .before .loop in
+    let o = t .before .before .before .before .before .before .before in
+    let a = o .args in
+    used-next (a .words .now) (a .from) (a .index .now) (a .base) (a .n) (o .pre .2) (a .x) (l .at) (l .inv) _ (t .loop-test .taken)
+    (ne-eqb _ _ (c .before .before .before .if1 .left)) (c .as-place2 .ensures)
+
+returns-3 : tie.Need-returns-3 Inv-loop μ-loop
+returns-3 c =
+    let o = c .before .before .before .before .before .before .before in
+    let a = o .args in
+    let l = c .before .loop in
+    sym (used-end (a .words .now) (a .from) (a .index .now) (a .base) (a .n) (o .pre .2) (a .x) (l .at) (l .inv) (omega arith))
+
+pub is-used-spec : {M : Type 1} → statement M
+is-used-spec =
+    tie.close
+    (tie.spec
+    Inv-loop
+    μ-loop
+    low-bits-requires
+    add-as-place
+    mul-as-place
+    shared-slice-read-as-place
+    as-place-requires
+    loop-holds
+    sub-j
+    mul-if1
+    add-if1
+    add-if1-2
+    mul-if1-2
+    shared-slice-read-if1
+    returns
+    scanned-requires
+    returns-2
+    add-as-place-2
+    add-as-place-3
+    mul-as-place-2
+    shared-slice-read-as-place-2
+    as-place-requires-2
+    add-steps
+    loop-less
+    loop-again
+    returns-3)
