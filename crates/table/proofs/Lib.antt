@@ -4,3 +4,4 @@ pub mod Limits
 pub mod Holding
 pub mod Records
 pub mod Walking
+pub mod Growing

@@ -1,14 +1,15 @@
 // A ledger's table: held records of four words each, from a word of the state on, and the index of their numbers.
 ghost use Prim.Native.Nat.{_+_, _*_, _/_, _%_, _^_, _<_, _≤_};
+ghost use mathlib.Core.Bool.{true, _&&_};
 ghost use mathlib.Core.Path.{_≡_};
 ghost use lib.ListN.{getD, length, set};
 ghost use Rattle.ledgers.specs.Ledgers.{ledgerAt};
 ghost use Rattle.ledgers.specs.Limits.{accountLimit, capacity};
-ghost use Rattle.number_index.specs.Index.{chainCount};
+ghost use Rattle.number_index.specs.Index.{Kept, chainCount};
 ghost use Rattle.records.specs.Records.{readingWords};
 ghost use Rattle.table.specs.Table.{accountsBy, headLimits, mayHold, mayHoldAt, receiverLimits, wordsAt};
-ghost use Rattle.table.specs.Table.{IndexOf, numberedAt};
-ghost use Rattle.tables.specs.Places.{allAt, anyAt};
+ghost use Rattle.table.specs.Table.{IndexOf, numberAt, numberedAt};
+ghost use Rattle.tables.specs.Places.{allAt, anyAt, apartAt};
 use records::Record;
 use records::Words;
 
@@ -103,24 +104,6 @@ fn may_hold<'a>(
     w.tail == BYTE
 }
 
-// Whether a ledger may hold each of n records.
-pub fn may_hold_all(words: &[u64], from: usize, n: usize, l: u64, own: u64, other: u64) -> bool
-    requires { ⌜ (from + 4 * n ≤ length (now words)) × (l ≤ 1) × (own ≤ accountLimit) × (other ≤ accountLimit) ⌝ }
-    ensures { λ b. ⌜ b ≡ allAt (mayHoldAt (now (words .entry)) from (ledgerAt l) (accountsBy (ledgerAt l) own other)) 0 n ⌝ }
-{
-    let heads = head_limits(l, own, other);
-    let receivers = receiver_limits(own, other);
-    let mut i = 0;
-    while i < n {
-        let w = words_at(words, from, i);
-        if !may_hold(&heads, &receivers, l, own, other, w) {
-            return false;
-        }
-        i += 1;
-    }
-    true
-}
-
 // ## Numbers
 
 // The number of chains of an index.
@@ -201,4 +184,42 @@ pub fn add_number(index: &mut [u16], base: usize, n: usize, x: u64)
     let h = base + low_bits(x);
     index[base + CHAINS + n] = index[h];
     index[h] = next_place(n);
+}
+
+// Whether a ledger may hold each of n records and no two of them share a number; where so, their index is made in place of an empty one.
+pub fn hold_indexed<'a, 'b>(
+    words: &'a [u64],
+    index: &'b mut [u16],
+    from: usize,
+    base: usize,
+    n: usize,
+    l: u64,
+    own: u64,
+    other: u64,
+) -> bool
+    requires { ⌜ (from + 4 * n ≤ length (now words)) × (base + chainCount + n ≤ length (now index)) × (n ≤ capacity)
+        × IndexOf (now words) from (now index) base 0 × (l ≤ 1) × (own ≤ accountLimit) × (other ≤ accountLimit) ⌝ }
+    ensures holds { λ b. ⌜ b ≡ (allAt (mayHoldAt (now (words .entry)) from (ledgerAt l) (accountsBy (ledgerAt l) own other)) 0 n
+        && apartAt (numberAt (now (words .entry)) from) 0 n) ⌝ }
+    ensures indexed { λ b. ⌜ (b ≡ true → IndexOf (now (words .entry)) from (now (index .exit)) base n) ⌝ }
+    ensures others { λ b. ⌜ Kept base (base + chainCount + n) (now (index .entry)) (now (index .exit)) ⌝ }
+{
+    let heads = head_limits(l, own, other);
+    let receivers = receiver_limits(own, other);
+    let mut i = 0;
+    while i < n {
+        let w = words_at(words, from, i);
+        if !may_hold(&heads, &receivers, l, own, other, w) {
+            return false;
+        }
+        let x = w.number;
+        if index[base + low_bits(x)] != 0 {
+            if is_used(words, index, from, base, i, x) {
+                return false;
+            }
+        }
+        add_number(index, base, i, x);
+        i += 1;
+    }
+    true
 }

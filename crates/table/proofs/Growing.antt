@@ -1,0 +1,133 @@
+-- An index with a number more, and numbers that are apart. Assumes nothing.
+use Prim.Native.Nat.{_%_, _+_, _*_, _-_, _<_, _≤_, ℕ}
+use mathlib.Core.Bool.{Bool, cond, false, true, _&&_}
+use mathlib.Core.List.{List}
+use mathlib.Core.Path.{_∙_, _≡_, ap, refl, sym}
+use native.Mathlib.Omega.{arith}
+use lib.Dec.{ltb}
+use lib.ListN.{getD, length, length-set, set}
+use lib.Seq.{getD-set-other, getD-set-same}
+use borrow.Author.Tests.{eq-eqb, eqb-true, le-ltb, lt-ltb, ltb-true}
+use Rattle.number_index.proofs.Apart.{any-found, any-not}
+use Rattle.number_index.proofs.Chains.{chains-grow, chains-same, low-bits-most}
+use Rattle.number_index.proofs.Index.{kept-set, kept-twice}
+use Rattle.number_index.specs.Index.{Chains, Kept, chainCount}
+use Rattle.table.specs.Table.{IndexOf, numberAt, numberedAt}
+use Rattle.tables.proofs.Places.{apart-not}
+use Rattle.tables.specs.Places.{anyAt, apartAt}
+
+-- ## One number more
+
+-- an index with the number x of place n
+abbrev pub grown : List ℕ → ℕ → ℕ → ℕ → List ℕ
+grown index base n x =
+    set (set index (base + chainCount + n) (getD index (base + x % chainCount) 0)) (base + x % chainCount) (n + 1)
+
+-- the heads alone, and none beyond them
+abbrev headsOf : List ℕ → ℕ → ℕ → ℕ
+headsOf index base g = cond (ltb g chainCount) (getD index (base + g) 0) 0
+
+-- they are the heads
+heads-are : (index : List ℕ) (base g : ℕ) → g < chainCount → headsOf index base g ≡ getD index (base + g) 0
+heads-are index base g h = rw (lt-ltb g chainCount h)
+
+module _ (s s' : List ℕ) (from : ℕ) (index : List ℕ) (base n x : ℕ) (c : IndexOf s from index base n)
+    (room : base + chainCount + n < length index) (same : (j : ℕ) → j < n → numberAt s' from j ≡ numberAt s from j)
+    (number : x ≡ numberAt s' from n) where
+  abbrev head : ℕ
+  head = x % chainCount
+
+  abbrev last : ℕ
+  last = getD index (base + head) 0
+
+  abbrev first : List ℕ
+  first = set index (base + chainCount + n) last
+
+  -- the element of the new place
+  next-here : getD (grown index base n x) (base + chainCount + n) 0 ≡ headsOf index base head
+  next-here =
+      getD-set-other first (base + head) (base + chainCount + n) (n + 1) 0 (λ r. omega (arith, r, low-bits-most x))
+      ∙ getD-set-same index (base + chainCount + n) last 0 room
+      ∙ sym (heads-are index base head (low-bits-most x))
+
+  -- those of other places
+  next-else : (k : ℕ) → (k ≡ n → ⊥) → getD (grown index base n x) (base + chainCount + k) 0 ≡ getD index (base + chainCount + k) 0
+  next-else k d =
+      getD-set-other first (base + head) (base + chainCount + k) (n + 1) 0 (λ r. omega (arith, r, low-bits-most x))
+      ∙ getD-set-other index (base + chainCount + n) (base + chainCount + k) last 0 (λ r. d (omega arith))
+
+  -- the head of its chain
+  head-here : headsOf (grown index base n x) base head ≡ n + 1
+  head-here =
+      heads-are (grown index base n x) base head (low-bits-most x)
+      ∙ getD-set-same first (base + head) (n + 1) 0 (simp length-set (omega (arith, room, low-bits-most x)))
+
+  -- the other heads
+  head-else : (g : ℕ) → (g ≡ head → ⊥) → headsOf (grown index base n x) base g ≡ headsOf index base g
+  head-else g d = go (ltb g chainCount) refl
+    where
+      go : (t : Bool) → ltb g chainCount ≡ t
+          → cond t (getD (grown index base n x) (base + g) 0) 0 ≡ cond t (getD index (base + g) 0) 0
+      go false q = refl
+      go true q =
+          getD-set-other first (base + head) (base + g) (n + 1) 0 (λ r. d (omega arith))
+          ∙ getD-set-other index (base + chainCount + n) (base + g) last 0 (λ r. omega (arith, r, ltb-true g chainCount q))
+
+  -- it is the index of one number more
+  pub index-grown : IndexOf s' from (grown index base n x) base (n + 1)
+  index-grown =
+      chains-same (numberAt s' from) (headsOf (grown index base n x) base)
+      (λ (k : ℕ). getD (grown index base n x) (base + chainCount + k) 0)
+      (numberAt s' from)
+      (λ (h : ℕ). getD (grown index base n x) (base + h) 0)
+      (λ (k : ℕ). getD (grown index base n x) (base + chainCount + k) 0)
+      (n + 1)
+      (chains-grow (numberAt s' from) (headsOf index base) (λ (k : ℕ). getD index (base + chainCount + k) 0)
+      (headsOf (grown index base n x) base) (λ (k : ℕ). getD (grown index base n x) (base + chainCount + k) 0) n head
+      (chains-same (numberAt s from) (λ (h : ℕ). getD index (base + h) 0) (λ (k : ℕ). getD index (base + chainCount + k) 0)
+      (numberAt s' from) (headsOf index base) (λ (k : ℕ). getD index (base + chainCount + k) 0) n c same (heads-are index base)
+      (λ k p. refl))
+      (ap (λ (y : ℕ). y % chainCount) number) head-here head-else next-here next-else)
+      (λ j p. refl)
+      (λ h b. sym (heads-are (grown index base n x) base h b))
+      (λ k p. refl)
+
+-- nothing else of it is altered
+pub grown-kept : (index : List ℕ) (base n m x : ℕ) → n < m → Kept base (base + chainCount + m) index (grown index base n x)
+grown-kept index base n m x h =
+    kept-twice (kept-set index (base + chainCount + n) (getD index (base + x % chainCount) 0) (omega arith) (omega arith))
+    (kept-set (set index (base + chainCount + n) (getD index (base + x % chainCount) 0)) (base + x % chainCount) (n + 1) (omega arith)
+    (omega (arith, low-bits-most x)))
+
+-- ## Numbers apart
+
+module _ (s : List ℕ) (from i : ℕ) where
+  -- a number that one before has
+  pub number-twice : (n : ℕ) → i < n → anyAt (numberedAt (numberAt s from i) s from) 0 i ≡ true → apartAt (numberAt s from) 0 n ≡ false
+  number-twice n b h =
+      any-found (numberedAt (numberAt s from i) s from) 0 i h
+      (λ j p q e. apart-not (numberAt s from) 0 n j i p (omega arith) (omega arith) (sym (eqb-true (numberAt s from i) (numberAt s from j) e)))
+
+  -- one that none before has
+  pub number-fresh : anyAt (numberedAt (numberAt s from i) s from) 0 i ≡ false → (j : ℕ) → j < i → numberAt s from i ≡ numberAt s from j → ⊥
+  number-fresh h j p e =
+      any-not (numberedAt (numberAt s from i) s from) 0 i j h (omega arith) (omega arith) (eq-eqb (numberAt s from i) (numberAt s from j) e)
+
+  -- or whose chain is empty
+  pub number-new : (index : List ℕ) (base h : ℕ) → IndexOf s from index base i → h ≡ numberAt s from i % chainCount
+      → getD index (base + h) 0 ≡ 0 → (j : ℕ) → j < i → numberAt s from i ≡ numberAt s from j → ⊥
+  number-new index base h c q z j p e =
+      let r : numberAt s from j % chainCount ≡ h = ap (λ (y : ℕ). y % chainCount) (sym e) ∙ sym q in
+      let u : j + 1 ≤ getD index (base + h) 0 = rw r at (c .head-low j p) in
+      omega (arith, u, z)
+
+-- ## Tests
+
+-- a test and one that fails
+pub and-none : (t : Bool) → (t && false) ≡ false
+and-none true = refl
+and-none false = refl
+
+-- nothing is altered
+pub kept-all : (a b : ℕ) (xs : List ℕ) → Kept a b xs xs
+kept-all a b xs = record { long = refl; before = λ k p. refl; after = λ k p. refl }

@@ -1,0 +1,211 @@
+-- `table::hold_indexed` meets its contract. Assumes nothing.
+use Prim.Native.Nat.{ℕ, _+_, _*_, _-_, _%_, _^_, _<_, _≤_}
+use mathlib.Core.Bool.{Bool, false, true, _&&_}
+use mathlib.Core.Logic.{⊎-elim}
+use mathlib.Core.Path.{_≡_, ap, refl, sym, _∙_}
+use native.Mathlib.Omega.{arith}
+use lib.ListN.{getD, length}
+use borrow.Author.Needs.{needs}
+use borrow.Author.Tests.{not-false, not-true}
+use Rattle.ledgers.specs.Ledgers.{ledgerAt}
+use Rattle.number_index.proofs.Apart.{Apart, apart-every, apart-more}
+use Rattle.number_index.proofs.Index.{kept-twice}
+use Rattle.number_index.specs.Index.{Kept, chainCount}
+use Rattle.records.specs.Records.{readingWords}
+use Rattle.records.specs.declared.Words.{Words}
+use Rattle.rules.proofs.Lists.{never-both-tests}
+use Rattle.table.proofs.Growing.{and-none, grown-kept, index-grown, kept-all, number-fresh, number-new, number-twice}
+use Rattle.table.specs.Table.{IndexOf, accountsBy, mayHold, mayHoldAt, numberAt, numberedAt}
+use Rattle.tables.proofs.Places.{all-end, all-here, all-on}
+use Rattle.tables.specs.Places.{allAt, anyAt, apartAt}
+use Rattle.table.proofs.hold_indexed.Statement.{statement}
+use Rattle.table.proofs.hold_indexed.Tie as tie
+
+-- the ledger may hold the record in words
+abbrev holding : ℕ → ℕ → ℕ → Words → Bool
+holding l own other w = mayHold (ledgerAt l) (accountsBy (ledgerAt l) own other) (readingWords w)
+
+abbrev Inv-loop : tie.InvT-loop
+Inv-loop words index₀ from base n l own other heads receivers i₀ index i =
+    (i ≤ n)
+    × (allAt (mayHoldAt words from (ledgerAt l) (accountsBy (ledgerAt l) own other)) 0 n ≡ allAt (mayHoldAt words from (ledgerAt l)
+    (accountsBy (ledgerAt l) own other)) i (n - i))
+    × Kept base (base + chainCount + n) index₀ index
+    × IndexOf words from index base i
+    × Apart (numberAt words from) i
+
+abbrev μ-loop : tie.MeasureT-loop
+μ-loop words index₀ from base n l own other heads receivers i₀ index i = n - i
+
+head-limits-requires : tie.Need-head-limits-requires Inv-loop μ-loop
+head-limits-requires c κs = search needs
+
+receiver-limits-requires : tie.Need-receiver-limits-requires Inv-loop μ-loop
+receiver-limits-requires c κs = search needs
+
+loop-holds : tie.Need-loop-holds Inv-loop μ-loop
+loop-holds c =
+    let o = c .before .before .before .before in
+    let z : o .args .n ≡ o .args .n - 0 = omega arith in
+    (omega arith, ap (allAt _ 0) z, kept-all _ _ _, o .pre .3, λ j k p q. absurd (omega arith))
+
+words-at-requires : tie.Need-words-at-requires Inv-loop μ-loop
+words-at-requires c κs =
+    let i = c .before in
+    let o = i .before .before .before .before .before in
+    omega (arith, o .pre .0, i .loop .inv .0, c .loop-test .taken)
+
+may-hold-requires : tie.Need-may-hold-requires Inv-loop μ-loop
+may-hold-requires c κs =
+    let w = c .before .before in
+    let i = w .before .before in
+    let h = i .before .before in
+    let k = h .before .before in
+    let o = k .before in
+    let at = o .args .from + 4 * i .loop .i in
+    let e = w .words-at .ensures in (
+      o .pre .4,
+      o .pre .5,
+      o .pre .6,
+      h .head-limits .ensures,
+      i .before .receiver-limits .ensures,
+      omega (arith, ap (λ (x : Words). x .head) e, k .shared-slice-known .given at),
+      omega (arith, ap (λ (x : Words). x .tail) e, k .shared-slice-known .given (at + 3)),
+    )
+
+same-length : tie.Need-same-length Inv-loop μ-loop
+same-length c = c .before .before .before .before .before .before .loop .inv .2 .long
+
+returns : tie.Need-returns Inv-loop μ-loop
+returns c =
+    let j = c .before in
+    let w = j .before .before .before in
+    let i = w .before .before in
+    let o = i .before .before .before .before .before in
+    let e = sym (ap (λ (x : Words). holding (o .args .l) (o .args .own) (o .args .other) x) (w .words-at .ensures)) ∙ sym (j .may-hold
+    .ensures) ∙ not-true _ (c .if1 .taken) in
+    let z = i .loop .inv .1 ∙ all-here _ (i .loop .i) (o .args .n) (w .before .loop-test .taken) e in
+    (rw z, (λ h. absurd (never-both-tests (sym h)), i .loop .inv .2))
+
+low-bits-requires : tie.Need-low-bits-requires Inv-loop μ-loop
+low-bits-requires c κs = search needs
+
+add-if2 : tie.Need-add-if2 Inv-loop μ-loop
+add-if2 c = search needs
+
+mul-if2 : tie.Need-mul-if2 Inv-loop μ-loop
+mul-if2 c = search needs
+
+slice-read-if2 : tie.Need-slice-read-if2 Inv-loop μ-loop
+slice-read-if2 c = search needs
+
+is-used-requires : tie.Need-is-used-requires Inv-loop μ-loop
+is-used-requires c κs =
+    let i = c .before .before .before .before .before .before .before .before .before .before in
+    let o = i .before .before .before .before .before in
+    (omega (arith, o .pre .0, i .loop .inv .0), omega (arith, o .pre .1, i .loop .inv .0, i .loop .inv .2 .long), i .loop .inv .3)
+
+same-length-2 : tie.Need-same-length-2 Inv-loop μ-loop
+same-length-2 c = c .before .before .before .before .before .before .before .before .before .before .before .before .loop .inv .2 .long
+
+returns-2 : tie.Need-returns-2 Inv-loop μ-loop
+returns-2 c =
+    let u = c .before in
+    let w = c .before .before .before .before .before .before .before .before .before .before in
+    let i = w .before .before in
+    let o = i .before .before .before .before .before in
+    let s = o .args .words .now in
+    let x : w .words-at .result .number ≡ numberAt s (o .args .from) (i .loop .i) = ap (λ (y : Words). y .number) (w .words-at
+    .ensures) in
+    let f = sym (ap (λ (y : ℕ). anyAt (numberedAt y s (o .args .from)) 0 (i .loop .i)) x) ∙ sym (u .is-used .ensures) ∙ c .if3 .taken in
+    let z = number-twice s (o .args .from) (i .loop .i) (o .args .n) (w .before .loop-test .taken) f in (
+      rw z (sym (and-none (allAt (mayHoldAt s (o .args .from) (ledgerAt (o .args .l)) (accountsBy (ledgerAt (o .args .l)) (o .args .own)
+          (o .args .other))) 0 (o .args .n)))),
+      (λ h. absurd (never-both-tests (sym h)), i .loop .inv .2),
+    )
+
+add-number-requires : tie.Need-add-number-requires Inv-loop μ-loop
+add-number-requires c κs =
+    let i = c .before .before .before .before .before .before .before .before .before .before in
+    let o = i .before .before .before .before .before in
+    let t = c .before .before .before .before .before .before .before .before .before .loop-test .taken in
+    (omega (arith, o .pre .1, t, i .loop .inv .2 .long), omega (arith, o .pre .2, t))
+
+add-i : tie.Need-add-i Inv-loop μ-loop
+add-i c = search needs
+
+loop-less : tie.Need-loop-less Inv-loop μ-loop
+loop-less c = search needs
+
+loop-again : tie.Need-loop-again Inv-loop μ-loop
+loop-again c =
+    let d = c .before .before in
+    let v = c .before .before .before .before in
+    let low = v .before .before .low-bits in
+    let q = v .before .before .before in
+    let j = q .before in
+    let w = j .before .before .before in
+    let t = w .before .loop-test .taken in
+    let i = w .before .before in
+    let o = i .before .before .before .before .before in
+    let s = o .args .words .now in
+    let f = o .args .from in
+    let x : w .words-at .result .number ≡ numberAt s f (i .loop .i) = ap (λ (y : Words). y .number) (w .words-at .ensures) in
+    let e = sym (ap (λ (y : Words). holding (o .args .l) (o .args .own) (o .args .other) y) (w .words-at .ensures)) ∙ sym (j .may-hold
+    .ensures) ∙ not-false _ (q .if1 .left) in
+    let g = d .add-number .ensures in
+    let none =
+    ⊎-elim
+    (λ k. number-fresh s f (i .loop .i) (sym (ap (λ (y : ℕ). anyAt (numberedAt y s f) 0 (i .loop .i)) x) ∙ sym (k .2 .ensures) ∙ k .3
+    .left))
+    (λ k. number-new s f (i .loop .i) (i .loop .index) (o .args .base) (low .result) (i .loop .inv .3) (low .ensures ∙ ap (λ (y : ℕ). y
+    % chainCount) x) (k .left))
+    (v .if2 .came)
+    in (
+      omega (arith, t),
+      i .loop .inv .1 ∙ all-on _ (i .loop .i) (o .args .n) t e,
+      kept-twice (i .loop .inv .2) (rw g (grown-kept (i .loop .index) (o .args .base) (i .loop .i) (o .args .n) (w .words-at .result
+          .number) t)),
+      rw g (index-grown s s f (i .loop .index) (o .args .base) (i .loop .i) (w .words-at .result .number) (i .loop .inv .3) (omega
+          (arith, o .pre .1, t, i .loop .inv .2 .long)) (λ h p. refl) x),
+      apart-more (numberAt s f) (i .loop .i) (i .loop .inv .4) none,
+    )
+
+same-length-3 : tie.Need-same-length-3 Inv-loop μ-loop
+same-length-3 c = c .before .loop .inv .2 .long
+
+returns-3 : tie.Need-returns-3 Inv-loop μ-loop
+returns-3 c =
+    let i = c .before in
+    let o = i .before .before .before .before .before in
+    let z : i .loop .i ≡ o .args .n = omega (arith, i .loop .inv .0, c .loop-test .left) in
+    let a = i .loop .inv .1 ∙ all-end _ (i .loop .i) (o .args .n) (omega (arith, c .loop-test .left)) in
+    let b = apart-every (numberAt (o .args .words .now) (o .args .from)) (o .args .n) (rw z at (i .loop .inv .4)) in
+    (rw (a, b), (λ h. rw z at (i .loop .inv .3), i .loop .inv .2))
+
+pub hold-indexed-spec : {M : Type 1} → statement M
+hold-indexed-spec =
+    tie.close
+    (tie.spec
+    Inv-loop
+    μ-loop
+    head-limits-requires
+    receiver-limits-requires
+    loop-holds
+    words-at-requires
+    may-hold-requires
+    same-length
+    returns
+    low-bits-requires
+    add-if2
+    mul-if2
+    slice-read-if2
+    is-used-requires
+    same-length-2
+    returns-2
+    add-number-requires
+    add-i
+    loop-less
+    loop-again
+    same-length-3
+    returns-3)
