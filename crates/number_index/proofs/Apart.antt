@@ -6,11 +6,12 @@ use mathlib.Core.Logic.{⊎-elim}
 use mathlib.Core.Path.{_∙_, _≡_, ap, refl, sym}
 use native.Mathlib.Nat.{eq-or-lt-of-le}
 use native.Mathlib.Omega.{arith}
+use lib.Dec.{eqb}
 use lib.ListN.{getD}
 use borrow.Author.Tests.{eq-eqb, eqb-true}
-use Rattle.number_index.specs.Index.{Indexed, chainCount, valueFrom}
+use Rattle.number_index.specs.Index.{Chains, Indexed, chainCount, valueFrom}
 use Rattle.rules.proofs.Lists.{never-both-tests}
-use Rattle.tables.proofs.Places.{any-some, apart-all, apart-not}
+use Rattle.tables.proofs.Places.{any-from, any-some, apart-all, apart-not}
 use Rattle.tables.specs.Columns.{usedAt}
 use Rattle.tables.specs.Places.{anyAt, apartAt}
 
@@ -48,37 +49,46 @@ apart-more f i h none j k p q e =
 pub apart-every : (f : ℕ → ℕ) (n : ℕ) → Apart f n → apartAt f 0 n ≡ true
 apart-every f n h = apart-all f 0 n (λ j k x y w e. h j k y (omega arith) e)
 
+module _ (f : ℕ → ℕ) (i : ℕ) where
+  -- a value that one before has
+  pub value-twice : (n : ℕ) → i < n → anyAt (λ (j : ℕ). eqb (f i) (f j)) 0 i ≡ true → apartAt f 0 n ≡ false
+  value-twice n b h =
+      any-found (λ (j : ℕ). eqb (f i) (f j)) 0 i h
+      (λ j p q e. apart-not f 0 n j i p (omega arith) (omega arith) (sym (eqb-true (f i) (f j) e)))
+
+  -- one that none before has
+  pub value-fresh : anyAt (λ (j : ℕ). eqb (f i) (f j)) 0 i ≡ false → (j : ℕ) → j < i → f i ≡ f j → ⊥
+  value-fresh h j p e = any-not (λ (k : ℕ). eqb (f i) (f k)) 0 i j h (omega arith) (omega arith) (eq-eqb (f i) (f j) e)
+
+  -- or whose chain is empty
+  pub value-new : (heads nexts : ℕ → ℕ) (h : ℕ) → Chains f heads nexts i → h ≡ f i % chainCount → heads h ≡ 0 → (j : ℕ) → j < i
+      → f i ≡ f j → ⊥
+  value-new heads nexts h c q z j p e =
+      let r : f j % chainCount ≡ h = ap (λ (y : ℕ). y % chainCount) (sym e) ∙ sym q in
+      let u : j + 1 ≤ heads h = rw r at (c .head-low j p) in
+      omega (arith, u, z)
+
+-- the same of numbers from a place on
 module _ (numbers : List ℕ) (from i : ℕ) where
   -- the number at place i
   abbrev x : ℕ
   x = valueFrom numbers from i
 
+  -- those before it, counted from the place
+  before-it : anyAt (λ (j : ℕ). eqb x (valueFrom numbers from j)) 0 i ≡ anyAt (usedAt x numbers) from i
+  before-it =
+      let y : from + 0 ≡ from = omega arith in
+      rw y at (any-from (usedAt x numbers) from 0 i)
+
   -- it is one of those before
   pub used-twice : (n : ℕ) → i < n → anyAt (usedAt x numbers) from i ≡ true → apartAt (valueFrom numbers from) 0 n ≡ false
-  used-twice n b h = any-found (usedAt x numbers) from i h at
-    where
-      at : (j : ℕ) → from ≤ j → j < from + i → usedAt x numbers j ≡ true → apartAt (valueFrom numbers from) 0 n ≡ false
-      at j p q e =
-          let z : from + (j - from) ≡ j = omega arith in
-          let s : getD numbers j 0 ≡ x = sym (eqb-true x (getD numbers j 0) e) in
-          let t : valueFrom numbers from (j - from) ≡ x = rw z s in
-          apart-not (valueFrom numbers from) 0 n (j - from) i (omega arith) (omega arith) (omega arith) t
+  used-twice n b h = value-twice (valueFrom numbers from) i n b (before-it ∙ h)
 
   -- it is none of those before
   pub used-not : anyAt (usedAt x numbers) from i ≡ false → (j : ℕ) → j < i → x ≡ valueFrom numbers from j → ⊥
-  used-not h j p e =
-      any-not (usedAt x numbers) from i (from + j) h (omega arith) (omega arith) (eq-eqb x (getD numbers (from + j) 0) e)
+  used-not h = value-fresh (valueFrom numbers from) i (before-it ∙ h)
 
   -- nor where its chain is empty
-  pub used-no-chain : (heads nexts : List ℕ) (base h : ℕ)
-      → Indexed numbers heads nexts base from i
-      → h ≡ x % chainCount
-      → getD heads (base + h) 0 ≡ 0
-      → (j : ℕ)
-      → j < i
-      → x ≡ valueFrom numbers from j
-      → ⊥
-  used-no-chain heads nexts base h c q z j p e =
-      let r : valueFrom numbers from j % chainCount ≡ h = ap (λ (y : ℕ). y % chainCount) (sym e) ∙ sym q in
-      let u : j + 1 ≤ valueFrom heads base h = rw r at (c .head-low j p) in
-      omega (arith, u, z)
+  pub used-no-chain : (heads nexts : List ℕ) (base h : ℕ) → Indexed numbers heads nexts base from i → h ≡ x % chainCount
+      → getD heads (base + h) 0 ≡ 0 → (j : ℕ) → j < i → x ≡ valueFrom numbers from j → ⊥
+  used-no-chain heads nexts base h = value-new (valueFrom numbers from) i (valueFrom heads base) (valueFrom nexts from) h

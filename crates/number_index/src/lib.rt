@@ -19,13 +19,15 @@ pub const CHAINS: usize = 4096;
 // The steps down a chain after which the places are scanned instead.
 const STEPS: usize = 8;
 
-fn low_bits(x: u64) -> usize
+// The chain of a number.
+pub fn low_bits(x: u64) -> usize
     ensures { λ r. ⌜ r ≡ x % chainCount ⌝ }
 {
     x as usize % CHAINS
 }
 
-fn next_place(i: usize) -> u16
+// Place i as an index keeps it.
+pub fn next_place(i: usize) -> u16
     requires { ⌜ i < capacity ⌝ }
     ensures { λ r. ⌜ r ≡ i + 1 ⌝ }
 {

@@ -9,7 +9,7 @@ use lib.ListN.{length}
 use borrow.Author.Tests.{eqb-true, eq-eqb, ltb-true, lt-ltb, leb-true, le-leb}
 use Rattle.ledgers.specs.Ledgers.{kindAt, ledgerAt}
 use Rattle.ledgers.specs.Limits.{maxAmount}
-use Rattle.records.specs.Records.{Reading, Record, Read, Unreadable, Words, formed, recordIn, reading, readingWords, within, wordsOf}
+use Rattle.records.specs.Records.{Record, Read, Unreadable, Words, formed, recordIn, reading, readingWords, within, wordsOf}
 use Rattle.wire.proofs.Lists.{every-none, every-first, every-both}
 use Rattle.wire.proofs.Numbers.{field-high, field-low}
 use Rattle.wire.specs.BigEndian.{Bytes, field}

@@ -1,6 +1,7 @@
 -- Laws of the rules and of the runs, and the theorems. Assumes nothing.
 pub mod CasesHold
 pub mod Lists
+pub mod Bytes
 pub mod Refusals
 pub mod Runs
 pub mod ListCalls

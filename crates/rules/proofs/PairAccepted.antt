@@ -10,15 +10,15 @@ use Rattle.answers.proofs.Answers.{or-else-zero}
 use Rattle.ledgers.specs.Ledgers.{counterpart, ledgerOf, senderLedger, receiverLedger}
 use Rattle.ledgers.specs.Limits.{maxAmount}
 use Rattle.records.specs.Records.{reading}
+use Rattle.rules.proofs.Bytes.{same-own}
 use Rattle.rules.proofs.Clashes.{unshared-distinct, distinct-unshared}
 use Rattle.rules.proofs.Ledgers.{each-ledger, with-same, from-other, sum-from, accounts-after, own-sums, Clean, clean-own}
 use Rattle.rules.proofs.Ledgers.{clean-other, crossing, read-amount}
 use Rattle.rules.proofs.Lists.{all-snoc, length-moved}
 use Rattle.rules.proofs.Refusals.{Allowed, first-none, none-first, room-none, Passable, judge-none}
 use Rattle.rules.proofs.Runs.{keeps-accepted}
-use Rattle.rules.specs.Calls.{KeepsAccepted}
 use Rattle.rules.specs.Lists.{any, all, total}
-use Rattle.rules.specs.PairValidator.{PairView, pairJudge, countAllowed, supplyAllowed, heldAllowed, sameLedger, standsUnder}
+use Rattle.rules.specs.PairValidator.{PairView, pairJudge, countAllowed, supplyAllowed, heldAllowed, standsUnder}
 use Rattle.rules.specs.PairValidator.{PairKeepsAccepted}
 use Rattle.rules.specs.PairValidator.{pairAccepts, pairValidator}
 use Rattle.rules.specs.Rules.{Ledger, Home, Far, Record, Reading, Read, Unreadable, LedgerState, PairState, stateOf, accountsOf}
@@ -133,11 +133,7 @@ held-allowed accounts r h =
 -- a record stands under its ledger
 pub stands-own : (r : Record) → standsUnder (ledgerOf (r .kind)) r ≡ true
 unfolding standsUnder
-stands-own r = go (ledgerOf (r .kind))
-  where
-    go : (l : Ledger) → sameLedger l l ≡ true
-    go Home = refl
-    go Far = refl
+stands-own r = same-own (ledgerOf (r .kind))
 
 -- the record's ledger
 facts-own : (capacity : ℕ) (accounts : Ledger → ℕ) (own other : LedgerState) (r : Record)

@@ -1,20 +1,17 @@
 -- An index with a number more, and numbers that are apart. Assumes nothing.
-use Prim.Native.Nat.{_%_, _+_, _*_, _-_, _<_, _≤_, ℕ}
-use mathlib.Core.Bool.{Bool, cond, false, true, _&&_}
+use Prim.Native.Nat.{_%_, _+_, _-_, _<_, ℕ}
+use mathlib.Core.Bool.{Bool, cond, false, true}
 use mathlib.Core.List.{List}
 use mathlib.Core.Path.{_∙_, _≡_, ap, refl, sym}
 use native.Mathlib.Omega.{arith}
 use lib.Dec.{ltb}
 use lib.ListN.{getD, length, length-set, set}
 use lib.Seq.{getD-set-other, getD-set-same}
-use borrow.Author.Tests.{eq-eqb, eqb-true, le-ltb, lt-ltb, ltb-true}
-use Rattle.number_index.proofs.Apart.{any-found, any-not}
+use borrow.Author.Tests.{lt-ltb, ltb-true}
 use Rattle.number_index.proofs.Chains.{chains-grow, chains-same, low-bits-most}
 use Rattle.number_index.proofs.Index.{kept-set, kept-twice}
-use Rattle.number_index.specs.Index.{Chains, Kept, chainCount}
-use Rattle.table.specs.Table.{IndexOf, numberAt, numberedAt}
-use Rattle.tables.proofs.Places.{apart-not}
-use Rattle.tables.specs.Places.{anyAt, apartAt}
+use Rattle.number_index.specs.Index.{Kept, chainCount}
+use Rattle.table.specs.Table.{IndexOf, numberAt}
 
 -- ## One number more
 
@@ -98,36 +95,3 @@ grown-kept index base n m x h =
     kept-twice (kept-set index (base + chainCount + n) (getD index (base + x % chainCount) 0) (omega arith) (omega arith))
     (kept-set (set index (base + chainCount + n) (getD index (base + x % chainCount) 0)) (base + x % chainCount) (n + 1) (omega arith)
     (omega (arith, low-bits-most x)))
-
--- ## Numbers apart
-
-module _ (s : List ℕ) (from i : ℕ) where
-  -- a number that one before has
-  pub number-twice : (n : ℕ) → i < n → anyAt (numberedAt (numberAt s from i) s from) 0 i ≡ true → apartAt (numberAt s from) 0 n ≡ false
-  number-twice n b h =
-      any-found (numberedAt (numberAt s from i) s from) 0 i h
-      (λ j p q e. apart-not (numberAt s from) 0 n j i p (omega arith) (omega arith) (sym (eqb-true (numberAt s from i) (numberAt s from j) e)))
-
-  -- one that none before has
-  pub number-fresh : anyAt (numberedAt (numberAt s from i) s from) 0 i ≡ false → (j : ℕ) → j < i → numberAt s from i ≡ numberAt s from j → ⊥
-  number-fresh h j p e =
-      any-not (numberedAt (numberAt s from i) s from) 0 i j h (omega arith) (omega arith) (eq-eqb (numberAt s from i) (numberAt s from j) e)
-
-  -- or whose chain is empty
-  pub number-new : (index : List ℕ) (base h : ℕ) → IndexOf s from index base i → h ≡ numberAt s from i % chainCount
-      → getD index (base + h) 0 ≡ 0 → (j : ℕ) → j < i → numberAt s from i ≡ numberAt s from j → ⊥
-  number-new index base h c q z j p e =
-      let r : numberAt s from j % chainCount ≡ h = ap (λ (y : ℕ). y % chainCount) (sym e) ∙ sym q in
-      let u : j + 1 ≤ getD index (base + h) 0 = rw r at (c .head-low j p) in
-      omega (arith, u, z)
-
--- ## Tests
-
--- a test and one that fails
-pub and-none : (t : Bool) → (t && false) ≡ false
-and-none true = refl
-and-none false = refl
-
--- nothing is altered
-pub kept-all : (a b : ℕ) (xs : List ℕ) → Kept a b xs xs
-kept-all a b xs = record { long = refl; before = λ k p. refl; after = λ k p. refl }

@@ -1,5 +1,5 @@
 -- Words that pass the tests by limits are those that a ledger may hold. Assumes nothing.
-use Prim.Native.Nat.{ℕ, zero, suc, _+_, _*_, _/_, _%_, _^_, _<_, _≤_}
+use Prim.Native.Nat.{ℕ, zero, _+_, _*_, _/_, _%_, _^_, _<_, _≤_}
 use mathlib.Core.Bool.{Bool, true, false, cond, _&&_}
 use mathlib.Core.List.{List, [], _∷_}
 use mathlib.Core.Path.{_≡_, refl, sym, ap, subst, _∙_}
@@ -8,17 +8,16 @@ use native.Mathlib.Omega.{arith}
 use lib.Dec.{eqb, leb, ltb}
 use lib.ListN.{getD}
 use borrow.Author.Tests.{eq-eqb, eqb-true, le-leb, leb-true, lt-ltb, ltb-true}
-use Rattle.ledgers.specs.Ledgers.{counterpart, kindAt, ledgerAt, ledgerByte, ledgerOf, receiverLedger, senderLedger}
+use Rattle.ledgers.specs.Ledgers.{counterpart, kindAt, ledgerAt, ledgerByte, receiverLedger, senderLedger}
 use Rattle.ledgers.specs.Limits.{accountLimit, maxAmount}
 use Rattle.ledgers.specs.declared.Ledger.{Ledger}
 use Rattle.ledgers.specs.declared.Ledger.the-variants.{Far, Home}
 use Rattle.records.proofs.Exactly.{kind-ledger}
-use Rattle.records.proofs.Formed.{FormedWords, facts-formed, formed-facts}
+use Rattle.records.proofs.Formed.{facts-formed, formed-facts}
 use Rattle.records.specs.Records.{formed, readingWords, recordIn, within}
-use Rattle.records.specs.declared.Reading.{Reading}
-use Rattle.records.specs.declared.Reading.the-variants.{Read, Unreadable}
-use Rattle.records.specs.declared.Record.{Record}
+use Rattle.records.specs.declared.Reading.the-variants.{Read}
 use Rattle.records.specs.declared.Words.{Words}
+use Rattle.rules.proofs.Bytes.{at-byte, byte-at, byte-most, byte-only, receiver-byte, same-own, sender-byte}
 use Rattle.rules.proofs.Lists.{never-both-tests, same-tests}
 use Rattle.rules.proofs.PairAccepted.{allowed-held, held-allowed}
 use Rattle.rules.specs.Lists.{any}
@@ -28,61 +27,26 @@ use Rattle.table.specs.Table.{accountsBy, headLimits, mayHold, receiverL
 use Rattle.wire.proofs.Lists.{and-both, every-both, every-first, every-none}
 use Rattle.wire.specs.BigEndian.{every}
 
--- ## Ledgers
+-- ## Accounts
 
--- a ledger's byte
-pub byte-most : (L : Ledger) → ledgerByte L ≤ 1
-byte-most Home = omega arith
-byte-most Far = omega arith
-
--- reads back as the ledger
-at-byte : (L : Ledger) → ledgerAt (ledgerByte L) ≡ L
-at-byte Home = refl
-at-byte Far = refl
-
--- a byte is that of its ledger
-pub byte-at : (l : ℕ) → l ≤ 1 → ledgerByte (ledgerAt l) ≡ l
-byte-at zero h = refl
-byte-at (suc zero) h = refl
-byte-at (suc (suc l)) h = absurd (omega arith)
-
--- a ledger is itself
-same-self : (L : Ledger) → sameLedger L L ≡ true
-same-self Home = refl
-same-self Far = refl
-
--- the ledger with a byte is L only for L's byte
-same-byte : (L : Ledger) (n : ℕ) → n ≤ 1 → sameLedger L (ledgerAt n) ≡ true → n ≡ ledgerByte L
-same-byte Home zero m h = refl
-same-byte Home (suc zero) m h = absurd (never-both-tests (sym h))
-same-byte Home (suc (suc n)) m h = absurd (omega arith)
-same-byte Far zero m h = absurd (never-both-tests (sym h))
-same-byte Far (suc zero) m h = refl
-same-byte Far (suc (suc n)) m h = absurd (omega arith)
+-- a ledger's accounts, and its counterpart's
+own-accounts : (L : Ledger) (own other : ℕ) → (accountsBy L own other L ≡ own) × (accountsBy L own other (counterpart L) ≡ other)
+own-accounts Home own other = (refl, refl)
+own-accounts Far own other = (refl, refl)
 
 -- how many accounts the sender's ledger has, by kind
 sender-accounts : (L : Ledger) (own other k : ℕ) → 0 < k → k ≤ 3
     → accountsBy L own other (senderLedger (kindAt k L)) ≡ cond (eqb k 3) other own
-sender-accounts L own other zero a b = absurd (omega arith)
-sender-accounts Home own other (suc zero) a b = refl
-sender-accounts Far own other (suc zero) a b = refl
-sender-accounts Home own other (suc (suc zero)) a b = refl
-sender-accounts Far own other (suc (suc zero)) a b = refl
-sender-accounts Home own other (suc (suc (suc zero))) a b = refl
-sender-accounts Far own other (suc (suc (suc zero))) a b = refl
-sender-accounts L own other (suc (suc (suc (suc k)))) a b = absurd (omega arith)
+sender-accounts L own other k a b =
+    let o = own-accounts L own other in
+    sender-byte (accountsBy L own other) k L a b ∙ rw (o .0, o .1)
 
 -- and the receiver's
 receiver-accounts : (L : Ledger) (own other k : ℕ) → 0 < k → k ≤ 3
     → accountsBy L own other (receiverLedger (kindAt k L)) ≡ cond (eqb k 2) other own
-receiver-accounts L own other zero a b = absurd (omega arith)
-receiver-accounts Home own other (suc zero) a b = refl
-receiver-accounts Far own other (suc zero) a b = refl
-receiver-accounts Home own other (suc (suc zero)) a b = refl
-receiver-accounts Far own other (suc (suc zero)) a b = refl
-receiver-accounts Home own other (suc (suc (suc zero))) a b = refl
-receiver-accounts Far own other (suc (suc (suc zero))) a b = refl
-receiver-accounts L own other (suc (suc (suc (suc k)))) a b = absurd (omega arith)
+receiver-accounts L own other k a b =
+    let o = own-accounts L own other in
+    receiver-byte (accountsBy L own other) k L a b ∙ rw (o .0, o .1)
 
 -- ## The tests
 
@@ -192,7 +156,7 @@ module _ (L : Ledger) (own other : ℕ) (ho : own ≤ accountLimit) (ht : other 
               verdict-most = omega (arith, tail);
               zeros-last = omega (arith, tail);
             });
-        stands = rw (kind-ledger (within 0 1 (w .head)) (ledgerAt ledger), on) (same-self L);
+        stands = rw (kind-ledger (within 0 1 (w .head)) (ledgerAt ledger), on) (same-own L);
         allowed =
             allowed-held (accountsBy L own other) [] (recordIn w)
             (record {
@@ -216,7 +180,7 @@ module _ (L : Ledger) (own other : ℕ) (ho : own ≤ accountLimit) (ht : other 
       let most : kind ≤ 3 = omega (arith, f .kind-most, k) in
       let same : sameLedger L (ledgerAt ledger) ≡ true =
       rw (kind-ledger (within 0 1 (w .head)) (ledgerAt ledger)) at (h .stands) in
-      let byte : ledger ≡ ledgerByte L = same-byte L ledger (f .ledger-most) same in
+      let byte : ledger ≡ ledgerByte L = byte-only L ledger (f .ledger-most) same in
       let on : ledgerAt ledger ≡ L = ap ledgerAt byte ∙ at-byte L in
       let sends : sender < cond (eqb kind 3) other own =
       rw (k, on, sender-accounts L own other kind some most) at (x .0 .sender-open) in

@@ -1,11 +1,11 @@
 -- What is asked of a table place by place is what the rules ask of its records. Assumes nothing.
 use Prim.Native.Nat.{ℕ}
-use mathlib.Core.Bool.{Bool, true}
+use mathlib.Core.Bool.{true}
 use mathlib.Core.List.{List}
 use mathlib.Core.Path.{_≡_, sym, _∙_}
 use lib.ListN.{length}
 use Rattle.ledgers.specs.declared.Ledger.{Ledger}
-use Rattle.records.specs.Records.{formed, readingWords}
+use Rattle.records.specs.Records.{formed}
 use Rattle.rules.specs.Lists.{all}
 use Rattle.rules.specs.PairValidator.{heldAllowed, standsUnder}
 use Rattle.table.proofs.Holding.{Holds, holds-of, of-holds}

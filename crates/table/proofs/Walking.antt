@@ -1,83 +1,22 @@
--- Walks down the chain of a number to a place where a test holds, and an index with a number more. Assumes nothing.
-use Prim.Native.Nat.{_%_, _+_, _*_, _-_, _<_, _≤_, ℕ}
-use mathlib.Core.Bool.{Bool, false, true}
+-- Walks down the chain of a number of a table. Assumes nothing.
+use Prim.Native.Nat.{_%_, _+_, _-_, _<_, ℕ}
+use mathlib.Core.Bool.{false, true}
 use mathlib.Core.List.{List}
-use mathlib.Core.Path.{_∙_, _≡_, ap, refl, sym}
-use native.Mathlib.Omega.{arith}
+use mathlib.Core.Path.{_≡_}
 use lib.ListN.{getD}
 use borrow.Author.Tests.{eqb-true}
-use Rattle.number_index.proofs.Chains.{less, low-bits-most}
-use Rattle.number_index.specs.Index.{Chains, chainCount}
-use Rattle.rules.proofs.Lists.{never-both-tests}
+use Rattle.number_index.proofs.Walks.{WalkOver, over-end, over-first, over-found, over-lower, over-next}
+use Rattle.number_index.specs.Index.{chainCount}
 use Rattle.table.specs.Table.{IndexOf, numberAt, numberedAt}
-use Rattle.tables.proofs.Places.{any-none, any-some}
 use Rattle.tables.specs.Places.{anyAt}
-
--- a walk at place `at` less one: each of the n places where a test holds is still to come
-pub record Walk (f : ℕ → ℕ) (n : ℕ) (p : ℕ → Bool) (x at : ℕ) : Type 0 where
-  pub most : at ≤ n
-  pub is : 0 < at → f (at - 1) % chainCount ≡ x % chainCount
-  pub low : (j : ℕ) → j < n → p j ≡ true → j + 1 ≤ at
-
--- the test holds only at places whose number is x
-module _ (f heads nexts : ℕ → ℕ) (n : ℕ) (c : Chains f heads nexts n) (p : ℕ → Bool) (x : ℕ) (only : (j : ℕ) → p j ≡ true → x ≡ f j) where
-  -- the low bits at a place where it holds
-  only-low : (j : ℕ) → p j ≡ true → f j % chainCount ≡ x % chainCount
-  only-low j t = ap (λ (y : ℕ). y % chainCount) (sym (only j t))
-
-  -- a walk starts at the head of the chain
-  pub walk-first : (at h : ℕ) → h ≡ x % chainCount → at ≡ heads h → Walk f n p x at
-  walk-first at h q e =
-      let b : h < chainCount = rw q (low-bits-most x) in
-      record {
-        most = omega (arith, e, c .head-most h b);
-        is = λ z. rw e (c .head-is h b (rw e at z) ∙ q);
-        low = λ j a t.
-            let r : f j % chainCount ≡ h = only-low j t ∙ sym q in
-            let u : j + 1 ≤ heads h = rw r at (c .head-low j a) in
-            omega (arith, u, e);
-      }
-
-  module _ (at : ℕ) (w : Walk f n p x at) where
-    -- it goes on where the test does not hold
-    pub walk-next : (to : ℕ) → 0 < at → p (at - 1) ≡ false → to ≡ nexts (at - 1) → Walk f n p x to
-    walk-next to z out e =
-        let b : at - 1 < n = omega (arith, w .most) in
-        record {
-          most = omega (arith, e, c .next-most (at - 1) b);
-          is = λ r. rw e (c .next-is (at - 1) b (rw e at r) ∙ w .is z);
-          low = λ j a t.
-              let o : j ≤ at - 1 = omega (arith, w .low j a t) in
-              let d : j < at - 1 = less j (at - 1) o (λ r. never-both-tests (sym t ∙ ap p r ∙ out)) in
-              let u = c .next-low (at - 1) j b d (only-low j t ∙ sym (w .is z)) in
-              omega (arith, u, e);
-        }
-
-    -- to a lower place
-    pub walk-lower : (to : ℕ) → 0 < at → to ≡ nexts (at - 1) → to < at
-    walk-lower to z e = omega (arith, e, c .next-most (at - 1) (let b : at - 1 < n = omega (arith, w .most) in b))
-
-    -- it finds the place
-    pub walk-found : 0 < at → p (at - 1) ≡ true → anyAt p 0 n ≡ true
-    walk-found z e = any-some p 0 n (at - 1) (omega arith) (omega (arith, w .most)) e
-
-    -- at its end there is none
-    pub walk-end : at ≡ 0 → anyAt p 0 n ≡ false
-    walk-end z = any-none p 0 n (λ j a b. none j (omega arith) (p j) refl)
-      where
-        none : (j : ℕ) → j < n → (t : Bool) → p j ≡ t → p j ≡ false
-        none j a false q = q
-        none j a true q = absurd (omega (arith, w .low j a q))
 
 -- a place with a number has the number
 pub numbered : (x : ℕ) (s : List ℕ) (from j : ℕ) → numberedAt x s from j ≡ true → x ≡ numberAt s from j
 numbered x s from j h = eqb-true x (numberAt s from j) h
 
--- ## By the index of a table
-
 -- a walk for a number of the table
 abbrev pub WalkFor : List ℕ → ℕ → ℕ → ℕ → ℕ → Type 0
-WalkFor s from n x at = Walk (numberAt s from) n (numberedAt x s from) x at
+WalkFor s from n x at = WalkOver (numberAt s from) n (numberedAt x s from) x at
 
 module _ (s : List ℕ) (from : ℕ) (index : List ℕ) (base n : ℕ) (c : IndexOf s from index base n) (x : ℕ) where
   abbrev heads : ℕ → ℕ
@@ -88,22 +27,22 @@ module _ (s : List ℕ) (from : ℕ) (index : List ℕ) (base n : ℕ) (c : Inde
 
   -- it starts at the head
   pub used-first : (at h : ℕ) → h ≡ x % chainCount → at ≡ getD index (base + h) 0 → WalkFor s from n x at
-  used-first = walk-first (numberAt s from) heads nexts n c (numberedAt x s from) x (numbered x s from)
+  used-first = over-first (numberAt s from) heads nexts n c (numberedAt x s from) x (numbered x s from)
 
   module _ (at : ℕ) (w : WalkFor s from n x at) where
     -- it goes on
     pub used-next : (to : ℕ) → 0 < at → numberedAt x s from (at - 1) ≡ false → to ≡ getD index (base + chainCount + (at - 1)) 0
         → WalkFor s from n x to
-    used-next = walk-next (numberAt s from) heads nexts n c (numberedAt x s from) x (numbered x s from) at w
+    used-next = over-next (numberAt s from) heads nexts n c (numberedAt x s from) x (numbered x s from) at w
 
     -- to a lower place
     pub used-lower : (to : ℕ) → 0 < at → to ≡ getD index (base + chainCount + (at - 1)) 0 → to < at
-    used-lower = walk-lower (numberAt s from) heads nexts n c (numberedAt x s from) x (numbered x s from) at w
+    used-lower = over-lower (numberAt s from) heads nexts n c (numberedAt x s from) x (numbered x s from) at w
 
     -- it finds the number
     pub used-found : 0 < at → numberedAt x s from (at - 1) ≡ true → anyAt (numberedAt x s from) 0 n ≡ true
-    used-found = walk-found (numberAt s from) heads nexts n c (numberedAt x s from) x (numbered x s from) at w
+    used-found = over-found (numberAt s from) heads nexts n c (numberedAt x s from) x (numbered x s from) at w
 
     -- or none has it
     pub used-end : at ≡ 0 → anyAt (numberedAt x s from) 0 n ≡ false
-    used-end = walk-end (numberAt s from) heads nexts n c (numberedAt x s from) x (numbered x s from) at w
+    used-end = over-end (numberAt s from) heads nexts n c (numberedAt x s from) x (numbered x s from) at w

@@ -10,6 +10,10 @@ ghost use Rattle.records.specs.Records.{readingWords};
 ghost use Rattle.table.specs.Table.{accountsBy, headLimits, mayHold, mayHoldAt, receiverLimits, wordsAt};
 ghost use Rattle.table.specs.Table.{IndexOf, numberAt, numberedAt};
 ghost use Rattle.tables.specs.Places.{allAt, anyAt, apartAt};
+use entries::as_index;
+use number_index::CHAINS;
+use number_index::low_bits;
+use number_index::next_place;
 use records::Record;
 use records::Words;
 
@@ -106,29 +110,8 @@ fn may_hold<'a>(
 
 // ## Numbers
 
-// The number of chains of an index.
-pub const CHAINS: usize = 4096;
 // The steps down a chain after which the places are scanned instead.
 const STEPS: usize = 8;
-
-fn low_bits(x: u64) -> usize
-    ensures { λ r. ⌜ r ≡ x % chainCount ⌝ }
-{
-    x as usize % CHAINS
-}
-
-fn as_place(x: u16) -> usize
-    ensures { λ r. ⌜ r ≡ x ⌝ }
-{
-    x as usize
-}
-
-fn next_place(i: usize) -> u16
-    requires { ⌜ i < capacity ⌝ }
-    ensures { λ r. ⌜ r ≡ i + 1 ⌝ }
-{
-    (i + 1) as u16
-}
 
 // Whether one of n records has the number, by a scan.
 fn scanned(words: &[u64], from: usize, n: usize, x: u64) -> bool
@@ -159,7 +142,7 @@ pub fn is_used<'a>(
         × IndexOf (now words) from (now index) base n ⌝ }
     ensures { λ b. ⌜ b ≡ anyAt (numberedAt x (now (words .entry)) from) 0 n ⌝ }
 {
-    let mut at = as_place(index[base + low_bits(x)]);
+    let mut at = as_index(index[base + low_bits(x)]);
     let mut steps = 0;
     while 0 < at {
         let j = at - 1;
@@ -169,7 +152,7 @@ pub fn is_used<'a>(
         if STEPS <= steps {
             return scanned(words, from, n, x);
         }
-        at = as_place(index[base + CHAINS + j]);
+        at = as_index(index[base + CHAINS + j]);
         steps += 1;
     }
     false

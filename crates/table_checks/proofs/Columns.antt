@@ -10,19 +10,10 @@ use Rattle.ledgers.specs.Limits.{maxAmount}
 use Rattle.table_checks.specs.Checks.{accountAllowedAt, allowedAt, amountAllowedAt, equalAt, kindAllowedAt, rowAllowed}
 use Rattle.tables.proofs.Places.{all-ext}
 use Rattle.tables.specs.Places.{allAt}
+use Rattle.wire.proofs.Lists.{and-false, and-true}
 use Rattle.wire.specs.BigEndian.{every}
 
 -- ## Two tests and more
-
--- a conjunction with true
-and-true : (t : Bool) → (t && true) ≡ t
-and-true true = refl
-and-true false = refl
-
--- a conjunction with false
-and-false : (t : Bool) → (t && false) ≡ false
-and-false true = refl
-and-false false = refl
 
 -- three tests
 pub and-three : (s t u : Bool) → (s && (t && u)) ≡ ((s && t) && u)

@@ -4,15 +4,14 @@ use mathlib.Core.Bool.{Bool, _&&_, cond, false, not, true}
 use mathlib.Core.List.{List, [], _∷_}
 use mathlib.Core.Path.{_∙_, _≡_, ap, ap₂, refl, sym}
 use native.Mathlib.Omega.{arith}
-use lib.Dec.{eqb, ltb}
+use lib.Dec.{ltb}
 use lib.ListN.{drop, getD, length, take}
 use lib.Seq.{drop-cons}
 use borrow.Author.Tests.{eq-eqb, eqb-true, le-leb, leb-true, ltb-true, lt-ltb}
-use Rattle.ledgers.specs.Ledgers.{counterpart, kindAt, ledgerAt, ledgerByte, receiverLedger, senderLedger}
+use Rattle.ledgers.specs.Ledgers.{counterpart, ledgerAt, ledgerByte, receiverLedger, senderLedger}
 use Rattle.ledgers.specs.declared.Ledger.{Ledger}
-use Rattle.ledgers.specs.declared.Ledger.the-variants.{Far, Home}
 use Rattle.records.specs.declared.Record.{Record}
-use Rattle.rules.proofs.Lists.{never-both-tests}
+use Rattle.rules.proofs.Bytes.{at-byte, byte-most, byte-only, receiver-byte, same-own, sender-byte}
 use Rattle.rules.proofs.PairAccepted.{allowed-held, held-allowed}
 use Rattle.rules.specs.HomeValidator.{received, sent}
 use Rattle.rules.specs.Lists.{all, any, sum, total}
@@ -29,47 +28,6 @@ use Rattle.wire.proofs.Lists.{every-both, every-first, every-none}
 use Rattle.wire.specs.BigEndian.{every}
 
 -- ## One row
-
--- the ledger with a ledger's byte
-at-byte : (L : Ledger) → ledgerAt (ledgerByte L) ≡ L
-at-byte Home = refl
-at-byte Far = refl
-
--- a ledger's byte is 0 or 1
-byte-most : (L : Ledger) → ledgerByte L ≤ 1
-byte-most Home = omega arith
-byte-most Far = omega arith
-
--- a ledger is the same as itself
-same-own : (L : Ledger) → sameLedger L L ≡ true
-same-own Home = refl
-same-own Far = refl
-
--- the byte 0 or 1 of a ledger is that ledger's
-byte-only : (L : Ledger) (n : ℕ) → n ≤ 1 → sameLedger L (ledgerAt n) ≡ true → n ≡ ledgerByte L
-byte-only Home zero m h = refl
-byte-only Home (suc zero) m h = absurd (never-both-tests (sym h))
-byte-only Far zero m h = absurd (never-both-tests (sym h))
-byte-only Far (suc zero) m h = refl
-byte-only L (suc (suc n)) m h = absurd (omega arith)
-
--- the accounts among which a kind's sender is
-sender-byte : (accounts : Ledger → ℕ) (k : ℕ) (L : Ledger) → 1 ≤ k → k ≤ 3
-    → accounts (senderLedger (kindAt k L)) ≡ cond (eqb k 3) (accounts (counterpart L)) (accounts L)
-sender-byte accounts zero L h m = absurd (omega arith)
-sender-byte accounts (suc zero) L h m = refl
-sender-byte accounts (suc (suc zero)) L h m = refl
-sender-byte accounts (suc (suc (suc zero))) L h m = refl
-sender-byte accounts (suc (suc (suc (suc k)))) L h m = absurd (omega arith)
-
--- the accounts among which its receiver is
-receiver-byte : (accounts : Ledger → ℕ) (k : ℕ) (L : Ledger) → 1 ≤ k → k ≤ 3
-    → accounts (receiverLedger (kindAt k L)) ≡ cond (eqb k 2) (accounts (counterpart L)) (accounts L)
-receiver-byte accounts zero L h m = absurd (omega arith)
-receiver-byte accounts (suc zero) L h m = refl
-receiver-byte accounts (suc (suc zero)) L h m = refl
-receiver-byte accounts (suc (suc (suc zero))) L h m = refl
-receiver-byte accounts (suc (suc (suc (suc k)))) L h m = absurd (omega arith)
 
 -- the kind's byte of a row that is formed
 formed-kind : (t : Columns) (i : ℕ) → formedRow t i ≡ true → (1 ≤ getD (t .kinds) i 0) × (getD (t .kinds) i 0 ≤ 3)

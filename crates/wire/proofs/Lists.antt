@@ -19,9 +19,14 @@ and-both true t h = (refl, h)
 and-both false t h = (h, let z : false ≡ true = h in cc)
 
 -- a conjunction with true
-and-true : (t : Bool) → (t && true) ≡ t
+pub and-true : (t : Bool) → (t && true) ≡ t
 and-true true = refl
 and-true false = refl
+
+-- a conjunction with false
+pub and-false : (t : Bool) → (t && false) ≡ false
+and-false true = refl
+and-false false = refl
 
 -- no test at all
 pub every-none : every [] ≡ true

@@ -1,5 +1,5 @@
 -- `home_figures::balance` meets its contract. Assumes nothing.
-use mathlib.Core.Path.{_∙_, _≡_, sym}
+use mathlib.Core.Path.{_∙_, sym}
 use borrow.Author.Needs.{needs}
 use borrow.Author.Tests.{not-false, not-true}
 use Rattle.home_laws.proofs.Passing.{HomeSound, home-sound-of}

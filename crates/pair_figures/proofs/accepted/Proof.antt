@@ -1,5 +1,5 @@
 -- `pair_figures::accepted` meets its contract. Assumes nothing.
-use mathlib.Core.Path.{_∙_, sym}
+use mathlib.Core.Path.{_∙_}
 use borrow.Author.Needs.{needs}
 use Rattle.pair_laws.proofs.Accept.{accepts-is}
 use Rattle.pair_tables.proofs.Indexes.{indexes-of-none}

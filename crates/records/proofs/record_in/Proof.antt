@@ -1,7 +1,5 @@
 -- `records::record_in` meets its contract. Assumes nothing.
-use Prim.Native.Nat.{_%_, _^_, ℕ}
-use mathlib.Core.Path.{_≡_, ap, ap₂, _∙_}
-use native.Mathlib.Omega.{arith}
+use mathlib.Core.Path.{_≡_, ap, _∙_}
 use borrow.Author.Needs.{needs}
 use Rattle.ledgers.specs.Ledgers.{kindAt, ledgerAt}
 use Rattle.records.specs.Records.{recordIn, within}

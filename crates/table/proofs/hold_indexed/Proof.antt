@@ -1,23 +1,23 @@
 -- `table::hold_indexed` meets its contract. Assumes nothing.
-use Prim.Native.Nat.{ℕ, _+_, _*_, _-_, _%_, _^_, _<_, _≤_}
-use mathlib.Core.Bool.{Bool, false, true, _&&_}
+use Prim.Native.Nat.{ℕ, _+_, _*_, _-_, _%_, _≤_}
+use mathlib.Core.Bool.{Bool}
 use mathlib.Core.Logic.{⊎-elim}
 use mathlib.Core.Path.{_≡_, ap, refl, sym, _∙_}
 use native.Mathlib.Omega.{arith}
-use lib.ListN.{getD, length}
 use borrow.Author.Needs.{needs}
 use borrow.Author.Tests.{not-false, not-true}
 use Rattle.ledgers.specs.Ledgers.{ledgerAt}
-use Rattle.number_index.proofs.Apart.{Apart, apart-every, apart-more}
+use Rattle.number_index.proofs.Apart.{Apart, apart-every, apart-more, value-fresh, value-new, value-twice}
 use Rattle.number_index.proofs.Index.{kept-twice}
 use Rattle.number_index.specs.Index.{Kept, chainCount}
 use Rattle.records.specs.Records.{readingWords}
 use Rattle.records.specs.declared.Words.{Words}
 use Rattle.rules.proofs.Lists.{never-both-tests}
-use Rattle.table.proofs.Growing.{and-none, grown-kept, index-grown, kept-all, number-fresh, number-new, number-twice}
+use Rattle.table.proofs.Growing.{grown-kept, index-grown}
 use Rattle.table.specs.Table.{IndexOf, accountsBy, mayHold, mayHoldAt, numberAt, numberedAt}
 use Rattle.tables.proofs.Places.{all-end, all-here, all-on}
-use Rattle.tables.specs.Places.{allAt, anyAt, apartAt}
+use Rattle.tables.specs.Places.{allAt, anyAt}
+use Rattle.wire.proofs.Lists.{and-false}
 use Rattle.table.proofs.hold_indexed.Statement.{statement}
 use Rattle.table.proofs.hold_indexed.Tie as tie
 
@@ -47,7 +47,7 @@ loop-holds : tie.Need-loop-holds Inv-loop μ-loop
 loop-holds c =
     let o = c .before .before .before .before in
     let z : o .args .n ≡ o .args .n - 0 = omega arith in
-    (omega arith, ap (allAt _ 0) z, kept-all _ _ _, o .pre .3, λ j k p q. absurd (omega arith))
+    (omega arith, ap (allAt _ 0) z, search needs, o .pre .3, λ j k p q. absurd (omega arith))
 
 words-at-requires : tie.Need-words-at-requires Inv-loop μ-loop
 words-at-requires c κs =
@@ -118,8 +118,8 @@ returns-2 c =
     let x : w .words-at .result .number ≡ numberAt s (o .args .from) (i .loop .i) = ap (λ (y : Words). y .number) (w .words-at
     .ensures) in
     let f = sym (ap (λ (y : ℕ). anyAt (numberedAt y s (o .args .from)) 0 (i .loop .i)) x) ∙ sym (u .is-used .ensures) ∙ c .if3 .taken in
-    let z = number-twice s (o .args .from) (i .loop .i) (o .args .n) (w .before .loop-test .taken) f in (
-      rw z (sym (and-none (allAt (mayHoldAt s (o .args .from) (ledgerAt (o .args .l)) (accountsBy (ledgerAt (o .args .l)) (o .args .own)
+    let z = value-twice (numberAt s (o .args .from)) (i .loop .i) (o .args .n) (w .before .loop-test .taken) f in (
+      rw z (sym (and-false (allAt (mayHoldAt s (o .args .from) (ledgerAt (o .args .l)) (accountsBy (ledgerAt (o .args .l)) (o .args .own)
           (o .args .other))) 0 (o .args .n)))),
       (λ h. absurd (never-both-tests (sym h)), i .loop .inv .2),
     )
@@ -156,9 +156,9 @@ loop-again c =
     let g = d .add-number .ensures in
     let none =
     ⊎-elim
-    (λ k. number-fresh s f (i .loop .i) (sym (ap (λ (y : ℕ). anyAt (numberedAt y s f) 0 (i .loop .i)) x) ∙ sym (k .2 .ensures) ∙ k .3
+    (λ k. value-fresh (numberAt s f) (i .loop .i) (sym (ap (λ (y : ℕ). anyAt (numberedAt y s f) 0 (i .loop .i)) x) ∙ sym (k .2 .ensures) ∙ k .3
     .left))
-    (λ k. number-new s f (i .loop .i) (i .loop .index) (o .args .base) (low .result) (i .loop .inv .3) (low .ensures ∙ ap (λ (y : ℕ). y
+    (λ k. value-new (numberAt s f) (i .loop .i) _ _ (low .result) (i .loop .inv .3) (low .ensures ∙ ap (λ (y : ℕ). y
     % chainCount) x) (k .left))
     (v .if2 .came)
     in (

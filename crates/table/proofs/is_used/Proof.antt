@@ -16,17 +16,17 @@ abbrev μ-loop : tie.MeasureT-loop
 low-bits-requires : tie.Need-low-bits-requires Inv-loop μ-loop
 low-bits-requires c κs = search needs
 
-add-as-place : tie.Need-add-as-place Inv-loop μ-loop
-add-as-place c = search needs
+add-as-index : tie.Need-add-as-index Inv-loop μ-loop
+add-as-index c = search needs
 
-mul-as-place : tie.Need-mul-as-place Inv-loop μ-loop
-mul-as-place c = search needs
+mul-as-index : tie.Need-mul-as-index Inv-loop μ-loop
+mul-as-index c = search needs
 
-shared-slice-read-as-place : tie.Need-shared-slice-read-as-place Inv-loop μ-loop
-shared-slice-read-as-place c = search needs
+shared-slice-read-as-index : tie.Need-shared-slice-read-as-index Inv-loop μ-loop
+shared-slice-read-as-index c = search needs
 
-as-place-requires : tie.Need-as-place-requires Inv-loop μ-loop
-as-place-requires c κs = search needs
+as-index-requires : tie.Need-as-index-requires Inv-loop μ-loop
+as-index-requires c κs = search needs
 
 loop-holds : tie.Need-loop-holds Inv-loop μ-loop
 loop-holds c =
@@ -34,7 +34,7 @@ loop-holds c =
     let a = o .args in
     let low = c .before .before .low-bits in
     used-first (a .words .now) (a .from) (a .index .now) (a .base) (a .n) (o .pre .2) (a .x) _ (low .result) (low .ensures) (c
-    .as-place .ensures)
+    .as-index .ensures)
 
 sub-j : tie.Need-sub-j Inv-loop μ-loop
 sub-j c = search needs
@@ -68,20 +68,20 @@ scanned-requires c κs = search needs
 returns-2 : tie.Need-returns-2 Inv-loop μ-loop
 returns-2 c = search needs
 
-add-as-place-2 : tie.Need-add-as-place-2 Inv-loop μ-loop
-add-as-place-2 c = search needs
+add-as-index-2 : tie.Need-add-as-index-2 Inv-loop μ-loop
+add-as-index-2 c = search needs
 
-add-as-place-3 : tie.Need-add-as-place-3 Inv-loop μ-loop
-add-as-place-3 c = search needs
+add-as-index-3 : tie.Need-add-as-index-3 Inv-loop μ-loop
+add-as-index-3 c = search needs
 
-mul-as-place-2 : tie.Need-mul-as-place-2 Inv-loop μ-loop
-mul-as-place-2 c = search needs
+mul-as-index-2 : tie.Need-mul-as-index-2 Inv-loop μ-loop
+mul-as-index-2 c = search needs
 
-shared-slice-read-as-place-2 : tie.Need-shared-slice-read-as-place-2 Inv-loop μ-loop
-shared-slice-read-as-place-2 c = search needs
+shared-slice-read-as-index-2 : tie.Need-shared-slice-read-as-index-2 Inv-loop μ-loop
+shared-slice-read-as-index-2 c = search needs
 
-as-place-requires-2 : tie.Need-as-place-requires-2 Inv-loop μ-loop
-as-place-requires-2 c κs = search needs
+as-index-requires-2 : tie.Need-as-index-requires-2 Inv-loop μ-loop
+as-index-requires-2 c κs = search needs
 
 add-steps : tie.Need-add-steps Inv-loop μ-loop
 add-steps c = search needs
@@ -93,7 +93,7 @@ loop-less c =
     let o = t .before .before .before .before .before .before .before in
     let a = o .args in
     used-lower (a .words .now) (a .from) (a .index .now) (a .base) (a .n) (o .pre .2) (a .x) (l .at) (l .inv) _ (t .loop-test .taken)
-    (c .as-place2 .ensures)
+    (c .as-index2 .ensures)
 
 loop-again : tie.Need-loop-again Inv-loop μ-loop
 loop-again c =
@@ -102,7 +102,7 @@ loop-again c =
     let o = t .before .before .before .before .before .before .before in
     let a = o .args in
     used-next (a .words .now) (a .from) (a .index .now) (a .base) (a .n) (o .pre .2) (a .x) (l .at) (l .inv) _ (t .loop-test .taken)
-    (ne-eqb _ _ (c .before .before .before .if1 .left)) (c .as-place2 .ensures)
+    (ne-eqb _ _ (c .before .before .before .if1 .left)) (c .as-index2 .ensures)
 
 returns-3 : tie.Need-returns-3 Inv-loop μ-loop
 returns-3 c =
@@ -118,10 +118,10 @@ is-used-spec =
     Inv-loop
     μ-loop
     low-bits-requires
-    add-as-place
-    mul-as-place
-    shared-slice-read-as-place
-    as-place-requires
+    add-as-index
+    mul-as-index
+    shared-slice-read-as-index
+    as-index-requires
     loop-holds
     sub-j
     mul-if1
@@ -132,11 +132,11 @@ is-used-spec =
     returns
     scanned-requires
     returns-2
-    add-as-place-2
-    add-as-place-3
-    mul-as-place-2
-    shared-slice-read-as-place-2
-    as-place-requires-2
+    add-as-index-2
+    add-as-index-3
+    mul-as-index-2
+    shared-slice-read-as-index-2
+    as-index-requires-2
     add-steps
     loop-less
     loop-again

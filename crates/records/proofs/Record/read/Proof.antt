@@ -1,6 +1,5 @@
 -- `records::Record::read` meets its contract. Assumes nothing.
 use mathlib.Core.Path.{_∙_, ap}
-use lib.Dec.{eqb}
 use lib.ListN.{length}
 use borrow.Author.Needs.{needs}
 use borrow.Author.Tests.{eq-eqb, ne-eqb}
