@@ -158,7 +158,8 @@ HomePlacesLeft =
     (homes : List ℕ) (fars farTotal : ℕ) → homeOpeningRefusal homes fars farTotal ≡ 0 → (ds : List Call)
     → HomePlacesLeftAfter homes fars farTotal ds
 
--- in every state that the home validator accepts, a record that no other refusal stops is refused 41 exactly when no place is left
+-- in every state that the home validator accepts, a record handed in alone that no other refusal stops is refused 41 exactly when no place
+-- is left
 unfoldable pub HomeFullWhenNoneLeft : Type 0
 HomeFullWhenNoneLeft =
     (s : HomeValidator) → HomeSized (homeTablesOf s) → acceptsHome (homeTablesOf s) ≡ true → (b : List ℕ) (r : Record)

@@ -146,7 +146,8 @@ pub record PlacesLeftAfter (homes fars : List ℕ) (ds : List Call) : Type 0 whe
 unfoldable pub PlacesLeft : Type 0
 PlacesLeft = (homes fars : List ℕ) → pairOpeningRefusal homes fars ≡ 0 → (ds : List Call) → PlacesLeftAfter homes fars ds
 
--- in every state that the pair validator accepts, a record that the rules pass is refused 41 exactly when its ledger has no place left
+-- in every state that the pair validator accepts, a record handed in alone that the rules pass is refused 41 exactly when its ledger has
+-- no place left
 unfoldable pub FullWhenNoneLeft : Type 0
 FullWhenNoneLeft =
     (s : PairValidator) → Sized (tablesOf s) → accepts (tablesOf s) ≡ true → (b : List ℕ) (r : Record) → reading b ≡ Read r
