@@ -1,4 +1,5 @@
 -- Proofs of the program's functions. Assumes nothing.
 
+pub mod Begun
 pub mod Started
 pub mod Turning

@@ -1,17 +1,16 @@
 -- A turn of the program's loop: what it leaves, and that as many turns as there are chunks end the listing. Assumes nothing.
-use Prim.Native.Nat.{_*_, _+_, _-_, _<_, _≤_, suc, ℕ}
+use Prim.Native.Nat.{_*_, _+_, _-_, _<_, _≤_, ℕ}
 use mathlib.Core.Bool.{Bool, false, not, true}
 use mathlib.Core.List.{List, [], _∷_}
 use mathlib.Core.Path.{_∙_, _≡_, ap, refl, sym}
 use native.Mathlib.Omega.{arith}
 use lib.Dec.{eqb}
-use lib.ListN.{length, length-take, take}
+use lib.ListN.{length, take}
 use lib.Seq.{length-take-le}
 use borrow.Author.Tests.{eq-eqb, eqb-true, ne-eqb, not-false, not-true}
-use Rattle.block_format.specs.Blocks.{maxBlock}
 use Rattle.block_listing.specs.Runs.{Bounded, StandsAt, standing}
 use Rattle.block_listing.specs.declared.Run.{Run}
-use Rattle.journal_listing.specs.Turns.{Reached, Turned, afterTurn, firstRun, goesOn, here, resumedRun, turned}
+use Rattle.journal_listing.specs.Turns.{Reached, Turned, firstRun, goesOn, here, resumedRun, turned}
 use Rattle.journal_listing.specs.declared.TurnResult.{TurnResult}
 use Rattle.listing.proofs.Blocks.{went-on}
 use Rattle.listing.proofs.Chunked.{chunk-count}

@@ -1,23 +1,31 @@
--- The turns of the program's loop over a journal: what a turn leaves, and what is left once the loop has ended. A contract cannot say what
--- the system read or wrote: how many bytes a turn read, and whether its text was written, is what it tells of itself. For inner functions
--- only. Assumes nothing.
-use Prim.Native.Nat.{_≤_, ℕ}
+-- The turns of the program's loop over a journal: what a turn leaves, what is left once the loop has ended, and a whole listing. A
+-- contract cannot say what the system read or wrote: how many bytes were read, and whether a text was written, is what the program tells
+-- of itself. For inner functions only. Assumes nothing.
+use Prim.Native.Nat.{_*_, _≤_, ℕ}
 use mathlib.Core.Bool.{Bool, false, true}
-use mathlib.Core.List.{List, [], _∷_}
+use mathlib.Core.List.{List, [], _∷_, _++_}
 use mathlib.Core.Path.{_≡_}
 use lib.Dec.{eqb}
-use lib.ListN.{length, take}
+use lib.ListN.{drop, length, replicate, take}
 use Rattle.block_listing.specs.Runs.{standing}
 use Rattle.block_listing.specs.declared.Run.{Run}
+use Rattle.journal_listing.specs.declared.ListResult.{ListResult}
 use Rattle.journal_listing.specs.declared.TurnResult.{TurnResult}
-use Rattle.listing.specs.Chunks.{afterChunk, chunkSize, chunkText}
-use Rattle.listing.specs.Listing.{Standing}
+use Rattle.ledgers.specs.Limits.{capacity}
+use Rattle.lines.specs.Lines.{headerLine}
+use Rattle.listing.specs.Chunks.{afterChunk, chunkSize, chunkText, openedBy}
+use Rattle.listing.specs.Listing.{Standing, openingText}
+use Rattle.pair_steps.specs.Steps.{lent}
 use Rattle.pair_validator.specs.declared.PairValidator.{PairValidator}
 use Rattle.wire.specs.BigEndian.{every}
 
 -- the run of an accepted opening, before block 2, with the count of block 1
 abbrev pub firstRun : ℕ → Run
 firstRun before = record { index = 0; block = 2; before = before; end = 0; going = true }
+
+-- what stands for the turn before the first
+abbrev pub noTurn : ℕ → TurnResult
+noTurn before = record { run = firstRun before; read = 0; text = 0; written = true }
 
 -- a run that has the buffer to itself again
 abbrev pub resumedRun : Run → Bool → Run
@@ -58,3 +66,42 @@ pub record Ended (p : Standing PairValidator) (input out : List ℕ) (t : TurnRe
   pub reached : Reached p from
   pub last : Turned from input out t s
   pub stops : t .run .going ≡ false
+
+-- ## A whole journal
+
+-- the text of the opening in a journal's first bytes, and where it is accepted the text of the rest
+abbrev pub startText : List ℕ → List ℕ → List ℕ
+startText bytes rest = openingText (take 512 bytes) (take 512 (drop 512 bytes)) rest
+
+-- the state in lent columns that hold no record yet
+abbrev pub lentEmpty : ℕ → List ℕ → List ℕ → PairValidator
+lentEmpty supply accounts balances =
+    lent supply accounts (replicate 2 0) balances (replicate (2 * capacity) 0) (replicate (2 * capacity) 0) (replicate (2 * capacity) 0)
+    (replicate (2 * capacity) 0) (replicate (2 * capacity) 0) (replicate (2 * capacity) 0) (replicate (2 * capacity) 0)
+
+-- a listing of the opening alone: no turn was made after it
+abbrev pub openingAlone : ℕ → ℕ → Bool → Bool → ListResult
+openingAlone first end printed opened = record { first = first; end = end; printed = printed; opened = opened; last = noTurn 0 }
+
+-- a last turn from p, whatever it read, handed on and left
+pub record SomeEnd (p : Standing PairValidator) (t : TurnResult) : Type 0 where
+  pub input : List ℕ
+  pub out : List ℕ
+  pub state : PairValidator
+  pub ended : Ended p input out t state
+
+-- a journal's listing, as it tells of itself, for some bytes and texts, since its buffers are its own: as many bytes as it says it read
+-- first, no more than blocks 0 and 1, and the text that it says it handed on first is theirs; where that was not written, or the opening
+-- was refused, after which a listing has no text, no turn was made; else the rest's text comes after it, and turns led from the opening to
+-- a last one, after which the listing does not go on
+pub record Listed (r : ListResult) : Type 0 where
+  pub bytes : List ℕ
+  pub bytes-long : length bytes ≡ r .first
+  pub bytes-fit : r .first ≤ 1024
+  pub out : List ℕ
+  pub text-fits : r .end ≤ length out
+  pub text-is : take (r .end) out ≡ headerLine ++ startText bytes []
+  pub unprinted : r .printed ≡ false → r .last ≡ noTurn 0
+  pub refused : r .opened ≡ false → (r .last ≡ noTurn 0) × ((rest : List ℕ) → startText bytes rest ≡ startText bytes [])
+  pub accepted : r .opened ≡ true → (rest : List ℕ) → startText bytes rest ≡ startText bytes [] ++ rest
+  pub lists : r .printed ≡ true → r .opened ≡ true → SomeEnd (openedBy (take 512 bytes) (take 512 (drop 512 bytes))) (r .last)

@@ -1,13 +1,17 @@
 // Lists a journal: reads it from one file and prints its lines to another, in chunks of 64 blocks. That the chunks' texts are the
-// listing is proved (crates listing, opening_listing, block_listing), and so is what a turn makes of the bytes that it was handed and that
-// the last turn is one after which the listing does not go on. What is read and written is read off the code (docs/DECISIONS.md, 47).
+// listing is proved (crates listing, opening_listing, block_listing), and so is what is made of the bytes that were handed over, from the
+// opening to a turn after which the listing does not go on. What is read and written is read off the code (docs/DECISIONS.md, 47).
+ghost use Prim.Native.Nat.{_*_};
 ghost use mathlib.Core.Path.{_≡_};
-ghost use lib.ListN.{length};
+ghost use lib.ListN.{length, replicate};
 ghost use Rattle.block_listing.specs.Runs.{Bounded, standing};
 ghost use Rattle.hex_digits.specs.Hex.{pairTable};
-ghost use Rattle.journal_listing.specs.Turns.{Ended, Turned, firstRun, goesOn, resumedRun};
+ghost use Rattle.journal_listing.specs.Turns.{Ended, Listed, SomeEnd, Turned, firstRun, goesOn, lentEmpty, noTurn};
+ghost use Rattle.journal_listing.specs.Turns.{openingAlone, resumedRun};
+ghost use Rattle.ledgers.specs.Limits.{capacity};
 ghost use Rattle.listing.specs.Chunks.{chunkRoom, chunkSize};
 ghost use Rattle.listing.specs.Listing.{opened};
+ghost use Rattle.number_index.specs.Index.{chainCount};
 ghost use Rattle.pair_steps.specs.Steps.{Ready, lent};
 use block_format::BLOCK_SIZE;
 use block_format::RECORDS;
@@ -15,6 +19,7 @@ use block_listing::Run;
 use block_listing::list_chunk;
 use hex_digits::pairs;
 use lines::LINE;
+use opening_listing::Start;
 use opening_listing::list_start;
 use pair_tables::HEADS;
 use pair_tables::PLACES;
@@ -33,11 +38,21 @@ const CHUNKS: u64 = 1024;
 
 // What a turn leaves: where the listing stands, the bytes that it read, the length of the text that it handed on, and whether that was
 // written.
-struct TurnResult {
-    run: Run,
-    read: usize,
-    text: usize,
-    written: bool,
+pub struct TurnResult {
+    pub run: Run,
+    pub read: usize,
+    pub text: usize,
+    pub written: bool,
+}
+
+// What a listing leaves: the bytes that it read first, the end of the text that it handed on first, whether that was written and the
+// opening accepted, and the last turn after it.
+pub struct ListResult {
+    pub first: usize,
+    pub end: usize,
+    pub printed: bool,
+    pub opened: bool,
+    pub last: TurnResult,
 }
 
 // The run of an accepted opening, with the count of block 1.
@@ -50,6 +65,18 @@ fn first_run(before: u64) -> Run
         before,
         end: 0,
         going: true,
+    }
+}
+
+// What stands for the turn before the first.
+fn no_turn(before: u64) -> TurnResult
+    ensures { λ r. ⌜ r ≡ noTurn before ⌝ }
+{
+    TurnResult {
+        run: first_run(before),
+        read: 0,
+        text: 0,
+        written: true,
     }
 }
 
@@ -180,12 +207,7 @@ fn list_rest<'a>(
         (now (accounts .entry)) (now (counts .exit)) (now (balances .exit)) (now (numbers .exit)) (now (amounts .exit))
         (now (senders .exit)) (now (receivers .exit)) (now (kinds .exit)) (now (ledgers .exit)) (now (verdicts .exit))) ⌝ }
 {
-    let mut last = TurnResult {
-        run: first_run(before),
-        read: 0,
-        text: 0,
-        written: true,
-    };
+    let mut last = no_turn(before);
     let mut turns = CHUNKS;
     while 0 < turns {
         let run = last.run;
@@ -219,16 +241,23 @@ fn list_rest<'a>(
     last
 }
 
-// The listing of the journal in the file `source`, to the file `target` (descriptors). Not published, and without an `ensures`: a
-// contract cannot say what is read or written (docs/DECISIONS.md, 47).
-pub fn list(source: i32, target: i32) {
+// The rest of a journal after an accepted opening, with columns that hold no record yet: the last turn.
+fn list_opened<'a>(
+    source: i32,
+    target: i32,
+    start: Start,
+    out: &'a mut [u8],
+    figures: &'a mut [u64],
+    accounts: &'a [usize],
+    balances: &'a mut [u64],
+) -> TurnResult
+    requires { ⌜ (length (now out) ≡ chunkRoom) × Ready (lentEmpty (start .supply) (now accounts) (now balances)) (now figures)
+        (replicate (2 * chainCount) 0) (replicate (2 * capacity) 0) ⌝ }
+    ensures { λ r. ⌜ SomeEnd (opened (lentEmpty (start .supply) (now (accounts .entry)) (now (balances .entry))) (start .before)) r ⌝ }
+{
     let digits = pairs();
     let mut input = [0u8; CHUNK];
-    let mut out = [0u8; TEXT];
-    let mut figures = [0u64; 3];
-    let mut accounts = [0usize; 2];
     let mut counts = [0usize; 2];
-    let mut balances = [0u64; ACCOUNTS];
     let mut numbers = [0u64; PLACES];
     let mut amounts = [0u64; PLACES];
     let mut senders = [0u16; PLACES];
@@ -238,34 +267,18 @@ pub fn list(source: i32, target: i32) {
     let mut verdicts = [0u8; PLACES];
     let mut heads = [0u16; HEADS];
     let mut nexts = [0u16; PLACES];
-    let mut opening = [0u8; OPENING];
-    let read = io::read_full(source, &mut opening);
-    let start = list_start(
-        &opening[..read],
-        &mut out,
-        &mut figures,
-        &mut accounts,
-        &mut balances,
-    );
-    let end = start.end;
-    if !io::write_all(target, &out[..end]) {
-        return;
-    }
-    if !start.going {
-        return;
-    }
     list_rest(
         source,
         target,
         start.before,
         &mut input,
         &digits,
-        &mut out,
+        out,
         start.supply,
-        &mut figures,
-        &accounts,
+        figures,
+        accounts,
         &mut counts,
-        &mut balances,
+        balances,
         &mut numbers,
         &mut amounts,
         &mut senders,
@@ -275,5 +288,64 @@ pub fn list(source: i32, target: i32) {
         &mut verdicts,
         &mut heads,
         &mut nexts,
+    )
+}
+
+// A listing of the opening alone: no turn was made after it.
+fn opening_alone(first: usize, end: usize, printed: bool, opened: bool) -> ListResult
+    ensures { λ r. ⌜ r ≡ openingAlone first end printed opened ⌝ }
+{
+    ListResult {
+        first,
+        end,
+        printed,
+        opened,
+        last: no_turn(0),
+    }
+}
+
+// The listing of the journal in the file `source`, to the file `target` (descriptors): the opening, and where it was written and accepted
+// the rest. Not published: a contract cannot say what is read or written (docs/DECISIONS.md, 47).
+pub fn list(source: i32, target: i32) -> ListResult
+    ensures { λ r. ⌜ Listed r ⌝ }
+{
+    let mut out = [0u8; TEXT];
+    let mut figures = [0u64; 3];
+    let mut accounts = [0usize; 2];
+    let mut balances = [0u64; ACCOUNTS];
+    let mut opening = [0u8; OPENING];
+    let first = io::read_full(source, &mut opening);
+    let start = list_start(
+        &opening[..first],
+        &mut out,
+        &mut figures,
+        &mut accounts,
+        &mut balances,
     );
+    let end = start.end;
+    let printed = io::write_all(target, &out[..end]);
+    let opened = start.going;
+    let alone = opening_alone(first, end, printed, opened);
+    if !printed {
+        return alone;
+    }
+    if !opened {
+        return alone;
+    }
+    let last = list_opened(
+        source,
+        target,
+        start,
+        &mut out,
+        &mut figures,
+        &accounts,
+        &mut balances,
+    );
+    ListResult {
+        first,
+        end,
+        printed,
+        opened,
+        last,
+    }
 }

@@ -12,6 +12,7 @@ use Rattle.block_listing.specs.declared.Run.{Run}
 use Rattle.journal_listing.proofs.Turning.{first-bounded, first-goes, first-numbers, first-reached, numberAfter, numbers-next}
 use Rattle.journal_listing.proofs.Turning.{reached-next, turns-end}
 use Rattle.journal_listing.specs.Turns.{Ended, Reached}
+use Rattle.journal_listing.specs.declared.TurnResult.{TurnResult}
 use Rattle.listing.specs.Listing.{opened}
 use Rattle.pair_steps.specs.Steps.{Ready, lent}
 use Rattle.journal_listing.proofs.list_rest.Statement.{statement}
@@ -37,11 +38,11 @@ abbrev μ-loop : tie.MeasureT-loop
     verdicts heads nexts last turns =
     turns
 
-first-run-requires : tie.Need-first-run-requires Inv-loop μ-loop
-first-run-requires c κs = search needs
+no-turn-requires : tie.Need-no-turn-requires Inv-loop μ-loop
+no-turn-requires c κs = search needs
 
 -- the state is ready
-ready-at : (c : tie.After-first-run Inv-loop μ-loop) → Ready (lent (c .before .before .before .before .before .before .before .before
+ready-at : (c : tie.After-no-turn Inv-loop μ-loop) → Ready (lent (c .before .before .before .before .before .before .before .before
     .before .before .before .before .before .before .before .before .args .supply) (c .before .before .before .before .before .before
     .before .before .before .before .before .before .before .before .before .before .args .accounts .now) (c .before .before .before
     .before .before .before .before .before .before .before .before .before .before .before .before .before .args .counts .now) (c
@@ -67,8 +68,8 @@ loop-holds : tie.Need-loop-holds Inv-loop μ-loop
 loop-holds c =
     let c16 = c .before .before .before .before .before .before .before .before .before .before .before .before .before .before .before
     .before in
-    let r = c .first-run .result in
-    let e = c .first-run .ensures in (
+    let r = c .no-turn .result .run in
+    let e = ap (λ (t : TurnResult). t .run) (c .no-turn .ensures) in (
       first-bounded r _ e,
       ap (λ (x : Run). x .end) e,
       c16 .pre .0,
@@ -274,7 +275,7 @@ list-rest-spec =
     (tie.spec
     Inv-loop
     μ-loop
-    first-run-requires
+    no-turn-requires
     loop-holds
     same-length
     same-length-2

@@ -1,6 +1,6 @@
 -- `opening_listing::list_start` meets its contract. Assumes nothing.
-use Prim.Native.Nat.{_≤_, _-_, ℕ}
-use mathlib.Core.Path.{_∙_, _≡_, sym}
+use Prim.Native.Nat.{_≤_, _-_}
+use mathlib.Core.Path.{_≡_, sym}
 use native.Mathlib.Omega.{arith}
 use lib.ListN.{drop, length, take}
 use lib.Seq.{length-take-le}
