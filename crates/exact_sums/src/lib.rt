@@ -56,7 +56,7 @@ impl Wide {
     }
 
     // high * 2^32 + low more: sums of the halves of numbers.
-    fn add_halves(self, high: u64, low: u64) -> Wide
+    pub fn add_halves(self, high: u64, low: u64) -> Wide
         requires { ⌜ (self .low < 2 ^ 63) × (low < 2 ^ 63) × (self .high * 2 ^ 31 + high < 65535 * 2 ^ 31) ⌝ }
         ensures { λ r. ⌜ (wide r ≡ wide self + (high * 2 ^ 32 + low)) × (r .low < 2 ^ 63) ⌝ }
     {

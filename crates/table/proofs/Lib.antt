@@ -3,5 +3,9 @@
 pub mod Limits
 pub mod Holding
 pub mod Records
+pub mod Numbers
 pub mod Walking
+pub mod Crossings
 pub mod Growing
+pub mod Storing
+pub mod Sums

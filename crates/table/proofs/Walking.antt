@@ -1,24 +1,31 @@
--- Walks down the chain of a number of a table. Assumes nothing.
+-- Walks down the chain of a number of a table, for a test that only places with the number meet. Assumes nothing.
 use Prim.Native.Nat.{_%_, _+_, _-_, _<_, ℕ}
-use mathlib.Core.Bool.{false, true}
+use mathlib.Core.Bool.{Bool, false, true}
 use mathlib.Core.List.{List}
 use mathlib.Core.Path.{_≡_}
 use lib.ListN.{getD}
 use borrow.Author.Tests.{eqb-true}
 use Rattle.number_index.proofs.Walks.{WalkOver, over-end, over-first, over-found, over-lower, over-next}
 use Rattle.number_index.specs.Index.{chainCount}
-use Rattle.table.specs.Table.{IndexOf, numberAt, numberedAt}
+use Rattle.table.specs.Table.{IndexOf, numberAt, numberedAt, sentAt}
 use Rattle.tables.specs.Places.{anyAt}
+use Rattle.wire.proofs.Lists.{every-first}
 
 -- a place with a number has the number
 pub numbered : (x : ℕ) (s : List ℕ) (from j : ℕ) → numberedAt x s from j ≡ true → x ≡ numberAt s from j
 numbered x s from j h = eqb-true x (numberAt s from j) h
 
--- a walk for a number of the table
-abbrev pub WalkFor : List ℕ → ℕ → ℕ → ℕ → ℕ → Type 0
-WalkFor s from n x at = WalkOver (numberAt s from) n (numberedAt x s from) x at
+-- and so has a place with a number, a head and an amount
+pub sent-numbered : (x head amount : ℕ) (s : List ℕ) (from j : ℕ) → sentAt x head amount s from j ≡ true → x ≡ numberAt s from j
+unfolding sentAt
+sent-numbered x head amount s from j h = eqb-true x (numberAt s from j) (every-first _ _ h .0)
 
-module _ (s : List ℕ) (from : ℕ) (index : List ℕ) (base n : ℕ) (c : IndexOf s from index base n) (x : ℕ) where
+-- a walk for a test of places with number x
+abbrev pub WalkFor : List ℕ → ℕ → ℕ → (ℕ → Bool) → ℕ → ℕ → Type 0
+WalkFor s from n p x at = WalkOver (numberAt s from) n p x at
+
+module _ (s : List ℕ) (from : ℕ) (index : List ℕ) (base n : ℕ) (c : IndexOf s from index base n) (p : ℕ → Bool) (x : ℕ)
+    (has : (j : ℕ) → p j ≡ true → x ≡ numberAt s from j) where
   abbrev heads : ℕ → ℕ
   heads h = getD index (base + h) 0
 
@@ -26,23 +33,22 @@ module _ (s : List ℕ) (from : ℕ) (index : List ℕ) (base n : ℕ) (c : Inde
   nexts k = getD index (base + chainCount + k) 0
 
   -- it starts at the head
-  pub used-first : (at h : ℕ) → h ≡ x % chainCount → at ≡ getD index (base + h) 0 → WalkFor s from n x at
-  used-first = over-first (numberAt s from) heads nexts n c (numberedAt x s from) x (numbered x s from)
+  pub walk-first : (at h : ℕ) → h ≡ x % chainCount → at ≡ getD index (base + h) 0 → WalkFor s from n p x at
+  walk-first = over-first (numberAt s from) heads nexts n c p x has
 
-  module _ (at : ℕ) (w : WalkFor s from n x at) where
+  module _ (at : ℕ) (w : WalkFor s from n p x at) where
     -- it goes on
-    pub used-next : (to : ℕ) → 0 < at → numberedAt x s from (at - 1) ≡ false → to ≡ getD index (base + chainCount + (at - 1)) 0
-        → WalkFor s from n x to
-    used-next = over-next (numberAt s from) heads nexts n c (numberedAt x s from) x (numbered x s from) at w
+    pub walk-next : (to : ℕ) → 0 < at → p (at - 1) ≡ false → to ≡ getD index (base + chainCount + (at - 1)) 0 → WalkFor s from n p x to
+    walk-next = over-next (numberAt s from) heads nexts n c p x has at w
 
     -- to a lower place
-    pub used-lower : (to : ℕ) → 0 < at → to ≡ getD index (base + chainCount + (at - 1)) 0 → to < at
-    used-lower = over-lower (numberAt s from) heads nexts n c (numberedAt x s from) x (numbered x s from) at w
+    pub walk-lower : (to : ℕ) → 0 < at → to ≡ getD index (base + chainCount + (at - 1)) 0 → to < at
+    walk-lower = over-lower (numberAt s from) heads nexts n c p x has at w
 
-    -- it finds the number
-    pub used-found : 0 < at → numberedAt x s from (at - 1) ≡ true → anyAt (numberedAt x s from) 0 n ≡ true
-    used-found = over-found (numberAt s from) heads nexts n c (numberedAt x s from) x (numbered x s from) at w
+    -- it finds a place
+    pub walk-found : 0 < at → p (at - 1) ≡ true → anyAt p 0 n ≡ true
+    walk-found = over-found (numberAt s from) heads nexts n c p x has at w
 
-    -- or none has it
-    pub used-end : at ≡ 0 → anyAt (numberedAt x s from) 0 n ≡ false
-    used-end = over-end (numberAt s from) heads nexts n c (numberedAt x s from) x (numbered x s from) at w
+    -- or none meets the test
+    pub walk-end : at ≡ 0 → anyAt p 0 n ≡ false
+    walk-end = over-end (numberAt s from) heads nexts n c p x has at w

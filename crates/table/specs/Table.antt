@@ -1,20 +1,23 @@
 -- A ledger's table in the words of a state: the record at place i is kept as the four words of its 32 bytes, from word `from + 4 * i` on,
 -- and is what they read as. Assumes nothing.
-use Prim.Native.Nat.{ℕ, _+_, _*_, _^_}
-use mathlib.Core.Bool.{Bool, false, _&&_}
+use Prim.Native.Nat.{ℕ, _+_, _*_, _%_, _^_}
+use mathlib.Core.Bool.{Bool, cond, false, not, _&&_, _||_}
 use mathlib.Core.List.{List, [], _∷_}
 use lib.Dec.{eqb}
-use lib.ListN.{getD}
+use lib.ListN.{drop, getD, set, take}
 use Rattle.ledgers.specs.declared.Ledger.{Ledger}
 use Rattle.ledgers.specs.declared.Ledger.the-variants.{Far, Home}
 use Rattle.number_index.specs.Index.{Chains, chainCount}
-use Rattle.records.specs.Records.{readingWords, recordIn}
+use Rattle.records.specs.Records.{readingWords, recordIn, within}
 use Rattle.records.specs.declared.Reading.{Reading}
 use Rattle.records.specs.declared.Reading.the-variants.{Read, Unreadable}
 use Rattle.records.specs.declared.Record.{Record}
 use Rattle.records.specs.declared.Words.{Words}
 use Rattle.rules.specs.PairValidator.{heldAllowed, standsUnder}
-use Rattle.tables.specs.Places.{listAt}
+use Rattle.rules.specs.Rules.{LedgerState}
+use Rattle.tables.specs.Columns.{movedAt}
+use Rattle.tables.specs.Places.{anyAt, listAt}
+use Rattle.wire.specs.BigEndian.{every}
 
 -- ## The records
 
@@ -83,3 +86,51 @@ numberedAt x s from i = eqb x (numberAt s from i)
 abbrev pub IndexOf : List ℕ → ℕ → List ℕ → ℕ → ℕ → Type 0
 IndexOf s from index base n =
     Chains (numberAt s from) (λ (h : ℕ). getD index (base + h) 0) (λ (k : ℕ). getD index (base + chainCount + k) 0) n
+
+-- ## Arrivals and their sendings
+
+-- the head of the record at a place
+abbrev pub headAt : List ℕ → ℕ → ℕ → ℕ
+headAt s from i = getD s (from + 4 * i) 0
+
+-- its amount
+abbrev pub amountAt : List ℕ → ℕ → ℕ → ℕ
+amountAt s from i = getD s (from + 4 * i + 2) 0
+
+-- the head of an arrival's sending, by the byte of the ledger that holds the sending and the arrival's own head
+abbrev pub sendingHead : ℕ → ℕ → ℕ
+sendingHead o head = 2 * 2 ^ 56 + o * 2 ^ 48 + head % 2 ^ 48
+
+-- the record at a place has a number, a head and an amount
+unfoldable pub sentAt : ℕ → ℕ → ℕ → List ℕ → ℕ → ℕ → Bool
+sentAt number head amount s from i =
+    every (eqb number (numberAt s from i) ∷ eqb head (headAt s from i) ∷ eqb amount (amountAt s from i) ∷ [])
+
+-- words are of no arrival, or its sending is one of the n records from a word on, of the ledger with byte o
+unfoldable pub backedBy : List ℕ → ℕ → ℕ → ℕ → Words → Bool
+backedBy s o others n w =
+    not (eqb (within 0 1 (w .head)) 3) || anyAt (sentAt (w .number) (sendingHead o (w .head)) (w .amount) s others) 0 n
+
+-- those at a place
+abbrev pub backedAt : List ℕ → ℕ → ℕ → ℕ → ℕ → ℕ → Bool
+backedAt s from o others n i = backedBy s o others n (wordsAt s from i)
+
+-- the amount at place i where its kind is a given byte
+abbrev pub flowAt : ℕ → List ℕ → ℕ → ℕ → ℕ
+flowAt kind s from i = cond (eqb (within 0 1 (headAt s from i)) kind) (amountAt s from i) 0
+
+-- ## A ledger
+
+-- the ledger whose balances and whose held records stand from two words on, with as many of each as it has
+unfoldable pub ledgerIn : List ℕ → ℕ → ℕ → ℕ → ℕ → LedgerState
+ledgerIn s balances accounts records count =
+    record { balances = take accounts (drop balances s); passed = recordsFrom s records count }
+
+-- the words with a record's own from a word on
+abbrev pub withWords : List ℕ → ℕ → Words → List ℕ
+withWords s at w =
+    set (set (set (set s at (w .head)) (at + 1) (w .number)) (at + 2) (w .amount)) (at + 3) (w .tail)
+
+-- the words once a record has passed on the ledger whose balances stand from a word on, with the record's own from word `at` on
+unfoldable pub stored : List ℕ → ℕ → ℕ → Words → Record → List ℕ
+stored s balances at w r = withWords (movedAt s balances r) at w

@@ -1,16 +1,24 @@
 // A ledger's table: held records of four words each, from a word of the state on, and the index of their numbers.
 ghost use Prim.Native.Nat.{_+_, _*_, _/_, _%_, _^_, _<_, _≤_};
-ghost use mathlib.Core.Bool.{true, _&&_};
+ghost use mathlib.Core.Bool.{cond, true, _&&_};
 ghost use mathlib.Core.Path.{_≡_};
+ghost use lib.Dec.{eqb};
 ghost use lib.ListN.{getD, length, set};
+ghost use Rattle.entries.specs.Entries.{givenBy, takenBy};
+ghost use Rattle.exact_sums.specs.Sums.{Added};
 ghost use Rattle.ledgers.specs.Ledgers.{ledgerAt};
 ghost use Rattle.ledgers.specs.Limits.{accountLimit, capacity};
 ghost use Rattle.number_index.specs.Index.{Kept, chainCount};
-ghost use Rattle.records.specs.Records.{readingWords};
+ghost use Rattle.records.specs.Records.{readingWords, within};
 ghost use Rattle.table.specs.Table.{accountsBy, headLimits, mayHold, mayHoldAt, receiverLimits, wordsAt};
-ghost use Rattle.table.specs.Table.{IndexOf, numberAt, numberedAt};
-ghost use Rattle.tables.specs.Places.{allAt, anyAt, apartAt};
+ghost use Rattle.rules.specs.Lists.{lowered, raised};
+ghost use Rattle.table.specs.Table.{IndexOf, backedAt, backedBy, flowAt, numberAt, numberedAt, sendingHead, sentAt, stored, withWords};
+ghost use Rattle.tables.specs.Places.{allAt, anyAt, apartAt, sumAt};
 use entries::as_index;
+use entries::given_by;
+use entries::taken_by;
+use exact_sums::Flows;
+use exact_sums::Wide;
 use number_index::CHAINS;
 use number_index::low_bits;
 use number_index::next_place;
@@ -205,4 +213,206 @@ pub fn hold_indexed<'a, 'b>(
         i += 1;
     }
     true
+}
+
+// ## Arrivals and their sendings
+
+// The head of an arrival's sending, by the byte of the ledger that holds the sending and the arrival's own head.
+pub fn sending_head(o: u64, head: u64) -> u64
+    requires { ⌜ o ≤ 1 ⌝ }
+    ensures { λ r. ⌜ r ≡ sendingHead o head ⌝ }
+{
+    2 * BYTE + o * TWO_BYTES + head % TWO_BYTES
+}
+
+// Whether the record at a place has a number, a head and an amount.
+fn sent_at(words: &[u64], from: usize, i: usize, number: u64, head: u64, amount: u64) -> bool
+    requires { ⌜ from + 4 * i + 4 ≤ length (now words) ⌝ }
+    ensures { λ b. ⌜ b ≡ sentAt number head amount (now (words .entry)) from i ⌝ }
+{
+    let at = from + 4 * i;
+    if number != words[at + 1] {
+        return false;
+    }
+    if head != words[at] {
+        return false;
+    }
+    amount == words[at + 2]
+}
+
+// Whether one of n records has them, by a scan.
+fn scanned_sent(words: &[u64], from: usize, n: usize, number: u64, head: u64, amount: u64) -> bool
+    requires { ⌜ from + 4 * n ≤ length (now words) ⌝ }
+    ensures { λ b. ⌜ b ≡ anyAt (sentAt number head amount (now (words .entry)) from) 0 n ⌝ }
+{
+    let mut i = 0;
+    while i < n {
+        if sent_at(words, from, i, number, head, amount) {
+            return true;
+        }
+        i += 1;
+    }
+    false
+}
+
+// Whether one of n records has a number, a head and an amount.
+pub fn is_sent<'a>(
+    words: &'a [u64],
+    index: &'a [u16],
+    from: usize,
+    base: usize,
+    n: usize,
+    number: u64,
+    head: u64,
+    amount: u64,
+) -> bool
+    requires { ⌜ (from + 4 * n ≤ length (now words)) × (base + chainCount + n ≤ length (now index))
+        × IndexOf (now words) from (now index) base n ⌝ }
+    ensures { λ b. ⌜ b ≡ anyAt (sentAt number head amount (now (words .entry)) from) 0 n ⌝ }
+{
+    let mut at = as_index(index[base + low_bits(number)]);
+    let mut steps = 0;
+    while 0 < at {
+        let j = at - 1;
+        if sent_at(words, from, j, number, head, amount) {
+            return true;
+        }
+        if STEPS <= steps {
+            return scanned_sent(words, from, n, number, head, amount);
+        }
+        at = as_index(index[base + CHAINS + j]);
+        steps += 1;
+    }
+    false
+}
+
+// Whether words are of no arrival, or its sending is among the n records of the ledger with byte o, whose index this is.
+pub fn is_backed<'a>(
+    words: &'a [u64],
+    index: &'a [u16],
+    o: u64,
+    others: usize,
+    base: usize,
+    n: usize,
+    w: Words,
+) -> bool
+    requires { ⌜ (others + 4 * n ≤ length (now words)) × (base + chainCount + n ≤ length (now index))
+        × IndexOf (now words) others (now index) base n × (o ≤ 1) ⌝ }
+    ensures { λ b. ⌜ b ≡ backedBy (now (words .entry)) o others n w ⌝ }
+{
+    if w.head / BYTE % 256 != 3 {
+        return true;
+    }
+    let head = sending_head(o, w.head);
+    is_sent(words, index, others, base, n, w.number, head, w.amount)
+}
+
+// Whether each arrival of m records has its sending among the n records of the ledger with byte o, whose index this is.
+pub fn all_backed<'a>(
+    words: &'a [u64],
+    index: &'a [u16],
+    from: usize,
+    m: usize,
+    o: u64,
+    others: usize,
+    base: usize,
+    n: usize,
+) -> bool
+    requires { ⌜ (from + 4 * m ≤ length (now words)) × (others + 4 * n ≤ length (now words))
+        × (base + chainCount + n ≤ length (now index)) × IndexOf (now words) others (now index) base n × (o ≤ 1) ⌝ }
+    ensures { λ b. ⌜ b ≡ allAt (backedAt (now (words .entry)) from o others n) 0 m ⌝ }
+{
+    let mut i = 0;
+    while i < m {
+        let w = words_at(words, from, i);
+        if !is_backed(words, index, o, others, base, n, w) {
+            return false;
+        }
+        i += 1;
+    }
+    true
+}
+
+// The amount of words whose kind is the one that is wanted.
+fn counted(w: Words, kind: u64) -> u64
+    ensures { λ r. ⌜ r ≡ cond (eqb (within 0 1 (w .head)) kind) (w .amount) 0 ⌝ }
+{
+    if w.head / BYTE % 256 == kind {
+        return w.amount;
+    }
+    0
+}
+
+// The amounts of the sendings and of the arrivals of n records added.
+pub fn add_crossings(words: &[u64], from: usize, n: usize, sent: Wide, received: Wide) -> Flows
+    requires { ⌜ (from + 4 * n ≤ length (now words)) × (sent .low < 2 ^ 63) × (sent .high + 2 * n < 65535) × (received .low < 2 ^ 63)
+        × (received .high + 2 * n < 65535) ⌝ }
+    ensures sent { λ w. ⌜ Added sent (sumAt (flowAt 2 (now (words .entry)) from) 0 n) (2 * n) (w .sent) ⌝ }
+    ensures received { λ w. ⌜ Added received (sumAt (flowAt 3 (now (words .entry)) from) 0 n) (2 * n) (w .received) ⌝ }
+{
+    let mut sent_high: u64 = 0;
+    let mut sent_low: u64 = 0;
+    let mut received_high: u64 = 0;
+    let mut received_low: u64 = 0;
+    let mut i = 0;
+    while i < n {
+        let w = words_at(words, from, i);
+        let x = counted(w, 2);
+        let y = counted(w, 3);
+        sent_high += x / HALF;
+        sent_low += x % HALF;
+        received_high += y / HALF;
+        received_low += y % HALF;
+        i += 1;
+    }
+    let all_sent = sent.add_halves(sent_high, sent_low);
+    let all_received = received.add_halves(received_high, received_low);
+    Flows {
+        sent: all_sent,
+        received: all_received,
+    }
+}
+
+// ## A passed record
+
+// An amount taken from one word, and one given to another.
+fn move_amounts(words: &mut [u64], from: usize, to: usize, taken: u64, given: u64)
+    requires { ⌜ (from < length (now words)) × (to < length (now words)) × (taken ≤ getD (now words) from 0)
+        × (getD (lowered (now words) from taken) to 0 + given < 2 ^ 64) ⌝ }
+    ensures { λ _. ⌜ now (words .exit) ≡ raised (lowered (now (words .entry)) from taken) to given ⌝ }
+{
+    words[from] = words[from] - taken;
+    words[to] = words[to] + given;
+}
+
+// A record's words from word `at` on.
+fn put_words(words: &mut [u64], at: usize, w: Words)
+    requires { ⌜ at + 4 ≤ length (now words) ⌝ }
+    ensures { λ _. ⌜ now (words .exit) ≡ withWords (now (words .entry)) at w ⌝ }
+{
+    words[at] = w.head;
+    words[at + 1] = w.number;
+    words[at + 2] = w.amount;
+    words[at + 3] = w.tail;
+}
+
+// All that a passed record writes to its ledger: what it takes and gives in the balances, and its own words from word `at` on.
+pub fn store(words: &mut [u64], balances: usize, at: usize, w: Words, r: Record)
+    requires { ⌜ (balances + r .sender < length (now words)) × (balances + r .receiver < length (now words)) × (at + 4 ≤ length (now words))
+        × (takenBy (r .kind) (r .amount) ≤ getD (now words) (balances + r .sender) 0)
+        × (getD (lowered (now words) (balances + r .sender) (takenBy (r .kind) (r .amount))) (balances + r .receiver) 0
+        + givenBy (r .kind) (r .amount) < 2 ^ 64) ⌝ }
+    ensures { λ _. ⌜ now (words .exit) ≡ stored (now (words .entry)) balances at w r ⌝ }
+{
+    let kind = r.kind;
+    let from = balances + as_index(r.sender);
+    let to = balances + as_index(r.receiver);
+    move_amounts(
+        words,
+        from,
+        to,
+        taken_by(kind, r.amount),
+        given_by(kind, r.amount),
+    );
+    put_words(words, at, w);
 }

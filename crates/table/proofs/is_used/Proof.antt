@@ -3,12 +3,13 @@ use mathlib.Core.Path.{sym}
 use native.Mathlib.Omega.{arith}
 use borrow.Author.Needs.{needs}
 use borrow.Author.Tests.{eq-eqb, ne-eqb}
-use Rattle.table.proofs.Walking.{WalkFor, used-end, used-first, used-found, used-lower, used-next}
+use Rattle.table.proofs.Walking.{WalkFor, numbered, walk-end, walk-first, walk-found, walk-lower, walk-next}
+use Rattle.table.specs.Table.{numberedAt}
 use Rattle.table.proofs.is_used.Statement.{statement}
 use Rattle.table.proofs.is_used.Tie as tie
 
 abbrev Inv-loop : tie.InvT-loop
-Inv-loop words index from base n x at₀ steps₀ at steps = WalkFor words from n x at
+Inv-loop words index from base n x at₀ steps₀ at steps = WalkFor words from n (numberedAt x words from) x at
 
 abbrev μ-loop : tie.MeasureT-loop
 μ-loop words index from base n x at₀ steps₀ at steps = at
@@ -33,7 +34,8 @@ loop-holds c =
     let o = c .before .before .before .before .before in
     let a = o .args in
     let low = c .before .before .low-bits in
-    used-first (a .words .now) (a .from) (a .index .now) (a .base) (a .n) (o .pre .2) (a .x) _ (low .result) (low .ensures) (c
+    walk-first (a .words .now) (a .from) (a .index .now) (a .base) (a .n) (o .pre .2) _ (a .x) (numbered (a .x) (a .words .now) (a
+    .from)) _ (low .result) (low .ensures) (c
     .as-index .ensures)
 
 sub-j : tie.Need-sub-j Inv-loop μ-loop
@@ -59,7 +61,8 @@ returns c =
     let o = c .before .before .before .before .before .before .before .before .before in
     let a = o .args in
     let l = c .before .before .before .loop in
-    sym (used-found (a .words .now) (a .from) (a .index .now) (a .base) (a .n) (o .pre .2) (a .x) (l .at) (l .inv) (c .before .before
+    sym (walk-found (a .words .now) (a .from) (a .index .now) (a .base) (a .n) (o .pre .2) _ (a .x) (numbered (a .x) (a .words .now) (a
+    .from)) (l .at) (l .inv) (c .before .before
     .loop-test .taken) (eq-eqb _ _ (c .if1 .taken)))
 
 scanned-requires : tie.Need-scanned-requires Inv-loop μ-loop
@@ -92,7 +95,8 @@ loop-less c =
     let l = t .before .loop in
     let o = t .before .before .before .before .before .before .before in
     let a = o .args in
-    used-lower (a .words .now) (a .from) (a .index .now) (a .base) (a .n) (o .pre .2) (a .x) (l .at) (l .inv) _ (t .loop-test .taken)
+    walk-lower (a .words .now) (a .from) (a .index .now) (a .base) (a .n) (o .pre .2) _ (a .x) (numbered (a .x) (a .words .now) (a
+    .from)) (l .at) (l .inv) _ (t .loop-test .taken)
     (c .as-index2 .ensures)
 
 loop-again : tie.Need-loop-again Inv-loop μ-loop
@@ -101,7 +105,8 @@ loop-again c =
     let l = t .before .loop in
     let o = t .before .before .before .before .before .before .before in
     let a = o .args in
-    used-next (a .words .now) (a .from) (a .index .now) (a .base) (a .n) (o .pre .2) (a .x) (l .at) (l .inv) _ (t .loop-test .taken)
+    walk-next (a .words .now) (a .from) (a .index .now) (a .base) (a .n) (o .pre .2) _ (a .x) (numbered (a .x) (a .words .now) (a
+    .from)) (l .at) (l .inv) _ (t .loop-test .taken)
     (ne-eqb _ _ (c .before .before .before .if1 .left)) (c .as-index2 .ensures)
 
 returns-3 : tie.Need-returns-3 Inv-loop μ-loop
@@ -109,7 +114,8 @@ returns-3 c =
     let o = c .before .before .before .before .before .before .before in
     let a = o .args in
     let l = c .before .loop in
-    sym (used-end (a .words .now) (a .from) (a .index .now) (a .base) (a .n) (o .pre .2) (a .x) (l .at) (l .inv) (omega arith))
+    sym (walk-end (a .words .now) (a .from) (a .index .now) (a .base) (a .n) (o .pre .2) _ (a .x) (numbered (a .x) (a .words .now) (a
+    .from)) (l .at) (l .inv) (omega arith))
 
 pub is-used-spec : {M : Type 1} → statement M
 is-used-spec =

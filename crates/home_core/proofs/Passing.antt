@@ -1,0 +1,304 @@
+-- A record that passes: what its stores need; the words then are, seen as the rules' state, the rules' next state, and are accepted
+-- again. Assumes nothing.
+use Prim.Native.Nat.{_*_, _+_, _-_, _<_, _^_, _≤_, ℕ}
+use mathlib.Core.Bool.{Bool, false, true}
+use mathlib.Core.List.{List}
+use mathlib.Core.Logic.{inr}
+use mathlib.Core.Path.{_∙_, _≡_, ap, refl, sym}
+use native.Mathlib.Omega.{arith}
+use lib.Dec.{eqb, ltb}
+use lib.ListN.{drop, getD, length, length-set, set}
+use lib.Seq.{getD-drop, getD-set-other, getD-set-same, getD-take}
+use borrow.Author.Tests.{eqb-true, ltb-false, ltb-true}
+use Rattle.answers.proofs.Answers.{or-else-zero}
+use Rattle.entries.specs.Entries.{givenBy, takenBy}
+use Rattle.home_core.proofs.Accept.{HomeBounds, HomeSound, length-balances, length-held, sound-accepts, sound-of}
+use Rattle.home_core.specs.Layout.{HomeReady, acceptsHome, balancesFrom, countOf, countWord, farsOf, farsWord, homeViewOf, homeWith}
+use Rattle.home_core.specs.Layout.{homesOf, homesWord, poolOf, poolWord, supplyOf, supplyWord}
+use Rattle.ledgers.specs.Limits.{accountLimit, capacity, maxAmount}
+use Rattle.ledgers.specs.declared.Kind.{Kind}
+use Rattle.ledgers.specs.declared.Kind.the-variants.{Local, Receiving, Sending}
+use Rattle.ledgers.specs.declared.Ledger.the-variants.{Far, Home}
+use Rattle.records.proofs.Formed.{formed-facts}
+use Rattle.records.specs.Records.{formed, reading, recordIn}
+use Rattle.records.specs.declared.Reading.the-variants.{Read}
+use Rattle.records.specs.declared.Record.{Record}
+use Rattle.records.specs.declared.Words.{Words}
+use Rattle.rules.proofs.HomeAccepted.{home-accepts-facts, home-step}
+use Rattle.rules.proofs.Lists.{balance-total}
+use Rattle.rules.proofs.Refusals.{HomePassable, home-judge-none, room-none}
+use Rattle.rules.specs.HomeValidator.{homeAccepts, homeAfter, homeJudge, homeJudgeRecord, poolAfter}
+use Rattle.rules.specs.Lists.{lowered, total}
+use Rattle.rules.specs.Rules.{LedgerState}
+use Rattle.table.proofs.Growing.{grown, index-grown}
+use Rattle.table.proofs.Storing.{LedgerStored, Stored, ledger-stored-of, stored-of}
+use Rattle.table.specs.Table.{ledgerIn, stored, wordsAt}
+use Rattle.table_laws.proofs.Held.{Changes, given-most, stored-fits, zeros-kept}
+use Rattle.tables.proofs.Places.{all-each}
+use Rattle.tables.specs.Columns.{zerosAt}
+use Rattle.tables.specs.Places.{allAt}
+
+-- ## Balances stay in 64 bits
+
+module _ (s : List ℕ) (o : HomeSound s) where
+  -- the balances and the pool are at most the greatest amount
+  sums-fit : total (homeViewOf s .home .balances) + poolOf s ≤ maxAmount
+  sums-fit = omega (arith, home-accepts-facts capacity (homeViewOf s) (o .accepted) .sums, o .bounds .supply-fits)
+
+  -- a balance beyond the accounts is zero
+  beyond-zero : (i : ℕ) → homesOf s ≤ i → i < accountLimit → getD s (balancesFrom + i) 0 ≡ 0
+  unfolding zerosAt
+  beyond-zero i a b =
+      eqb-true _ 0
+      (all-each (λ (j : ℕ). eqb (getD s j 0) 0) (balancesFrom + homesOf s) (accountLimit - homesOf s) (o .zeros) (balancesFrom + i)
+      (omega arith) (omega arith))
+
+  -- an account's balance, as the rules have it
+  balance-in : (i : ℕ) → i < homesOf s → getD s (balancesFrom + i) 0 ≡ getD (homeViewOf s .home .balances) i 0
+  unfolding ledgerIn
+  balance-in i h = sym (getD-take (homesOf s) (drop balancesFrom s) i 0 h ∙ getD-drop balancesFrom s i 0)
+
+  -- any balance is at most the greatest amount
+  balance-fits : (i : ℕ) → i < accountLimit → getD s (balancesFrom + i) 0 ≤ maxAmount
+  balance-fits i h = go (ltb i (homesOf s)) refl
+    where
+      go : (u : Bool) → ltb i (homesOf s) ≡ u → getD s (balancesFrom + i) 0 ≤ maxAmount
+      go true q = omega (arith, balance-in i (ltb-true i (homesOf s) q), balance-total (homeViewOf s .home .balances) i, sums-fit)
+      go false q = omega (arith, beyond-zero i (ltb-false i (homesOf s) q) h)
+
+-- ## A pass
+
+-- what a pass says of a record
+pub record HomePasses (s : List ℕ) (r : Record) : Type 0 where
+  pub room : countOf s < capacity
+  pub changes : Changes (homesOf s) r (r .kind)
+  pub sender : r .sender < accountLimit
+  pub receiver : r .receiver < accountLimit
+  pub pays : takenBy (r .kind) (r .amount) ≤ getD s (balancesFrom + r .sender) 0
+  pub pool-has : givenBy (r .kind) (r .amount) ≤ poolOf s + takenBy (r .kind) (r .amount)
+  pub pool-fits : poolOf s + takenBy (r .kind) (r .amount) ≤ maxAmount
+
+module _ (s : List ℕ) (o : HomeSound s) (r : Record) (space : countOf s < capacity) where
+  -- the rules count as many accounts
+  own : length (homeViewOf s .home .balances) ≡ homesOf s
+  own = length-balances s (o .long) (o .bounds .home-fits)
+
+  -- from what the rules ask
+  passes-by : (k : Kind) → r .kind ≡ k → HomePassable (homeViewOf s) r k → HomePasses s r
+  unfolding HomePassable Changes
+  passes-by (Local Home) q h =
+      let x : r .sender < homesOf s = rw own at (h .0 .sender-open) in
+      let y : r .receiver < homesOf s = rw own at (h .0 .receiver-open) in
+      let b = balance-total (homeViewOf s .home .balances) (r .sender) in
+      record {
+        room = space;
+        changes = rw q (x, y);
+        sender = omega (arith, o .bounds .home-fits);
+        receiver = omega (arith, o .bounds .home-fits);
+        pays = rw q (omega (arith, h .1, balance-in s o (r .sender) x));
+        pool-has = rw q (omega arith);
+        pool-fits = rw q (omega (arith, h .1, b, sums-fit s o));
+      }
+  passes-by (Sending Home) q h =
+      let x : r .sender < homesOf s = rw own at (h .0 .sender-open) in
+      let b = balance-total (homeViewOf s .home .balances) (r .sender) in
+      record {
+        room = space;
+        changes = rw q x;
+        sender = omega (arith, o .bounds .home-fits);
+        receiver = omega (arith, h .0 .receiver-open, o .bounds .far-fits);
+        pays = rw q (omega (arith, h .1, balance-in s o (r .sender) x));
+        pool-has = rw q (omega arith);
+        pool-fits = rw q (omega (arith, h .1, b, sums-fit s o));
+      }
+  passes-by (Receiving Home) q h =
+      let y : r .receiver < homesOf s = rw own at (h .0 .receiver-open) in
+      record {
+        room = space;
+        changes = rw q y;
+        sender = omega (arith, h .0 .sender-open, o .bounds .far-fits);
+        receiver = omega (arith, o .bounds .home-fits);
+        pays = rw q (omega arith);
+        pool-has = rw q (omega (arith, h .1));
+        pool-fits = rw q (omega (arith, sums-fit s o));
+      }
+  passes-by (Local Far) q h = absurd h
+  passes-by (Sending Far) q h = absurd h
+  passes-by (Receiving Far) q h = absurd h
+
+-- a record without a refusal passes
+pub passes-of : (s : List ℕ) → HomeSound s → (r : Record) → homeJudge capacity (homeViewOf s) (Read r) ≡ 0 → HomePasses s r
+passes-of s o r j =
+    let a = or-else-zero (homeJudgeRecord (homeViewOf s) r) _ j in
+    let m = room-none capacity _ (a .1) in
+    passes-by s o r (rw (length-held s) at m) (r .kind) refl (home-judge-none (homeViewOf s) r (r .kind) refl (a .0))
+
+-- what is given to an account stays in 64 bits
+pub paid-fits : (s : List ℕ) → HomeSound s → (r : Record) → HomePasses s r → r .amount ≤ maxAmount
+    → getD (lowered s (balancesFrom + r .sender) (takenBy (r .kind) (r .amount))) (balancesFrom + r .receiver) 0
+    + givenBy (r .kind) (r .amount) < 2 ^ 64
+unfolding lowered
+paid-fits s o r p m =
+    let a = balance-fits s o (r .sender) (p .sender) in
+    let f = stored-fits s (balancesFrom + r .sender) (balancesFrom + r .receiver)
+    (getD s (balancesFrom + r .sender) 0 - takenBy (r .kind) (r .amount)) maxAmount (omega (arith, o .long, p .sender)) (omega (arith, a))
+    (balance-fits s o (r .receiver) (p .receiver)) in
+    omega (arith, f, m, given-most (r .kind) (r .amount))
+
+-- the amount of a record that was read
+pub amount-fits : (w : Words) (r : Record) → formed w ≡ true → recordIn w ≡ r → r .amount ≤ maxAmount
+unfolding recordIn
+amount-fits w r f e =
+    let q : w .amount ≡ r .amount = ap (λ (x : Record). x .amount) e in
+    omega (arith, q, formed-facts w f .amount-most)
+
+-- what a record takes from its sender enters the pool, and what it gives leaves it
+pub pool-moved : (pool : ℕ) (r : Record) (k : Kind) → poolAfter pool r k ≡ pool + takenBy k (r .amount) - givenBy k (r .amount)
+pool-moved pool r (Local l) = omega arith
+pool-moved pool r (Sending l) = omega arith
+pool-moved pool r (Receiving l) = omega arith
+
+-- ## The words after it
+
+-- words t are those after a pass: the ledger's by its store, the others by name
+pub record HomeWritten (s t : List ℕ) (w : Words) (r : Record) : Type 0 where
+  pub long : length t ≡ length s
+  pub below : (i : ℕ) → i < supplyWord → getD t i 0 ≡ getD (stored s balancesFrom (0 + 4 * countOf s) w r) i 0
+  pub supply : supplyOf t ≡ supplyOf s
+  pub pool : poolOf t ≡ poolAfter (poolOf s) r (r .kind)
+  pub homes : homesOf t ≡ homesOf s
+  pub fars : farsOf t ≡ farsOf s
+  pub count : countOf t ≡ countOf s + 1
+
+-- two words stored, seen elsewhere
+set-two : (x : List ℕ) (j k a b i : ℕ) → (i ≡ j → ⊥) → (i ≡ k → ⊥) → getD (set (set x j a) k b) i 0 ≡ getD x i 0
+set-two x j k a b i p q = getD-set-other (set x j a) k i b 0 q ∙ getD-set-other x j i a 0 p
+
+module _ (s : List ℕ) (w : Words) (r : Record) (o : HomeSound s) (p : HomePasses s r) where
+  -- the words after the store
+  abbrev after : List ℕ
+  after = stored s balancesFrom (4 * countOf s) w r
+
+  -- the store
+  is-stored : Stored s balancesFrom (homesOf s) (4 * countOf s) w r
+  is-stored =
+      stored-of s balancesFrom (homesOf s) (4 * countOf s) w r (p .changes) (omega (arith, p .room))
+      (omega (arith, o .long, o .bounds .home-fits))
+
+  -- a word above the balances that is neither the pool nor the count
+  above : (i : ℕ) → supplyWord ≤ i → (i ≡ poolWord → ⊥) → (i ≡ countWord → ⊥) → getD (homeWith s w r) i 0 ≡ getD s i 0
+  unfolding homeWith
+  above i h a b =
+      set-two after poolWord countWord (poolAfter (poolOf s) r (r .kind)) (countOf s + 1) i a b
+      ∙ is-stored .others i (inr (omega (arith, h, o .bounds .home-fits))) (inr (omega (arith, h, p .room)))
+
+  -- what was written
+  written : HomeWritten s (homeWith s w r) w r
+  unfolding homeWith
+  written =
+      let x = poolAfter (poolOf s) r (r .kind) in
+      let z : 0 + 4 * countOf s ≡ 4 * countOf s = omega arith in
+      record {
+        long = length-set (set after poolWord x) countWord (countOf s + 1) ∙ length-set after poolWord x ∙ is-stored .long;
+        below =
+            λ i h.
+            set-two after poolWord countWord x (countOf s + 1) i (λ q. omega arith) (λ q. omega arith)
+            ∙ ap (λ (a : ℕ). getD (stored s balancesFrom a w r) i 0) (sym z);
+        supply = above supplyWord (omega arith) (λ q. omega arith) (λ q. omega arith);
+        pool =
+            getD-set-other (set after poolWord x) countWord poolWord (countOf s + 1) 0 (λ q. omega arith)
+            ∙ getD-set-same after poolWord x 0 (omega (arith, is-stored .long, o .long));
+        homes = above homesWord (omega arith) (λ q. omega arith) (λ q. omega arith);
+        fars = above farsWord (omega arith) (λ q. omega arith) (λ q. omega arith);
+        count = getD-set-same (set after poolWord x) countWord (countOf s + 1) 0
+            (omega (arith, length-set after poolWord x, is-stored .long, o .long));
+      }
+
+module _ (s t : List ℕ) (w : Words) (r : Record) (o : HomeSound s) (p : HomePasses s r) (c : HomeWritten s t w r)
+    (e : recordIn w ≡ r) where
+  -- the ledger
+  ledger-after : LedgerStored s t balancesFrom (homesOf s) 0 (countOf s) supplyWord w r
+  ledger-after =
+      ledger-stored-of s t balancesFrom (homesOf s) 0 (countOf s) supplyWord w r (p .changes) (omega (arith, p .room))
+      (omega (arith, o .bounds .home-fits)) (omega (arith, o .long)) (c .long) (c .below)
+
+  -- the state, as the rules have it
+  view-after : homeViewOf t ≡ homeAfter (homeViewOf s) (Read r)
+  view-after =
+      rw (c .supply, c .pool, c .homes, c .fars, c .count)
+      (ap
+      (λ (l : LedgerState).
+      record { home = l; farAccounts = farsOf s; farPool = poolAfter (poolOf s) r (r .kind); supply = supplyOf s })
+      (ledger-after .ledger e))
+
+  -- the bounds
+  bounds-after : HomeBounds t
+  bounds-after =
+      let b = o .bounds in
+      record {
+        home-some = rw (c .homes) (b .home-some);
+        home-fits = rw (c .homes) (b .home-fits);
+        far-some = rw (c .fars) (b .far-some);
+        far-fits = rw (c .fars) (b .far-fits);
+        room = omega (arith, c .count, p .room);
+        supply-fits = rw (c .supply) (b .supply-fits);
+      }
+
+  -- balances beyond the accounts stay zero
+  zeros-after : zerosAt t (balancesFrom + homesOf t) (accountLimit - homesOf t) ≡ true
+  zeros-after =
+      rw (c .homes)
+      (zeros-kept s t (balancesFrom + homesOf s) (accountLimit - homesOf s)
+      (λ i a b. ledger-after .others i (omega (arith, b, o .bounds .home-fits)) (inr a) (inr (omega (arith, a, p .room))))
+      ∙ o .zeros)
+
+  -- all held records read
+  reads-after : formed w ≡ true → allAt (λ (i : ℕ). formed (wordsAt t 0 i)) 0 (countOf t) ≡ true
+  reads-after f = rw (c .count) (ledger-after .reads f (o .reads))
+
+  -- accepted again
+  accepted-after : formed w ≡ true → homeAccepts capacity (homeAfter (homeViewOf s) (Read r)) ≡ true → acceptsHome t ≡ true
+  accepted-after f h =
+      sound-accepts t
+      (record {
+        long = c .long ∙ o .long;
+        bounds = bounds-after;
+        zeros = zeros-after;
+        reads = reads-after f;
+        accepted = rw view-after h;
+      })
+
+  -- with the index of one number more
+  ready-after : (index : List ℕ) → HomeReady s index → formed w ≡ true
+      → homeAccepts capacity (homeAfter (homeViewOf s) (Read r)) ≡ true → HomeReady t (grown index 0 (countOf s) (r .number))
+  unfolding recordIn
+  ready-after index d f h =
+      let q : r .number ≡ w .number = ap (λ (x : Record). x .number) (sym e) in
+      record {
+        accepted = accepted-after f h;
+        index-long = simp length-set (d .index-long);
+        indexed =
+            rw (c .count)
+            (index-grown s t 0 index 0 (countOf s) (r .number) (d .indexed) (omega (arith, d .index-long, p .room))
+            (ledger-after .numbers) (q ∙ ledger-after .number));
+      }
+
+-- the words after a pass: accepted, with the index kept, and seen as the rules' next state
+pub record HomeNext (s index : List ℕ) (w : Words) (r : Record) : Type 0 where
+  pub ready : HomeReady (homeWith s w r) (grown index 0 (countOf s) (r .number))
+  pub view : homeViewOf (homeWith s w r) ≡ homeAfter (homeViewOf s) (Read r)
+
+-- bytes that pass
+pub next-of : (s index : List ℕ) → HomeReady s index → (b : List ℕ) (w : Words) (r : Record) → formed w ≡ true → recordIn w ≡ r
+    → reading b ≡ Read r → homeJudge capacity (homeViewOf s) (Read r) ≡ 0 → HomeNext s index w r
+next-of s index d b w r f e q j =
+    let o = sound-of s (d .accepted) in
+    let p = passes-of s o r j in
+    let c = written s w r o p in
+    let k : homeJudge capacity (homeViewOf s) (reading b) ≡ 0 = rw q j in
+    let a : homeAccepts capacity (homeAfter (homeViewOf s) (Read r)) ≡ true =
+    rw q at (home-step capacity (homeViewOf s) b (o .accepted) k) in
+    record {
+      ready = ready-after s (homeWith s w r) w r o p c e index d f a;
+      view = view-after s (homeWith s w r) w r o p c e;
+    }

@@ -1,0 +1,151 @@
+-- `home_core::is_accepted` meets its contract. Assumes nothing.
+use Rattle.home_core.proofs.Accept.{HomeBounds, bounds-facts, tests-are, tests-refused, testsHome}
+use Rattle.home_core.specs.Layout.{acceptsHome, homeBounds}
+use Rattle.wire.proofs.Lists.{every-not, every-one, every-skip}
+use borrow.Author.Needs.{needs}
+use borrow.Author.Tests.{eq-eqb, ne-eqb, not-false, not-true}
+use mathlib.Core.Bool.{true}
+use mathlib.Core.Path.{_∙_, _≡_, refl, sym}
+use native.Mathlib.Omega.{arith}
+use Rattle.home_core.proofs.is_accepted.Statement.{statement}
+use Rattle.home_core.proofs.is_accepted.Tie as tie
+
+returns : tie.Need-returns
+unfolding testsHome
+returns c =
+    let a = c .before .before .before .args in
+    let e = tests-refused (a .s .now) (a .index .now) (every-not 0 _ (ne-eqb _ _ (c .if1 .taken))) in
+    (e .0, (e .1, refl))
+
+is-bounded-requires : tie.Need-is-bounded-requires
+is-bounded-requires c κs = search needs
+
+returns-2 : tie.Need-returns-2
+unfolding testsHome
+returns-2 c =
+    let a = c .before .before .before .before .before .args in
+    let e = tests-refused (a .s .now) (a .index .now) (every-not 1 _ (sym (c .before .is-bounded .ensures) ∙ not-true _ (c .if2
+    .taken))) in
+    (e .0, (e .1, refl))
+
+shared-slice-read-homes : tie.Need-shared-slice-read-homes
+shared-slice-read-homes c = search needs
+
+-- the test of the bounds held
+bounded-at : (c : tie.Else2) → homeBounds (c .before .before .before .before .before .args .s .now) ≡ true
+bounded-at c = sym (c .before .is-bounded .ensures) ∙ not-false _ (c .if2 .left)
+
+-- what it says
+bounds-at : (c : tie.Else2) → HomeBounds (c .before .before .before .before .before .args .s .now)
+bounds-at c = bounds-facts (c .before .before .before .before .before .args .s .now) (bounded-at c)
+
+add-zeros : tie.Need-add-zeros
+add-zeros c = omega (arith, bounds-at (c .before) .home-fits)
+
+sub-zeros : tie.Need-sub-zeros
+sub-zeros c = bounds-at (c .before) .home-fits
+
+zeros-requires : tie.Need-zeros-requires
+zeros-requires c κs = omega (arith, bounds-at (c .before) .home-fits, c .before .before .before .if1 .left)
+
+returns-3 : tie.Need-returns-3
+unfolding testsHome
+returns-3 c =
+    let a = c .before .before .before .before .before .before .before .before .args in
+    let e = tests-refused (a .s .now) (a .index .now) (every-not 2 _ (sym (c .before .zeros .ensures) ∙ not-true _ (c .if3 .taken))) in
+    (e .0, (e .1, refl))
+
+shared-slice-read-hold-indexed : tie.Need-shared-slice-read-hold-indexed
+shared-slice-read-hold-indexed c = search needs
+
+shared-slice-read-hold-indexed-2 : tie.Need-shared-slice-read-hold-indexed-2
+shared-slice-read-hold-indexed-2 c = search needs
+
+shared-slice-read-hold-indexed-3 : tie.Need-shared-slice-read-hold-indexed-3
+shared-slice-read-hold-indexed-3 c = search needs
+
+hold-indexed-requires : tie.Need-hold-indexed-requires
+hold-indexed-requires c κs =
+    let b = bounds-at (c .before .before .before .before .before .before .before) in
+    let p = c .before .before .before .before .before .before .before .before .before .before .before .before .pre in (
+      omega (arith, b .room, c .before .before .before .before .before .before .before .before .before .if1 .left),
+      omega (arith, b .room, p .0),
+      b .room,
+      p .1,
+      omega arith,
+      b .home-fits,
+      b .far-fits,
+    )
+
+same-length : tie.Need-same-length
+same-length c = search needs
+
+returns-4 : tie.Need-returns-4
+unfolding testsHome
+returns-4 c =
+    let h = c .before .before .before .hold-indexed in
+    let a = c .before .before .before .before .before .before .before .before .before .before .before .before .before .before .before
+    .before .args in
+    let e = tests-refused (a .s .now) (h .last .1 .0) (every-not 3 _ (sym (h .ensures .0) ∙ not-true _ (c .if4 .taken))) in
+    (e .0, (e .1, h .ensures .1 .1 .long))
+
+adds-up-requires : tie.Need-adds-up-requires
+adds-up-requires c κs = (
+  c .before .before .before .before .before .before .before .before .before .before .before .before .before .if1
+      .left,
+  bounded-at (c .before .before .before .before .before .before .before .before .before .before .before),
+)
+
+same-length-2 : tie.Need-same-length-2
+same-length-2 c = search needs
+
+returns-5 : tie.Need-returns-5
+unfolding testsHome
+returns-5 c =
+    let h = c .before .before .before .before .hold-indexed in
+    let o = c .before .before .before .before .before .before .before .before .before .before .before .before .before .before .before
+    .before .before in
+    let s = o .args .s .now in
+    let holds = not-false _ (c .before .if4 .left) in
+    let e : c .adds-up .result ≡ acceptsHome s = c .adds-up .ensures
+    ∙ sym
+    (every-skip _ _ (eq-eqb _ _ (c .before .before .before .before .before .before .before .before .before .before .before .before
+    .before .before .if1 .left))
+    ∙ every-skip _ _ (bounded-at (c .before .before .before .before .before .before .before .before .before .before .before .before))
+    ∙ every-skip _ _ (sym (c .before .before .before .before .before .before .before .before .before .before .zeros .ensures) ∙
+    not-false _ (c .before .before .before .before .before .before .before .before .before .if3 .left))
+    ∙ every-skip _ _ (sym (h .ensures .0) ∙ holds)
+    ∙ every-one _)
+    ∙ tests-are s in (
+      e,
+      (
+        λ q. record {
+          accepted = sym e ∙ q;
+          index-long = h .ensures .1 .1 .long ∙ o .pre .0;
+          indexed = h .ensures .1 .0 holds;
+        },
+        h .ensures .1 .1 .long,
+      ),
+    )
+
+pub is-accepted-spec : {M : Type 1} → statement M
+is-accepted-spec =
+    tie.close
+    (tie.spec
+    returns
+    is-bounded-requires
+    returns-2
+    shared-slice-read-homes
+    add-zeros
+    sub-zeros
+    zeros-requires
+    returns-3
+    shared-slice-read-hold-indexed
+    shared-slice-read-hold-indexed-2
+    shared-slice-read-hold-indexed-3
+    hold-indexed-requires
+    same-length
+    returns-4
+    adds-up-requires
+    same-length-2
+    returns-5)

@@ -1,0 +1,96 @@
+-- `home_core::pass` meets its contract. Assumes nothing.
+use Prim.Native.Nat.{_+_, _-_, ℕ}
+use Rattle.home_core.proofs.Accept.{HomeSound, sound-of}
+use Rattle.home_core.proofs.Passing.{HomePasses, amount-fits, paid-fits, passes-of, pool-moved}
+use Rattle.home_core.specs.Layout.{countOf, countWord, homeWith, poolOf, poolWord}
+use Rattle.rules.specs.HomeValidator.{poolAfter}
+use borrow.Author.Needs.{needs}
+use lib.ListN.{getD, set}
+use mathlib.Core.List.{List}
+use mathlib.Core.Path.{_≡_, ap₂, sym}
+use native.Mathlib.Omega.{arith}
+use Rattle.home_core.proofs.pass.Statement.{statement}
+use Rattle.home_core.proofs.pass.Tie as tie
+
+element-copy-out-count : tie.Need-element-copy-out-count
+element-copy-out-count c = search needs
+
+element-copy-out-pool : tie.Need-element-copy-out-pool
+element-copy-out-pool c = search needs
+
+-- the state is accepted
+sound-at : (c : tie.Start) → HomeSound (c .args .state .now)
+sound-at c = sound-of (c .args .state .now) (c .pre .0)
+
+-- the record passes
+passes-at : (c : tie.Start) → HomePasses (c .args .state .now) (c .args .r)
+passes-at c = passes-of (c .args .state .now) (sound-at c) (c .args .r) (c .pre .3)
+
+mul-store : tie.Need-mul-store
+mul-store c = omega (arith, passes-at (c .before .before .before) .room)
+
+store-requires : tie.Need-store-requires
+store-requires c κs =
+    let o = c .before .before .before in
+    let a = o .args in
+    let h = sound-at o in
+    let p = passes-at o in (
+      omega (arith, h .long, p .sender),
+      omega (arith, h .long, p .receiver),
+      omega (arith, h .long, p .room),
+      p .pays,
+      paid-fits (a .state .now) h (a .r) p (amount-fits (a .w) (a .r) (o .pre .1) (o .pre .2)),
+    )
+
+taken-by-requires : tie.Need-taken-by-requires
+taken-by-requires c κs = search needs
+
+add-state : tie.Need-add-state
+add-state c = omega (arith, c .taken-by .ensures, passes-at (c .before .before .before .before .before) .pool-fits)
+
+given-by-requires : tie.Need-given-by-requires
+given-by-requires c κs = search needs
+
+sub-state : tie.Need-sub-state
+sub-state c = omega (
+  arith,
+  c .given-by .ensures,
+  c .before .taken-by .ensures,
+  passes-at (c .before .before .before .before .before
+      .before) .pool-has,
+)
+
+element-write-state : tie.Need-element-write-state
+element-write-state c = search needs
+
+add-state-2 : tie.Need-add-state-2
+add-state-2 c = omega (arith, passes-at (c .before .before .before .before .before .before) .room)
+
+element-write-state-2 : tie.Need-element-write-state-2
+element-write-state-2 c = search needs
+
+returns : tie.Need-returns
+unfolding homeWith
+returns c =
+    let a = c .before .before .before .before .before .before .args in
+    let s = a .state .now in
+    let m : getD s poolWord 0 + c .before .taken-by .result - c .given-by .result ≡ poolAfter (poolOf s) (a .r) (a .r .kind) =
+    rw (c .given-by .ensures, c .before .taken-by .ensures) (sym (pool-moved (poolOf s) (a .r) (a .r .kind))) in
+    ap₂ (λ (x : List ℕ) (y : ℕ). set (set x poolWord y) countWord (countOf s + 1)) (c .before .before .store .ensures) m
+
+pub pass-spec : {M : Type 1} → statement M
+pass-spec =
+    tie.close
+    (tie.spec
+    element-copy-out-count
+    element-copy-out-pool
+    mul-store
+    store-requires
+    taken-by-requires
+    add-state
+    given-by-requires
+    sub-state
+    element-write-state
+    add-state-2
+    element-write-state-2
+    returns)

@@ -1,0 +1,154 @@
+-- The state of the home validator (document 01: guard) is one array of words: the held records, four words each, as many as the
+-- capacity; the balances, as many as a ledger can have; then the supply, the far pool, the numbers of home and of far accounts and
+-- the number of held records. Here stands what it is as the rules' state, what refusal 3 asks of it, and what a passed record makes of
+-- it. Assumes nothing.
+use Prim.Native.Nat.{_*_, _+_, _-_, ℕ}
+use mathlib.Core.Bool.{Bool, true}
+use mathlib.Core.List.{List, [], _++_, _∷_}
+use mathlib.Core.Path.{_≡_}
+use lib.Dec.{eqb, leb}
+use lib.ListN.{getD, length, replicate, set}
+use Rattle.ledgers.specs.Limits.{accountLimit, capacity}
+use Rattle.number_index.specs.Index.{chainCount}
+use Rattle.records.specs.Records.{formed, reading, wordsOf}
+use Rattle.records.specs.declared.Reading.{Reading}
+use Rattle.records.specs.declared.Reading.the-variants.{Read, Unreadable}
+use Rattle.records.specs.declared.Record.{Record}
+use Rattle.records.specs.declared.Words.{Words}
+use Rattle.rules.specs.Calls.{Checker}
+use Rattle.rules.specs.HomeValidator.{HomeView, homeAccepts, homeJudge, poolAfter}
+use Rattle.rules.specs.Lists.{total}
+use Rattle.rules.specs.PairValidator.{countAllowed, supplyAllowed}
+use Rattle.table.specs.Table.{IndexOf, ledgerIn, stored, wordsAt}
+use Rattle.tables.specs.Columns.{padded, zerosAt}
+use Rattle.tables.specs.Places.{allAt}
+use Rattle.wire.specs.BigEndian.{every}
+
+-- ## The layout
+
+-- the first word of the balances; the records stand from word 0 on
+abbrev pub balancesFrom : ℕ
+balancesFrom = 4 * capacity
+
+-- the words of the supply, the far pool, the numbers of accounts and of held records
+abbrev pub supplyWord : ℕ
+supplyWord = balancesFrom + accountLimit
+
+abbrev pub poolWord : ℕ
+poolWord = supplyWord + 1
+
+abbrev pub homesWord : ℕ
+homesWord = supplyWord + 2
+
+abbrev pub farsWord : ℕ
+farsWord = supplyWord + 3
+
+abbrev pub countWord : ℕ
+countWord = supplyWord + 4
+
+-- all words
+abbrev pub homeWords : ℕ
+homeWords = supplyWord + 5
+
+-- ## What the words say
+
+-- document 01: stake
+abbrev pub supplyOf : List ℕ → ℕ
+supplyOf s = getD s supplyWord 0
+
+-- document 01: far due
+abbrev pub poolOf : List ℕ → ℕ
+poolOf s = getD s poolWord 0
+
+-- the number of home accounts
+abbrev pub homesOf : List ℕ → ℕ
+homesOf s = getD s homesWord 0
+
+-- of far accounts
+abbrev pub farsOf : List ℕ → ℕ
+farsOf s = getD s farsWord 0
+
+-- of held records
+abbrev pub countOf : List ℕ → ℕ
+countOf s = getD s countWord 0
+
+-- the state, seen as the rules' state
+abbrev pub homeViewOf : List ℕ → HomeView
+homeViewOf s =
+    record {
+      home = ledgerIn s balancesFrom (homesOf s) 0 (countOf s);
+      farAccounts = farsOf s;
+      farPool = poolOf s;
+      supply = supplyOf s;
+    }
+
+-- ## 3
+
+-- the counts of accounts and of held records, and the supply, are in bounds (Refusals: 3, counts out of bounds, stake)
+unfoldable pub homeBounds : List ℕ → Bool
+homeBounds s =
+    every
+    (countAllowed (homesOf s)
+    ∷ countAllowed (farsOf s)
+    ∷ leb (countOf s) capacity
+    ∷ supplyAllowed (supplyOf s)
+    ∷ []
+    )
+
+-- refusal 3: what only the words can hold (their number, the bounds, balances beyond the accounts, a held record that 21 would refuse),
+-- and what the rules' state is asked
+unfoldable pub acceptsHome : List ℕ → Bool
+acceptsHome s =
+    every
+    (eqb (length s) homeWords
+    ∷ homeBounds s
+    ∷ zerosAt s (balancesFrom + homesOf s) (accountLimit - homesOf s)
+    ∷ allAt (λ (i : ℕ). formed (wordsAt s 0 i)) 0 (countOf s)
+    ∷ homeAccepts capacity (homeViewOf s)
+    ∷ []
+    )
+
+-- ## A passed record
+
+-- the words once a record has passed: its balances and its own words, the pool, the number of held records
+unfoldable pub homeWith : List ℕ → Words → Record → List ℕ
+homeWith s w r =
+    set (set (stored s balancesFrom (4 * countOf s) w r) poolWord (poolAfter (poolOf s) r (r .kind))) countWord (countOf s + 1)
+
+-- the words once what was read has passed
+abbrev pub homeAfterRead : List ℕ → Words → Reading → List ℕ
+homeAfterRead s w Unreadable = s
+homeAfterRead s w (Read r) = homeWith s w r
+
+-- the home validator over words
+abbrev pub homeWordsChecker : Checker (List ℕ)
+homeWordsChecker =
+    record {
+      accepts = acceptsHome;
+      judge = λ s b. homeJudge capacity (homeViewOf s) (reading b);
+      after = λ s b. homeAfterRead s (wordsOf b) (reading b);
+    }
+
+-- ## The opening
+
+-- the words of an accepted opening
+unfoldable pub homeOpenedWords : List ℕ → ℕ → ℕ → List ℕ
+homeOpenedWords homes fars farTotal =
+    replicate (4 * capacity) 0
+    ++ (padded homes ++ (total homes + farTotal) ∷ farTotal ∷ length homes ∷ fars ∷ 0 ∷ [])
+
+-- all zero, which 3 refuses: what stands beside a refused opening
+unfoldable pub homeZeroWords : List ℕ
+homeZeroWords = replicate homeWords 0
+
+-- ## For inner functions
+
+-- the elements of the index of the numbers: the heads of the chains, then the places
+abbrev pub indexLength : ℕ
+indexLength = chainCount + capacity
+
+-- a state that is accepted, with the index of its numbers
+pub record HomeReady (s index : List ℕ) : Type 0 where
+  pub accepted : acceptsHome s ≡ true
+  pub index-long : length index ≡ indexLength
+  pub indexed : IndexOf s 0 index 0 (countOf s)

@@ -1,0 +1,3 @@
+-- The home validator over the words of its state. Assumes nothing.
+
+pub mod Layout

@@ -1,0 +1,267 @@
+// The home validator (document 01: guard) over the words of its state, in place: whether a state is accepted, a record judged, a passed
+// record stored, and the calls with one record and with a list.
+ghost use Prim.Native.Nat.{ℕ, _+_};
+ghost use mathlib.Core.Bool.{true};
+ghost use mathlib.Core.Path.{_≡_};
+ghost use lib.Dec.{eqb};
+ghost use lib.ListN.{getD, length};
+ghost use Rattle.home_core.specs.Layout.{HomeReady, acceptsHome, balancesFrom, homeBounds, homeViewOf, homeWith, homeWords};
+ghost use Rattle.home_core.specs.Layout.{homeWordsChecker, homesOf, indexLength, poolOf, supplyOf};
+ghost use Rattle.ledgers.specs.Limits.{capacity};
+ghost use Rattle.records.specs.Records.{formed, recordIn};
+ghost use Rattle.records.specs.declared.Reading.the-variants.{Read};
+ghost use Rattle.rules.specs.Calls.{call, callOne, list, one};
+ghost use Rattle.rules.specs.HomeValidator.{homeAccounts, homeJudge, homeLastRefusal, isFar, poolRefusal};
+ghost use Rattle.table.specs.Table.{IndexOf};
+ghost use Rattle.tables.specs.Places.{sumAt};
+use answers::Answer;
+use answers::first_refusal;
+use answers::refusal_if;
+use entries::given_by;
+use entries::is_count_allowed;
+use entries::is_receiving;
+use entries::taken_by;
+use exact_sums::Wide;
+use exact_sums::add_balances;
+use inputs::part_end;
+use ledgers::Ledger;
+use number_index::CHAINS;
+use record_refusals::first_refusals;
+use record_refusals::funds_refusal;
+use records::Reading;
+use records::Record;
+use records::Words;
+use table::add_number;
+use table::hold_indexed;
+use table::is_used;
+use table::store;
+use table_checks::zeros;
+
+// ## The layout
+
+// The first word of the balances; the records stand before them.
+pub const BALANCES: usize = 4 * Ledger::CAPACITY;
+
+// The words of the supply, the far pool, the numbers of home and of far accounts, the number of held records.
+pub const SUPPLY: usize = BALANCES + Ledger::ACCOUNTS;
+
+pub const POOL: usize = SUPPLY + 1;
+
+pub const HOMES: usize = SUPPLY + 2;
+
+pub const FARS: usize = SUPPLY + 3;
+
+pub const COUNT: usize = SUPPLY + 4;
+
+// All words of a state.
+pub const WORDS: usize = SUPPLY + 5;
+
+// The elements of the index of its numbers.
+pub const INDEX: usize = CHAINS + Ledger::CAPACITY;
+
+// ## 3
+
+// Counts of accounts and of held records, and the supply.
+fn is_bounded(s: &[u64]) -> bool
+    requires { ⌜ length (now s) ≡ homeWords ⌝ }
+    ensures { λ b. ⌜ b ≡ homeBounds (now (s .entry)) ⌝ }
+{
+    if !is_count_allowed(s[HOMES] as usize) {
+        return false;
+    }
+    if !is_count_allowed(s[FARS] as usize) {
+        return false;
+    }
+    if Ledger::CAPACITY < s[COUNT] as usize {
+        return false;
+    }
+    s[SUPPLY] <= Record::MAX_AMOUNT
+}
+
+// Balances and the far pool, against the supply.
+fn adds_up(s: &[u64]) -> bool
+    requires { ⌜ (length (now s) ≡ homeWords) × (homeBounds (now s) ≡ true) ⌝ }
+    ensures { λ b. ⌜ b ≡ eqb (sumAt (λ (i : ℕ). getD (now (s .entry)) i 0) balancesFrom (homesOf (now (s .entry)))
+        + poolOf (now (s .entry))) (supplyOf (now (s .entry))) ⌝ }
+{
+    let zero = Wide { high: 0, low: 0 };
+    let sum = add_balances(s, BALANCES, s[HOMES] as usize, zero).add(s[POOL]);
+    if sum.high != 0 {
+        return false;
+    }
+    sum.low == s[SUPPLY]
+}
+
+// All that 3 asks of a state; where it holds, the index of its numbers is made in place of an empty one.
+pub fn is_accepted<'a, 'b>(s: &'a [u64], index: &'b mut [u16]) -> bool
+    requires { ⌜ (length (now index) ≡ indexLength) × IndexOf (now s) 0 (now index) 0 0 ⌝ }
+    ensures accepts { λ b. ⌜ b ≡ acceptsHome (now (s .entry)) ⌝ }
+    ensures ready { λ b. ⌜ (b ≡ true → HomeReady (now (s .entry)) (now (index .exit))) ⌝ }
+    ensures long { λ b. ⌜ length (now (index .exit)) ≡ length (now (index .entry)) ⌝ }
+{
+    if s.len() != WORDS {
+        return false;
+    }
+    if !is_bounded(s) {
+        return false;
+    }
+    let homes = s[HOMES] as usize;
+    if !zeros(s, BALANCES + homes, Ledger::ACCOUNTS - homes) {
+        return false;
+    }
+    if !hold_indexed(
+        s,
+        index,
+        0,
+        0,
+        s[COUNT] as usize,
+        0, // home's byte
+        s[HOMES],
+        s[FARS],
+    ) {
+        return false;
+    }
+    adds_up(s)
+}
+
+// ## Judging a record
+
+// Whether a ledger is the far one.
+fn is_far(l: Ledger) -> bool
+    ensures { λ b. ⌜ b ≡ isFar l ⌝ }
+{
+    match l {
+        Ledger::Home => false,
+        Ledger::Far => true,
+    }
+}
+
+// The number of accounts of a ledger.
+fn accounts_on(s: &[u64], l: Ledger) -> usize
+    requires { ⌜ acceptsHome (now s) ≡ true ⌝ }
+    ensures { λ n. ⌜ n ≡ homeAccounts (homeViewOf (now (s .entry))) l ⌝ }
+{
+    match l {
+        Ledger::Home => s[HOMES] as usize,
+        Ledger::Far => s[FARS] as usize,
+    }
+}
+
+// 32, or 0.
+fn pool_refusal(pool: u64, r: Record) -> u32
+    ensures { λ n. ⌜ n ≡ poolRefusal pool r ⌝ }
+{
+    refusal_if(pool < r.amount, 32)
+}
+
+// 25 or 32, or 0.
+fn last_refusal(s: &[u64], r: Record) -> u32
+    requires { ⌜ acceptsHome (now s) ≡ true ⌝ }
+    ensures { λ n. ⌜ n ≡ homeLastRefusal (homeViewOf (now (s .entry))) r (r .kind) ⌝ }
+{
+    let kind = r.kind;
+    if is_receiving(kind) {
+        return pool_refusal(s[POOL], r);
+    }
+    funds_refusal(s, BALANCES, s[HOMES] as usize, r)
+}
+
+// The refusals of a record that was read, 33 and 22 to 41 in order, or 0.
+pub fn judge<'a>(s: &'a [u64], index: &'a [u16], r: Record) -> u32
+    requires { ⌜ HomeReady (now s) (now index) ⌝ }
+    ensures { λ n. ⌜ n ≡ homeJudge capacity (homeViewOf (now (s .entry))) (Read r) ⌝ }
+{
+    let kind = r.kind;
+    let count = s[COUNT] as usize;
+    let far = refusal_if(is_far(kind.ledger()), 33);
+    let senders = accounts_on(s, kind.sender_ledger());
+    let receivers = accounts_on(s, kind.receiver_ledger());
+    let last = last_refusal(s, r);
+    let full = refusal_if(Ledger::CAPACITY <= count, 41);
+    let used = is_used(s, index, 0, 0, count, r.number);
+    let rest = first_refusals(senders, receivers, r, used, first_refusal(last, full));
+    first_refusal(far, rest)
+}
+
+// ## A passed record
+
+// All stores of a passed record.
+fn pass(state: &mut [u64; WORDS], w: Words, r: Record)
+    requires { ⌜ (acceptsHome (now state) ≡ true) × (formed w ≡ true) × (recordIn w ≡ r)
+        × (homeJudge capacity (homeViewOf (now state)) (Read r) ≡ 0) ⌝ }
+    ensures { λ _. ⌜ now (state .exit) ≡ homeWith (now (state .entry)) w r ⌝ }
+{
+    let kind = r.kind;
+    let count = state[COUNT];
+    let pool = state[POOL];
+    store(state, BALANCES, 4 * count as usize, w, r);
+    state[POOL] = pool + taken_by(kind, r.amount) - given_by(kind, r.amount); // a sending enters it, an arrival leaves it
+    state[COUNT] = count + 1;
+}
+
+// ## The calls
+
+// One record of a call in an accepted state, with the index of its numbers kept: its refusal, 21 first, or 0 where it passes and is stored.
+pub fn step<'a, 'b>(state: &'a mut [u64; WORDS], index: &'b mut [u16; INDEX], bytes: &[u8]) -> u32
+    requires { ⌜ HomeReady (now state) (now index) ⌝ }
+    ensures answers { λ n. ⌜ n ≡ homeWordsChecker .judge (now (state .entry)) (now (bytes .entry)) ⌝ }
+    ensures leaves { λ n. ⌜ now (state .exit) ≡ callOne homeWordsChecker (now (state .entry)) (now (bytes .entry)) .state ⌝ }
+    ensures keeps { λ n. ⌜ HomeReady (now (state .exit)) (now (index .exit)) ⌝ }
+{
+    let Reading::Read(r) = Record::read(bytes) else {
+        return 21;
+    };
+    let number = judge(state, index, r);
+    if number != 0 {
+        return number;
+    }
+    let count = state[COUNT] as usize;
+    pass(state, Words::of(bytes), r);
+    add_number(index, 0, count, r.number);
+    0
+}
+
+// A call with one record, on a state lent: 3, 21, 33 and 22 to 41. A refusal leaves every word as it was.
+pub fn take(state: &mut [u64; WORDS], bytes: &[u8]) -> Answer
+    ensures answers { λ a. ⌜ a ≡ call homeWordsChecker (now (state .entry)) (one (now (bytes .entry))) .answer ⌝ }
+    ensures leaves { λ a. ⌜ now (state .exit) ≡ call homeWordsChecker (now (state .entry)) (one (now (bytes .entry))) .state ⌝ }
+{
+    let mut index = [0u16; INDEX];
+    if !is_accepted(state, &mut index) {
+        return Answer::Refused {
+            number: 3,
+            place: 0,
+        };
+    }
+    let number = step(state, &mut index, bytes);
+    Answer::new(number, 0)
+}
+
+// A call with a list of records, on a state lent: 3, then of each record 21, 33 and 22 to 41. A refusal has its record's index, and
+// leaves every word as it was.
+pub fn take_list(state: &mut [u64; WORDS], bytes: &[u8]) -> Answer
+    ensures answers { λ a. ⌜ a ≡ call homeWordsChecker (now (state .entry)) (list (now (bytes .entry))) .answer ⌝ }
+    ensures leaves { λ a. ⌜ now (state .exit) ≡ call homeWordsChecker (now (state .entry)) (list (now (bytes .entry))) .state ⌝ }
+{
+    let mut index = [0u16; INDEX];
+    if !is_accepted(state, &mut index) {
+        return Answer::Refused {
+            number: 3, // once, before all else
+            place: 0,
+        };
+    }
+    let before = *state;
+    let mut at = 0;
+    let mut i: u64 = 0;
+    while at < bytes.len() {
+        let end = part_end(Record::SIZE, at, bytes.len());
+        let number = step(state, &mut index, &bytes[at..end]);
+        if number != 0 {
+            *state = before; // nothing of the list is kept
+            return Answer::Refused { number, place: i };
+        }
+        at = end;
+        i += 1;
+    }
+    Answer::Passed
+}

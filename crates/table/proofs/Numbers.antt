@@ -1,0 +1,57 @@
+-- The numbers of a table's records, and the index of none. Assumes nothing.
+use Prim.Native.Nat.{_+_, suc, zero, ℕ}
+use mathlib.Core.Bool.{Bool, _&&_, false, not, true}
+use mathlib.Core.List.{List, [], _∷_}
+use mathlib.Core.Path.{_∙_, _≡_, ap₂, refl, sym}
+use lib.ListN.{replicate}
+use Rattle.number_index.proofs.Chains.{chains-of-none}
+use Rattle.number_index.proofs.Index.{zero-at}
+use Rattle.records.specs.Records.{recordIn}
+use Rattle.records.specs.declared.Record.{Record}
+use Rattle.rules.specs.Lists.{any}
+use Rattle.rules.specs.PairValidator.{unshared}
+use Rattle.rules.specs.Rules.{clashes}
+use Rattle.table.specs.Table.{IndexOf, numberAt, numberedAt, recordAt, recordsFrom}
+use Rattle.tables.proofs.Places.{any-list}
+use Rattle.tables.specs.Places.{anyAt, apartAt, listAt}
+use Rattle.wire.specs.BigEndian.{every}
+
+-- ## Records with one number
+
+-- two tests
+every-two : (a b : Bool) → every (a ∷ b ∷ []) ≡ (a && b)
+unfolding every
+every-two true true = refl
+every-two true false = refl
+every-two false b = refl
+
+module _ (s : List ℕ) (from : ℕ) where
+  -- a record clashes with those at places where its number is
+  clash-places : (r : Record) (i n : ℕ) → any (clashes r) (listAt (recordAt s from) i n) ≡ anyAt (numberedAt (r .number) s from) i n
+  unfolding clashes recordIn
+  clash-places r i n = any-list (recordAt s from) (clashes r) i n
+
+  -- with those of a table
+  pub clash-records : (r : Record) (n : ℕ) → any (clashes r) (recordsFrom s from n) ≡ anyAt (numberedAt (r .number) s from) 0 n
+  unfolding recordsFrom
+  clash-records r n = clash-places r 0 n
+
+  -- numbers that are apart are of records that share none
+  apart-places : (i n : ℕ) → apartAt (numberAt s from) i n ≡ unshared (listAt (recordAt s from) i n)
+  unfolding listAt apartAt unshared recordIn
+  apart-places i zero = refl
+  apart-places i (suc n) =
+      ap₂ (λ (a b : Bool). not a && b) (sym (clash-places (recordAt s from i) (suc i) n)) (apart-places (suc i) n)
+      ∙ sym (every-two (not (any (clashes (recordAt s from i)) (listAt (recordAt s from) (suc i) n)))
+      (unshared (listAt (recordAt s from) (suc i) n)))
+
+  -- so with those of a table
+  pub apart-records : (n : ℕ) → apartAt (numberAt s from) 0 n ≡ unshared (recordsFrom s from n)
+  unfolding recordsFrom
+  apart-records n = apart-places 0 n
+
+-- ## The index of none
+
+-- zeros are one
+pub index-none : (s : List ℕ) (from k base : ℕ) → IndexOf s from (replicate k 0) base 0
+index-none s from k base = chains-of-none _ _ _ (λ h b. zero-at k (base + h))

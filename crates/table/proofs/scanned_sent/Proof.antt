@@ -1,0 +1,65 @@
+-- `table::scanned_sent` meets its contract. Assumes nothing.
+use Prim.Native.Nat.{_-_, _≤_}
+use Rattle.tables.proofs.Places.{any-end, any-here, any-on}
+use Rattle.tables.specs.Places.{anyAt}
+use Rattle.table.specs.Table.{sentAt}
+use borrow.Author.Needs.{needs}
+use mathlib.Core.Path.{_∙_, _≡_, ap, sym}
+use native.Mathlib.Omega.{arith}
+use Rattle.table.proofs.scanned_sent.Statement.{statement}
+use Rattle.table.proofs.scanned_sent.Tie as tie
+
+abbrev Inv-loop : tie.InvT-loop
+Inv-loop words from n number head amount i₀ i =
+    let p = sentAt number head amount words from in (i ≤ n) × (anyAt p 0 n ≡ anyAt p i (n - i))
+
+abbrev μ-loop : tie.MeasureT-loop
+μ-loop words from n number head amount i₀ i = n - i
+
+loop-holds : tie.Need-loop-holds Inv-loop μ-loop
+loop-holds c =
+    let a = c .before .args in
+    let z : a .n ≡ a .n - 0 = omega arith in
+    (omega arith, ap (anyAt _ 0) z)
+
+sent-at-requires : tie.Need-sent-at-requires Inv-loop μ-loop
+sent-at-requires c κs = search needs
+
+returns : tie.Need-returns Inv-loop μ-loop
+returns c =
+    let l = c .before .before .before .loop in
+    let a = c .before .before .before .before .before .args in
+    sym (l .inv .1 ∙ any-here _ (l .i) (a .n) (search needs) (sym (c .before .sent-at .ensures) ∙ c .if1 .taken))
+
+add-i : tie.Need-add-i Inv-loop μ-loop
+add-i c = search needs
+
+loop-less : tie.Need-loop-less Inv-loop μ-loop
+loop-less c = search needs
+
+loop-again : tie.Need-loop-again Inv-loop μ-loop
+loop-again c =
+    let l = c .before .before .before .loop in
+    let a = c .before .before .before .before .before .args in
+    let e = sym (c .before .sent-at .ensures) ∙ c .if1 .left in
+    (search needs, l .inv .1 ∙ any-on _ (l .i) (a .n) (search needs) e)
+
+returns-2 : tie.Need-returns-2 Inv-loop μ-loop
+returns-2 c =
+    let l = c .before .loop in
+    let a = c .before .before .before .args in
+    sym (l .inv .1 ∙ any-end _ (l .i) (a .n) (omega arith))
+
+pub scanned-sent-spec : {M : Type 1} → statement M
+scanned-sent-spec =
+    tie.close
+    (tie.spec
+    Inv-loop
+    μ-loop
+    loop-holds
+    sent-at-requires
+    returns
+    add-i
+    loop-less
+    loop-again
+    returns-2)
