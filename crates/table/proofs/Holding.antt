@@ -23,7 +23,7 @@ use Rattle.rules.proofs.PairAccepted.{allowed-held, held-allowed}
 use Rattle.rules.specs.Lists.{any}
 use Rattle.rules.specs.PairValidator.{heldAllowed, sameLedger, standsUnder}
 use Rattle.table.proofs.Limits.{Parts, below-head, below-receiver, head-below, parts-of, receiver-below}
-use Rattle.table.specs.Table.{accountsBy, headLimits, mayHold, receiverLimits}
+use Rattle.table.specs.Table.{accountsBy, headBases, mayHold, receiverLimits, senderLimits}
 use Rattle.wire.proofs.Lists.{and-both, every-both, every-first, every-none}
 use Rattle.wire.specs.BigEndian.{every}
 
@@ -50,12 +50,11 @@ receiver-accounts L own other k a b =
 
 -- ## The tests
 
--- by limits: ledger, head, receiver with its zero bytes, amount, verdict
+-- by limits, with how far the head is above the base of its kind: head, receiver with its zero bytes, amount, verdict
 unfoldable pub below : ℕ → List ℕ → List ℕ → Words → Bool
-below l heads receivers w =
+below d senders receivers w =
     every
-    (eqb (w .head / 2 ^ 48 % 256) l
-    ∷ ltb (w .head) (getD heads (w .head / 2 ^ 56 % 4) 0)
+    (ltb d (getD senders (w .head / 2 ^ 56 % 4) 0)
     ∷ ltb (w .head % 2 ^ 16 * 2 ^ 16 + w .head / 2 ^ 16 % 2 ^ 16) (getD receivers (w .head / 2 ^ 56 % 4) 0)
     ∷ ltb 0 (w .amount)
     ∷ leb (w .amount) maxAmount
@@ -91,7 +90,8 @@ pub of-holds : (L : Ledger) (accounts : Ledger → ℕ) (w : Words) → Holds L 
 of-holds L accounts w h = rw (formed-read w (h .reads), h .stands) (h .allowed)
 
 module _ (L : Ledger) (own other : ℕ) (ho : own ≤ accountLimit) (ht : other ≤ accountLimit) (w : Words) (hh : w .head < 2 ^ 64)
-    (hv : w .tail < 2 ^ 64) where
+    (hv : w .tail < 2 ^ 64) (d : ℕ) (hd : d < 2 ^ 64)
+    (far : (d + getD (headBases (ledgerByte L)) (w .head / 2 ^ 56 % 4) 0) % 2 ^ 64 ≡ w .head) where
   abbrev kind : ℕ
   kind = w .head / 2 ^ 56
 
@@ -120,27 +120,25 @@ module _ (L : Ledger) (own other : ℕ) (ho : own ≤ accountLimit) (ht : other 
   tail-one a b = let u = div-add-mod (w .tail) (2 ^ 56) in omega (arith, a, b, u)
 
   -- words below the limits may be held
-  below-holds : below (ledgerByte L) (headLimits (ledgerByte L) own other) (receiverLimits own other) w ≡ true
-      → Holds L (accountsBy L own other) w
+  below-holds : below d (senderLimits own other) (receiverLimits own other) w ≡ true → Holds L (accountsBy L own other) w
   unfolding below recordIn standsUnder any
   below-holds h =
-      let a = every-first _ _ h in
-      let b = every-first _ _ (a .1) in
+      let b = every-first _ _ h in
       let c = every-first _ _ (b .1) in
-      let d = every-first _ _ (c .1) in
-      let e = every-first _ _ (d .1) in
+      let m = every-first _ _ (c .1) in
+      let e = every-first _ _ (m .1) in
       let f = every-first _ _ (e .1) in
-      let byte : ledger ≡ ledgerByte L = eqb-true _ _ (a .0) in
-      let on : ledgerAt ledger ≡ L = ap ledgerAt byte ∙ at-byte L in
-      let x = below-head (ledgerByte L) own other (byte-most L) ho ht kind (w .head) sender receiver zeros (parts-at byte)
+      let x = below-head (ledgerByte L) own other (byte-most L) ho ht kind (w .head) ledger sender receiver zeros d (parts-of (w .head)) far
       (ltb-true _ _ (b .0)) in
+      let byte : ledger ≡ ledgerByte L = x .2 in
+      let on : ledgerAt ledger ≡ L = ap ledgerAt byte ∙ at-byte L in
       let y = below-receiver (ledgerByte L) own other (byte-most L) ho ht kind receiver zeros (x .0) (x .1) (ltb-true _ _ (c .0)) in
       let tail : w .tail ≡ 2 ^ 56 = eqb-true _ _ (f .0) in
-      let some : 0 < w .amount = ltb-true _ _ (d .0) in
+      let some : 0 < w .amount = ltb-true _ _ (m .0) in
       let most : w .amount ≤ maxAmount = leb-true _ _ (e .0) in
       let k = kind-whole in
       let sends : sender < accountsBy L own other (senderLedger (recordIn w .kind)) =
-      rw (k, on, sender-accounts L own other kind (x .0) (x .1)) (x .2) in
+      rw (k, on, sender-accounts L own other kind (x .0) (x .1)) (x .3) in
       let receives : receiver < accountsBy L own other (receiverLedger (recordIn w .kind)) =
       rw (k, on, receiver-accounts L own other kind (x .0) (x .1)) (y .1) in
       record {
@@ -169,8 +167,7 @@ module _ (L : Ledger) (own other : ℕ) (ho : own ≤ accountLimit) (ht : other 
       }
 
   -- and back
-  holds-below : Holds L (accountsBy L own other) w
-      → below (ledgerByte L) (headLimits (ledgerByte L) own other) (receiverLimits own other) w ≡ true
+  holds-below : Holds L (accountsBy L own other) w → below d (senderLimits own other) (receiverLimits own other) w ≡ true
   unfolding below recordIn standsUnder
   holds-below h =
       let f = formed-facts w (h .reads) in
@@ -188,30 +185,29 @@ module _ (L : Ledger) (own other : ℕ) (ho : own ≤ accountLimit) (ht : other 
       rw (k, on, receiver-accounts L own other kind some most) at (x .0 .receiver-open) in
       let none : zeros ≡ 0 = omega (arith, f .zeros-first) in
       let tail : w .tail ≡ 2 ^ 56 = tail-one (eqb-true _ _ (x .0 .signed)) (f .zeros-last) in
-      every-both _ _ (eq-eqb _ _ byte)
-      (every-both _ _
+      every-both _ _
       (lt-ltb _ _
-      (head-below (ledgerByte L) own other (byte-most L) ho ht kind (w .head) sender receiver zeros (parts-at byte) some most sends))
+      (head-below (ledgerByte L) own other (byte-most L) ho ht kind (w .head) sender receiver zeros d (parts-at byte) far hd hh some most
+      sends))
       (every-both _ _
       (lt-ltb _ _ (receiver-below (ledgerByte L) own other (byte-most L) ho ht kind receiver zeros some most none receives))
       (every-both _ _ (lt-ltb _ _ (f .amount-some))
       (every-both _ _ (le-leb _ _ (f .amount-most))
       (every-both _ _ (eq-eqb _ _ tail)
-      every-none)))))
+      every-none))))
 
   -- the tests by limits are the ledger's own
-  pub below-is : below (ledgerByte L) (headLimits (ledgerByte L) own other) (receiverLimits own other) w
-      ≡ mayHold L (accountsBy L own other) (readingWords w)
+  pub below-is : below d (senderLimits own other) (receiverLimits own other) w ≡ mayHold L (accountsBy L own other) (readingWords w)
   below-is =
       same-tests _ _ (λ h. of-holds L (accountsBy L own other) w (below-holds h))
       (λ h. holds-below (holds-of L (accountsBy L own other) w h))
 
 -- so they are with the ledger's byte and the limits in hand
-pub below-at : (l own other : ℕ) (heads receivers : List ℕ) (w : Words) → l ≤ 1 → own ≤ accountLimit → other ≤ accountLimit
-    → heads ≡ headLimits l own other → receivers ≡ receiverLimits own other → w .head < 2 ^ 64 → w .tail < 2 ^ 64
-    → below l heads receivers w ≡ mayHold (ledgerAt l) (accountsBy (ledgerAt l) own other) (readingWords w)
-below-at l own other heads receivers w hl ho ht eh er hh hv =
-    rw (eh, er)
-    (subst
-    (λ (b : ℕ). below b (headLimits b own other) (receiverLimits own other) w ≡ mayHold (ledgerAt l) (accountsBy (ledgerAt l) own other)
-    (readingWords w)) (byte-at l hl) (below-is (ledgerAt l) own other ho ht w hh hv))
+pub below-at : (l own other : ℕ) (bases senders receivers : List ℕ) (w : Words) (d : ℕ) → l ≤ 1 → own ≤ accountLimit
+    → other ≤ accountLimit → bases ≡ headBases l → senders ≡ senderLimits own other → receivers ≡ receiverLimits own other
+    → w .head < 2 ^ 64 → w .tail < 2 ^ 64 → d < 2 ^ 64 → (d + getD bases (w .head / 2 ^ 56 % 4) 0) % 2 ^ 64 ≡ w .head
+    → below d senders receivers w ≡ mayHold (ledgerAt l) (accountsBy (ledgerAt l) own other) (readingWords w)
+below-at l own other bases senders receivers w d hl ho ht eb es er hh hv hd e =
+    rw (es, er)
+    (below-is (ledgerAt l) own other ho ht w hh hv d hd
+    (ap (λ (b : List ℕ). (d + getD b (w .head / 2 ^ 56 % 4) 0) % 2 ^ 64) (ap headBases (byte-at l hl) ∙ sym eb) ∙ e))

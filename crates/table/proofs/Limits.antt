@@ -7,7 +7,7 @@ use native.Mathlib.Omega.{arith}
 use lib.Dec.{eqb}
 use lib.ListN.{getD}
 use Rattle.ledgers.specs.Limits.{accountLimit}
-use Rattle.table.specs.Table.{headLimits, receiverLimits}
+use Rattle.table.specs.Table.{headBases, receiverLimits, senderLimits}
 
 -- a head is kind, ledger, sender, receiver and two bytes more
 pub record Parts (head kind ledger sender receiver zeros : ℕ) : Type 0 where
@@ -37,32 +37,57 @@ parts-of head =
     }
 
 module _ (l own other : ℕ) (hl : l ≤ 1) (ho : own ≤ accountLimit) (ht : other ≤ accountLimit) where
-  -- no limit reaches the heads of a kind above 3
-  limit-most : (j : ℕ) → getD (headLimits l own other) j 0 < 4 * 2 ^ 56
-  limit-most zero = omega arith
-  limit-most (suc zero) = omega arith
-  limit-most (suc (suc zero)) = omega arith
-  limit-most (suc (suc (suc zero))) = omega arith
-  limit-most (suc (suc (suc (suc j)))) = omega arith
+  -- no head is far above the last base
+  base-most : (j : ℕ) → getD (headBases l) j 0 + getD (senderLimits own other) j 0 < 4 * 2 ^ 56
+  base-most zero = omega arith
+  base-most (suc zero) = omega arith
+  base-most (suc (suc zero)) = omega arith
+  base-most (suc (suc (suc zero))) = omega arith
+  base-most (suc (suc (suc (suc j)))) = omega arith
 
-  -- a head below the limit of its kind: a right kind, and a sender whose account is open
-  pub below-head : (k head s r z : ℕ) → Parts head k l s r z → head < getD (headLimits l own other) (k % 4) 0
-      → (0 < k) × (k ≤ 3) × (s < cond (eqb k 3) other own)
-  below-head zero head s r z p h = absurd (omega arith)
-  below-head (suc zero) head s r z p h = (omega arith, omega arith, omega (arith, h, p .whole))
-  below-head (suc (suc zero)) head s r z p h = (omega arith, omega arith, omega (arith, h, p .whole))
-  below-head (suc (suc (suc zero))) head s r z p h = (omega arith, omega arith, omega (arith, h, p .whole))
-  below-head (suc (suc (suc (suc k)))) head s r z p h =
-      absurd (omega (arith, h, p .whole, limit-most (suc (suc (suc (suc k))) % 4)))
+  -- how far a head is above a base below the limit, counted round 2^64, is how far it is
+  near-base : (j head d : ℕ) → (d + getD (headBases l) j 0) % 2 ^ 64 ≡ head → d < getD (senderLimits own other) j 0
+      → head ≡ d + getD (headBases l) j 0
+  near-base j head d e h = omega (arith, e, h, base-most j)
+
+  -- a head so near to the base of its kind: a right kind, the ledger, and a sender whose account is open
+  pub below-head : (k head m s r z d : ℕ) → Parts head k m s r z → (d + getD (headBases l) (k % 4) 0) % 2 ^ 64 ≡ head
+      → d < getD (senderLimits own other) (k % 4) 0 → (0 < k) × (k ≤ 3) × (m ≡ l) × (s < cond (eqb k 3) other own)
+  below-head zero head m s r z d p e h = absurd (omega arith)
+  below-head (suc zero) head m s r z d p e h =
+      let w : head ≡ d + (2 ^ 56 + l * 2 ^ 48) = near-base 1 head d e h in
+      let q : m ≡ l = omega (arith, w, h, p .whole, p .sender-fits, p .receiver-fits, p .zeros-fit) in
+      (omega arith, omega arith, q, omega (arith, w, h, p .whole, q))
+  below-head (suc (suc zero)) head m s r z d p e h =
+      let w : head ≡ d + (2 * 2 ^ 56 + l * 2 ^ 48) = near-base 2 head d e h in
+      let q : m ≡ l = omega (arith, w, h, p .whole, p .sender-fits, p .receiver-fits, p .zeros-fit) in
+      (omega arith, omega arith, q, omega (arith, w, h, p .whole, q))
+  below-head (suc (suc (suc zero))) head m s r z d p e h =
+      let w : head ≡ d + (3 * 2 ^ 56 + l * 2 ^ 48) = near-base 3 head d e h in
+      let q : m ≡ l = omega (arith, w, h, p .whole, p .sender-fits, p .receiver-fits, p .zeros-fit) in
+      (omega arith, omega arith, q, omega (arith, w, h, p .whole, q))
+  below-head (suc (suc (suc (suc k)))) head m s r z d p e h =
+      let j = suc (suc (suc (suc k))) % 4 in
+      absurd (omega (arith, near-base j head d e h, h, base-most j, p .whole))
+
+  -- how far a head is above its base
+  above-base : (head d base : ℕ) → (d + base) % 2 ^ 64 ≡ head → d < 2 ^ 64 → base ≤ head → head < 2 ^ 64 → d + base ≡ head
+  above-base head d base e hd hb hh = omega (arith, e, hd, hb, hh)
 
   -- and back
-  pub head-below : (k head s r z : ℕ) → Parts head k l s r z → 0 < k → k ≤ 3 → s < cond (eqb k 3) other own
-      → head < getD (headLimits l own other) (k % 4) 0
-  head-below zero head s r z p a b h = absurd (omega arith)
-  head-below (suc zero) head s r z p a b h = omega (arith, h, p .whole, p .receiver-fits, p .zeros-fit)
-  head-below (suc (suc zero)) head s r z p a b h = omega (arith, h, p .whole, p .receiver-fits, p .zeros-fit)
-  head-below (suc (suc (suc zero))) head s r z p a b h = omega (arith, h, p .whole, p .receiver-fits, p .zeros-fit)
-  head-below (suc (suc (suc (suc k)))) head s r z p a b h = absurd (omega arith)
+  pub head-below : (k head s r z d : ℕ) → Parts head k l s r z → (d + getD (headBases l) (k % 4) 0) % 2 ^ 64 ≡ head → d < 2 ^ 64
+      → head < 2 ^ 64 → 0 < k → k ≤ 3 → s < cond (eqb k 3) other own → d < getD (senderLimits own other) (k % 4) 0
+  head-below zero head s r z d p e hd hh a b h = absurd (omega arith)
+  head-below (suc zero) head s r z d p e hd hh a b h =
+      let w : d + (2 ^ 56 + l * 2 ^ 48) ≡ head = above-base head d _ e hd (omega (arith, p .whole)) hh in
+      omega (arith, w, h, p .whole, p .receiver-fits, p .zeros-fit)
+  head-below (suc (suc zero)) head s r z d p e hd hh a b h =
+      let w : d + (2 * 2 ^ 56 + l * 2 ^ 48) ≡ head = above-base head d _ e hd (omega (arith, p .whole)) hh in
+      omega (arith, w, h, p .whole, p .receiver-fits, p .zeros-fit)
+  head-below (suc (suc (suc zero))) head s r z d p e hd hh a b h =
+      let w : d + (3 * 2 ^ 56 + l * 2 ^ 48) ≡ head = above-base head d _ e hd (omega (arith, p .whole)) hh in
+      omega (arith, w, h, p .whole, p .receiver-fits, p .zeros-fit)
+  head-below (suc (suc (suc (suc k)))) head s r z d p e hd hh a b h = absurd (omega arith)
 
   -- a receiver below the limit of its kind: zeros, and its account is open
   pub below-receiver : (k r z : ℕ) → 0 < k → k ≤ 3 → z * 2 ^ 16 + r < getD (receiverLimits own other) (k % 4) 0

@@ -59,14 +59,13 @@ mayHoldAt s from l accounts i = mayHold l accounts (readingWords (wordsAt s from
 
 -- ## The same by limits, for inner functions
 
--- of each kind, a local first, the head of a record whose sender is the first account that is not open; of no kind 0
-abbrev pub headLimits : ℕ → ℕ → ℕ → List ℕ
-headLimits l own other =
-    0
-    ∷ (2 ^ 56 + l * 2 ^ 48 + own * 2 ^ 32)
-    ∷ (2 * 2 ^ 56 + l * 2 ^ 48 + own * 2 ^ 32)
-    ∷ (3 * 2 ^ 56 + l * 2 ^ 48 + other * 2 ^ 32)
-    ∷ []
+-- of each kind, a local first, the head of a record of the ledger with no accounts yet; of no kind 0
+abbrev pub headBases : ℕ → List ℕ
+headBases l = 0 ∷ (2 ^ 56 + l * 2 ^ 48) ∷ (2 * 2 ^ 56 + l * 2 ^ 48) ∷ (3 * 2 ^ 56 + l * 2 ^ 48) ∷ []
+
+-- of each kind how far above it a head is whose sender is the first account that is not open
+abbrev pub senderLimits : ℕ → ℕ → List ℕ
+senderLimits own other = 0 ∷ own * 2 ^ 32 ∷ own * 2 ^ 32 ∷ other * 2 ^ 32 ∷ []
 
 -- of each kind the first receiver's account that is not open
 abbrev pub receiverLimits : ℕ → ℕ → List ℕ

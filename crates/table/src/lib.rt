@@ -10,7 +10,7 @@ ghost use Rattle.ledgers.specs.Ledgers.{ledgerAt};
 ghost use Rattle.ledgers.specs.Limits.{accountLimit, capacity};
 ghost use Rattle.number_index.specs.Index.{Kept, chainCount};
 ghost use Rattle.records.specs.Records.{readingWords, within};
-ghost use Rattle.table.specs.Table.{accountsBy, headLimits, mayHold, mayHoldAt, receiverLimits, wordsAt};
+ghost use Rattle.table.specs.Table.{accountsBy, headBases, mayHold, mayHoldAt, receiverLimits, senderLimits, wordsAt};
 ghost use Rattle.rules.specs.Lists.{lowered, raised};
 ghost use Rattle.table.specs.Table.{IndexOf, backedAt, backedBy, flowAt, numberAt, numberedAt, sendingHead, sentAt, stored, withWords};
 ghost use Rattle.tables.specs.Places.{allAt, anyAt, apartAt, sumAt};
@@ -24,6 +24,7 @@ use number_index::low_bits;
 use number_index::next_place;
 use records::Record;
 use records::Words;
+use std::num::wrapping_sub_u64;
 
 // What a word is divided by for its first byte alone, for its first two, and for its first half.
 const BYTE: u64 = 72057594037927936;
@@ -48,17 +49,25 @@ pub fn words_at(words: &[u64], from: usize, i: usize) -> Words
     }
 }
 
-// Of each kind the head of a record whose sender is the first account that is not open.
-fn head_limits(l: u64, own: u64, other: u64) -> [u64; 4]
-    requires { ⌜ (l ≤ 1) × (own ≤ accountLimit) × (other ≤ accountLimit) ⌝ }
-    ensures { λ r. ⌜ r ≡ headLimits l own other ⌝ }
+// Of each kind the head of a record of the ledger with no accounts yet.
+fn head_bases(l: u64) -> [u64; 4]
+    requires { ⌜ l ≤ 1 ⌝ }
+    ensures { λ r. ⌜ r ≡ headBases l ⌝ }
 {
     [
         0,
-        BYTE + l * TWO_BYTES + own * HALF,
-        2 * BYTE + l * TWO_BYTES + own * HALF,
-        3 * BYTE + l * TWO_BYTES + other * HALF,
+        BYTE + l * TWO_BYTES,
+        2 * BYTE + l * TWO_BYTES,
+        3 * BYTE + l * TWO_BYTES,
     ]
+}
+
+// Of each kind how far above it a head is whose sender is the first account that is not open.
+fn sender_limits(own: u64, other: u64) -> [u64; 4]
+    requires { ⌜ (own ≤ accountLimit) × (other ≤ accountLimit) ⌝ }
+    ensures { λ r. ⌜ r ≡ senderLimits own other ⌝ }
+{
+    [0, own * HALF, own * HALF, other * HALF]
 }
 
 // Of each kind the first receiver's account that is not open.
@@ -82,26 +91,24 @@ fn receiver_in(head: u64) -> u64
     head % 65536 * 65536 + head / 65536 % 65536
 }
 
-// Whether a ledger may hold the record in words. A head below the limit of its kind has a right kind and an open sender; below the other
-// limit it has an open receiver and zero bytes.
+// Whether a ledger may hold the record in words. A head below the limit above the base of its kind, counted round 2^64, has a right kind,
+// the ledger's byte and an open sender; below the other limit it has an open receiver and zero bytes.
 fn may_hold<'a>(
-    heads: &'a [u64; 4],
+    bases: &'a [u64; 4],
+    senders: &'a [u64; 4],
     receivers: &'a [u64; 4],
     l: u64,
     own: u64,
     other: u64,
     w: Words,
 ) -> bool
-    requires { ⌜ (l ≤ 1) × (own ≤ accountLimit) × (other ≤ accountLimit) × (now heads ≡ headLimits l own other)
-        × (now receivers ≡ receiverLimits own other) × (w .head < 2 ^ 64) × (w .tail < 2 ^ 64) ⌝ }
+    requires { ⌜ (l ≤ 1) × (own ≤ accountLimit) × (other ≤ accountLimit) × (now bases ≡ headBases l)
+        × (now senders ≡ senderLimits own other) × (now receivers ≡ receiverLimits own other) × (w .head < 2 ^ 64) × (w .tail < 2 ^ 64) ⌝ }
     ensures { λ b. ⌜ b ≡ mayHold (ledgerAt l) (accountsBy (ledgerAt l) own other) (readingWords w) ⌝ }
 {
     let head = w.head;
     let kind = kind_in(head);
-    if head / TWO_BYTES % 256 != l {
-        return false;
-    }
-    if heads[kind] <= head {
+    if senders[kind] <= wrapping_sub_u64(head, bases[kind]) {
         return false;
     }
     if receivers[kind] <= receiver_in(head) {
@@ -195,12 +202,13 @@ pub fn hold_indexed<'a, 'b>(
     ensures indexed { λ b. ⌜ (b ≡ true → IndexOf (now (words .entry)) from (now (index .exit)) base n) ⌝ }
     ensures others { λ b. ⌜ Kept base (base + chainCount + n) (now (index .entry)) (now (index .exit)) ⌝ }
 {
-    let heads = head_limits(l, own, other);
+    let bases = head_bases(l);
+    let senders = sender_limits(own, other);
     let receivers = receiver_limits(own, other);
     let mut i = 0;
     while i < n {
         let w = words_at(words, from, i);
-        if !may_hold(&heads, &receivers, l, own, other, w) {
+        if !may_hold(&bases, &senders, &receivers, l, own, other, w) {
             return false;
         }
         let x = w.number;

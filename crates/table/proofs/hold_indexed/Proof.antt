@@ -26,7 +26,7 @@ abbrev holding : ℕ → ℕ → ℕ → Words → Bool
 holding l own other w = mayHold (ledgerAt l) (accountsBy (ledgerAt l) own other) (readingWords w)
 
 abbrev Inv-loop : tie.InvT-loop
-Inv-loop words index₀ from base n l own other heads receivers i₀ index i =
+Inv-loop words index₀ from base n l own other bases senders receivers i₀ index i =
     (i ≤ n)
     × (allAt (mayHoldAt words from (ledgerAt l) (accountsBy (ledgerAt l) own other)) 0 n ≡ allAt (mayHoldAt words from (ledgerAt l)
     (accountsBy (ledgerAt l) own other)) i (n - i))
@@ -35,53 +35,57 @@ Inv-loop words index₀ from base n l own other heads receivers i₀ index i =
     × Apart (numberAt words from) i
 
 abbrev μ-loop : tie.MeasureT-loop
-μ-loop words index₀ from base n l own other heads receivers i₀ index i = n - i
+μ-loop words index₀ from base n l own other bases senders receivers i₀ index i = n - i
 
-head-limits-requires : tie.Need-head-limits-requires Inv-loop μ-loop
-head-limits-requires c κs = search needs
+head-bases-requires : tie.Need-head-bases-requires Inv-loop μ-loop
+head-bases-requires c κs = search needs
+
+sender-limits-requires : tie.Need-sender-limits-requires Inv-loop μ-loop
+sender-limits-requires c κs = search needs
 
 receiver-limits-requires : tie.Need-receiver-limits-requires Inv-loop μ-loop
 receiver-limits-requires c κs = search needs
 
 loop-holds : tie.Need-loop-holds Inv-loop μ-loop
 loop-holds c =
-    let o = c .before .before .before .before in
+    let o = c .before .before .before .before .before in
     let z : o .args .n ≡ o .args .n - 0 = omega arith in
     (omega arith, ap (allAt _ 0) z, search needs, o .pre .3, λ j k p q. absurd (omega arith))
 
 words-at-requires : tie.Need-words-at-requires Inv-loop μ-loop
 words-at-requires c κs =
     let i = c .before in
-    let o = i .before .before .before .before .before in
+    let o = i .before .before .before .before .before .before in
     omega (arith, o .pre .0, i .loop .inv .0, c .loop-test .taken)
 
 may-hold-requires : tie.Need-may-hold-requires Inv-loop μ-loop
 may-hold-requires c κs =
-    let w = c .before .before in
+    let w = c .before .before .before in
     let i = w .before .before in
     let h = i .before .before in
-    let k = h .before .before in
+    let k = h .before .before .before in
     let o = k .before in
     let at = o .args .from + 4 * i .loop .i in
     let e = w .words-at .ensures in (
       o .pre .4,
       o .pre .5,
       o .pre .6,
-      h .head-limits .ensures,
+      h .before .head-bases .ensures,
+      h .sender-limits .ensures,
       i .before .receiver-limits .ensures,
       omega (arith, ap (λ (x : Words). x .head) e, k .shared-slice-known .given at),
       omega (arith, ap (λ (x : Words). x .tail) e, k .shared-slice-known .given (at + 3)),
     )
 
 same-length : tie.Need-same-length Inv-loop μ-loop
-same-length c = c .before .before .before .before .before .before .loop .inv .2 .long
+same-length c = c .before .before .before .before .before .before .before .loop .inv .2 .long
 
 returns : tie.Need-returns Inv-loop μ-loop
 returns c =
     let j = c .before in
-    let w = j .before .before .before in
+    let w = j .before .before .before .before in
     let i = w .before .before in
-    let o = i .before .before .before .before .before in
+    let o = i .before .before .before .before .before .before in
     let e = sym (ap (λ (x : Words). holding (o .args .l) (o .args .own) (o .args .other) x) (w .words-at .ensures)) ∙ sym (j .may-hold
     .ensures) ∙ not-true _ (c .if1 .taken) in
     let z = i .loop .inv .1 ∙ all-here _ (i .loop .i) (o .args .n) (w .before .loop-test .taken) e in
@@ -101,19 +105,19 @@ slice-read-if2 c = search needs
 
 is-used-requires : tie.Need-is-used-requires Inv-loop μ-loop
 is-used-requires c κs =
-    let i = c .before .before .before .before .before .before .before .before .before .before in
-    let o = i .before .before .before .before .before in
+    let i = c .before .before .before .before .before .before .before .before .before .before .before in
+    let o = i .before .before .before .before .before .before in
     (omega (arith, o .pre .0, i .loop .inv .0), omega (arith, o .pre .1, i .loop .inv .0, i .loop .inv .2 .long), i .loop .inv .3)
 
 same-length-2 : tie.Need-same-length-2 Inv-loop μ-loop
-same-length-2 c = c .before .before .before .before .before .before .before .before .before .before .before .before .loop .inv .2 .long
+same-length-2 c = c .before .before .before .before .before .before .before .before .before .before .before .before .before .loop .inv .2 .long
 
 returns-2 : tie.Need-returns-2 Inv-loop μ-loop
 returns-2 c =
     let u = c .before in
-    let w = c .before .before .before .before .before .before .before .before .before .before in
+    let w = c .before .before .before .before .before .before .before .before .before .before .before in
     let i = w .before .before in
-    let o = i .before .before .before .before .before in
+    let o = i .before .before .before .before .before .before in
     let s = o .args .words .now in
     let x : w .words-at .result .number ≡ numberAt s (o .args .from) (i .loop .i) = ap (λ (y : Words). y .number) (w .words-at
     .ensures) in
@@ -126,9 +130,9 @@ returns-2 c =
 
 add-number-requires : tie.Need-add-number-requires Inv-loop μ-loop
 add-number-requires c κs =
-    let i = c .before .before .before .before .before .before .before .before .before .before in
-    let o = i .before .before .before .before .before in
-    let t = c .before .before .before .before .before .before .before .before .before .loop-test .taken in
+    let i = c .before .before .before .before .before .before .before .before .before .before .before in
+    let o = i .before .before .before .before .before .before in
+    let t = c .before .before .before .before .before .before .before .before .before .before .loop-test .taken in
     (omega (arith, o .pre .1, t, i .loop .inv .2 .long), omega (arith, o .pre .2, t))
 
 add-i : tie.Need-add-i Inv-loop μ-loop
@@ -144,10 +148,10 @@ loop-again c =
     let low = v .before .before .low-bits in
     let q = v .before .before .before in
     let j = q .before in
-    let w = j .before .before .before in
+    let w = j .before .before .before .before in
     let t = w .before .loop-test .taken in
     let i = w .before .before in
-    let o = i .before .before .before .before .before in
+    let o = i .before .before .before .before .before .before in
     let s = o .args .words .now in
     let f = o .args .from in
     let x : w .words-at .result .number ≡ numberAt s f (i .loop .i) = ap (λ (y : Words). y .number) (w .words-at .ensures) in
@@ -177,7 +181,7 @@ same-length-3 c = c .before .loop .inv .2 .long
 returns-3 : tie.Need-returns-3 Inv-loop μ-loop
 returns-3 c =
     let i = c .before in
-    let o = i .before .before .before .before .before in
+    let o = i .before .before .before .before .before .before in
     let z : i .loop .i ≡ o .args .n = omega (arith, i .loop .inv .0, c .loop-test .left) in
     let a = i .loop .inv .1 ∙ all-end _ (i .loop .i) (o .args .n) (omega (arith, c .loop-test .left)) in
     let b = apart-every (numberAt (o .args .words .now) (o .args .from)) (o .args .n) (rw z at (i .loop .inv .4)) in
@@ -189,7 +193,8 @@ hold-indexed-spec =
     (tie.spec
     Inv-loop
     μ-loop
-    head-limits-requires
+    head-bases-requires
+    sender-limits-requires
     receiver-limits-requires
     loop-holds
     words-at-requires

@@ -1,27 +1,79 @@
 -- `table::may_hold` meets its contract. Assumes nothing.
 use Prim.Native.Nat.{ℕ, _+_, _*_, _/_, _%_, _^_}
+use Rattle.ledgers.specs.Ledgers.{ledgerAt}
+use Rattle.ledgers.specs.Limits.{maxAmount}
+use Rattle.records.specs.Records.{readingWords}
+use Rattle.table.proofs.Holding.{below, below-at}
+use Rattle.table.specs.Table.{accountsBy, mayHold}
+use Rattle.wire.proofs.Lists.{every-not, every-one, every-skip}
+use borrow.Author.Needs.{needs}
+use borrow.Author.Tests.{le-leb, le-ltb, lt-leb, lt-ltb}
+use lib.ListN.{getD}
 use mathlib.Core.Path.{_≡_, ap, sym, _∙_}
 use native.Mathlib.Omega.{arith}
-use lib.ListN.{getD}
-use borrow.Author.Needs.{needs}
-use borrow.Author.Tests.{eq-eqb, le-leb, le-ltb, lt-leb, lt-ltb, ne-eqb}
-use Rattle.ledgers.specs.Limits.{maxAmount}
-use Rattle.table.proofs.Holding.{below, below-at}
-use Rattle.wire.proofs.Lists.{every-not, every-one, every-skip}
 use Rattle.table.proofs.may_hold.Statement.{statement}
 use Rattle.table.proofs.may_hold.Tie as tie
 
 kind-in-requires : tie.Need-kind-in-requires
 kind-in-requires c κs = search needs
 
+mul-if1 : tie.Need-mul-if1
+mul-if1 c = search needs
+
+element-copy-out-if1 : tie.Need-element-copy-out-if1
+element-copy-out-if1 c = search needs
+
+mul-wrapping-sub-u64 : tie.Need-mul-wrapping-sub-u64
+mul-wrapping-sub-u64 c = search needs
+
+element-copy-out-wrapping-sub-u64 : tie.Need-element-copy-out-wrapping-sub-u64
+element-copy-out-wrapping-sub-u64 c = search needs
+
+wrapping-sub-u64-requires : tie.Need-wrapping-sub-u64-requires
+wrapping-sub-u64-requires c κs = search needs
+
+-- the kind of the head
+abbrev kindOf : tie.After-wrapping-sub-u64 → ℕ
+kindOf c = c .before .before .before .before .args .w .head / 2 ^ 56 % 4
+
+-- its receiver, with the zero bytes before it
+abbrev receiverOf : tie.After-wrapping-sub-u64 → ℕ
+receiverOf c = c .before .before .before .before .args .w .head % 2 ^ 16 * 2 ^ 16 + c .before .before .before .before .args .w .head /
+    2 ^ 16 % 2 ^ 16
+
+-- the tests by limits, with how far the head is above the base of its kind, are the ledger's own
+tests-are : (c : tie.After-wrapping-sub-u64) → below (c .wrapping-sub-u64 .result) (c .before .before .before .before .args .senders
+    .now) (c .before .before .before .before .args .receivers .now) (c .before .before .before .before .args .w) ≡ mayHold (ledgerAt (c
+    .before .before .before .before .args .l)) (accountsBy (ledgerAt (c .before .before .before .before .args .l)) (c .before .before
+    .before .before .args .own) (c .before .before .before .before .args .other)) (readingWords (c .before .before .before .before
+    .args .w))
+tests-are c =
+    let o = c .before .before .before .before in
+    let a = o .args in
+    let p = o .pre in
+    let e = ap (λ (n : ℕ). (c .wrapping-sub-u64 .result + getD (a .bases .now) n 0) % 2 ^ 64) (sym (c .before .before .before .kind-in
+    .ensures)) ∙ c .wrapping-sub-u64 .ensures in
+    below-at (a .l) (a .own) (a .other) (a .bases .now) (a .senders .now) (a .receivers .now) (a .w) (c .wrapping-sub-u64 .result) (p
+    .0) (p .1) (p .2) (p .3) (p .4) (p .5) (p .6) (p .7) (search needs) e
+
+-- the sender's limit
+sender-at : (c : tie.After-wrapping-sub-u64) → getD (c .before .before .before .before .args .senders .now) (c .before .before .before
+    .kind-in .result) 0 ≡ getD (c .before .before .before .before .args .senders .now) (kindOf c) 0
+sender-at c = ap (λ (n : ℕ). getD (c .before .before .before .before .args .senders .now) n 0) (c .before .before .before .kind-in
+    .ensures)
+
+-- the receiver's limit
+receiver-at : (c : tie.After-wrapping-sub-u64) → getD (c .before .before .before .before .args .receivers .now) (c .before .before
+    .before .kind-in .result) 0 ≡ getD (c .before .before .before .before .args .receivers .now) (kindOf c) 0
+receiver-at c = ap (λ (n : ℕ). getD (c .before .before .before .before .args .receivers .now) n 0) (c .before .before .before .kind-in
+    .ensures)
+
 returns : tie.Need-returns
 unfolding below
 returns c =
-    let o = c .before .before in
-    let a = o .args in
-    let p = o .pre in
-    sym (every-not 0 _ (ne-eqb (a .w .head / 2 ^ 48 % 256) (a .l) (c .if1 .taken))) ∙ below-at (a .l) (a .own) (a .other) (a .heads
-    .now) (a .receivers .now) (a .w) (p .0) (p .1) (p .2) (p .3) (p .4) (p .5) (p .6)
+    let d = c .before in
+    sym (every-not 0 _ (le-ltb (d .wrapping-sub-u64 .result) (getD (d .before .before .before .before .args .senders .now) (kindOf d)
+    0) (omega (arith, sender-at d, c .if1 .taken)))) ∙ tests-are d
 
 mul-if2 : tie.Need-mul-if2
 mul-if2 c = search needs
@@ -29,103 +81,63 @@ mul-if2 c = search needs
 element-copy-out-if2 : tie.Need-element-copy-out-if2
 element-copy-out-if2 c = search needs
 
-returns-2 : tie.Need-returns-2
-unfolding below
-returns-2 c =
-    let o = c .before .before .before .before in
-    let a = o .args in
-    let p = o .pre in
-    let k = c .before .before .before in
-    let e : getD (a .heads .now) (k .kind-in .result) 0 ≡ getD (a .heads .now) (a .w .head / 2 ^ 56 % 4) 0 = ap (λ (n : ℕ). getD (a
-    .heads .now) n 0) (k .kind-in .ensures) in
-    sym (every-not 1 _ (le-ltb (a .w .head) (getD (a .heads .now) (a .w .head / 2 ^ 56 % 4) 0) (omega (arith, e, c .if2 .taken)))) ∙
-    below-at (a .l) (a .own) (a .other) (a .heads .now) (a .receivers .now) (a .w) (p .0) (p .1) (p .2) (p .3) (p .4) (p .5) (p .6)
-
-mul-if3 : tie.Need-mul-if3
-mul-if3 c = search needs
-
-element-copy-out-if3 : tie.Need-element-copy-out-if3
-element-copy-out-if3 c = search needs
-
 receiver-in-requires : tie.Need-receiver-in-requires
 receiver-in-requires c κs = search needs
 
+returns-2 : tie.Need-returns-2
+unfolding below
+returns-2 c =
+    let d = c .before .before .before .before in
+    sym (every-not 1 _ (le-ltb (receiverOf d) (getD (d .before .before .before .before .args .receivers .now) (kindOf d) 0) (omega
+    (arith, receiver-at d, c .if2 .taken, c .before .receiver-in .ensures)))) ∙ tests-are d
+
 returns-3 : tie.Need-returns-3
 unfolding below
-returns-3 c =
-    let o = c .before .before .before .before .before .before .before in
-    let a = o .args in
-    let p = o .pre in
-    let k = c .before .before .before .before .before .before in
-    let e : getD (a .receivers .now) (k .kind-in .result) 0 ≡ getD (a .receivers .now) (a .w .head / 2 ^ 56 % 4) 0 = ap (λ (n : ℕ).
-    getD (a .receivers .now) n 0) (k .kind-in .ensures) in
-    sym (every-not 2 _ (le-ltb (a .w .head % 2 ^ 16 * 2 ^ 16 + a .w .head / 2 ^ 16 % 2 ^ 16) (getD (a .receivers .now) (a .w .head / 2
-    ^ 56 % 4) 0) (omega (arith, e, c .if3 .taken, c .before .receiver-in .ensures)))) ∙ below-at (a .l) (a .own) (a .other) (a .heads
-    .now) (a .receivers .now) (a .w) (p .0) (p .1) (p .2) (p .3) (p .4) (p .5) (p .6)
+returns-3 c = sym (every-not 2 _ (le-ltb 0 (c .before .before .before .before .before .before .before .before .before .before .args .w
+    .amount) (omega (arith, c .if3 .taken)))) ∙ tests-are (c .before .before .before .before .before .before)
 
 returns-4 : tie.Need-returns-4
 unfolding below
-returns-4 c =
-    let o = c .before .before .before .before .before .before .before .before .before in
-    let a = o .args in
-    let p = o .pre in
-    sym (every-not 3 _ (le-ltb 0 (a .w .amount) (omega (arith, c .if4 .taken)))) ∙ below-at (a .l) (a .own) (a .other) (a .heads .now)
-    (a .receivers .now) (a .w) (p .0) (p .1) (p .2) (p .3) (p .4) (p .5) (p .6)
+returns-4 c = sym (every-not 3 _ (lt-leb (c .before .before .before .before .before .before .before .before .before .before .before
+    .before .args .w .amount) maxAmount (omega (arith, c .if4 .taken)))) ∙ tests-are (c .before .before .before .before .before .before
+    .before .before)
 
 returns-5 : tie.Need-returns-5
 unfolding below
 returns-5 c =
-    let o = c .before .before .before .before .before .before .before .before .before .before .before in
-    let a = o .args in
-    let p = o .pre in
-    sym (every-not 4 _ (lt-leb (a .w .amount) maxAmount (omega (arith, c .if5 .taken)))) ∙ below-at (a .l) (a .own) (a .other) (a
-    .heads .now) (a .receivers .now) (a .w) (p .0) (p .1) (p .2) (p .3) (p .4) (p .5) (p .6)
-
-returns-6 : tie.Need-returns-6
-unfolding below
-returns-6 c =
-    let o = c .before .before .before .before .before .before .before .before .before .before .before .before in
-    let a = o .args in
-    let p = o .pre in
-    let k = c .before .before .before .before .before .before .before .before .before .before .before in
-    let e : getD (a .heads .now) (k .kind-in .result) 0 ≡ getD (a .heads .now) (a .w .head / 2 ^ 56 % 4) 0 = ap (λ (n : ℕ). getD (a
-    .heads .now) n 0) (k .kind-in .ensures) in
-    let f : getD (a .receivers .now) (k .kind-in .result) 0 ≡ getD (a .receivers .now) (a .w .head / 2 ^ 56 % 4) 0 = ap (λ (n : ℕ).
-    getD (a .receivers .now) n 0) (k .kind-in .ensures) in
-    sym (every-skip _ _ (eq-eqb (a .w .head / 2 ^ 48 % 256) (a .l) (c .before .before .before .before .before .before .before .before
-    .before .before .if1 .left))
-    ∙ every-skip _ _ (lt-ltb (a .w .head) (getD (a .heads .now) (a .w .head / 2 ^ 56 % 4) 0) (omega (
+    let d = c .before .before .before .before .before .before .before .before .before in
+    sym (every-skip _ _ (lt-ltb (d .wrapping-sub-u64 .result) (getD (d .before .before .before .before .args .senders .now) (kindOf d)
+    0) (omega (arith, sender-at d, c .before .before .before .before .before .before .before .before .if1 .left)))
+    ∙ every-skip _ _ (lt-ltb (receiverOf d) (getD (d .before .before .before .before .args .receivers .now) (kindOf d) 0) (omega (
       arith,
-      e,
-      c .before .before
-          .before .before .before .before .before .before .if2 .left,
+      receiver-at d,
+      c .before .before .before .before .before .if2 .left,
+      c .before .before .before .before .before .before
+          .receiver-in .ensures,
     )))
-    ∙ every-skip _ _ (lt-ltb (a .w .head % 2 ^ 16 * 2 ^ 16 + a .w .head / 2 ^ 16 % 2 ^ 16) (getD (a .receivers .now) (a .w .head / 2 ^
-    56 % 4) 0) (omega (
+    ∙ every-skip _ _ (lt-ltb 0 (d .before .before .before .before .args .w .amount) (omega (
       arith,
-      f,
-      c .before .before .before .before .before .if3 .left,
-      c .before .before .before .before .before
-          .before .receiver-in .ensures,
+      c .before .before .before .if3
+          .left,
     )))
-    ∙ every-skip _ _ (lt-ltb 0 (a .w .amount) (omega (arith, c .before .before .before .if4 .left)))
-    ∙ every-skip _ _ (le-leb (a .w .amount) maxAmount (omega (arith, c .before .if5 .left)))
-    ∙ every-one _) ∙ below-at (a .l) (a .own) (a .other) (a .heads .now) (a .receivers .now) (a .w) (p .0) (p .1) (p .2) (p .3) (p .4)
-    (p .5) (p .6)
+    ∙ every-skip _ _ (le-leb (d .before .before .before .before .args .w .amount) maxAmount (omega (arith, c .before .if4 .left)))
+    ∙ every-one _) ∙ tests-are d
 
 pub may-hold-spec : {M : Type 1} → statement M
 may-hold-spec =
     tie.close
     (tie.spec
     kind-in-requires
+    mul-if1
+    element-copy-out-if1
+    mul-wrapping-sub-u64
+    element-copy-out-wrapping-sub-u64
+    wrapping-sub-u64-requires
     returns
     mul-if2
     element-copy-out-if2
-    returns-2
-    mul-if3
-    element-copy-out-if3
     receiver-in-requires
+    returns-2
     returns-3
     returns-4
-    returns-5
-    returns-6)
+    returns-5)
