@@ -1,15 +1,13 @@
 -- A record that passes: what its stores need; the words then are, seen as the rules' state, the rules' next state, and are accepted
 -- again. Assumes nothing.
 use Prim.Native.Nat.{_*_, _+_, _-_, _<_, _^_, _≤_, ℕ}
-use mathlib.Core.Bool.{Bool, false, true}
+use mathlib.Core.Bool.{true}
 use mathlib.Core.List.{List}
 use mathlib.Core.Logic.{inr}
 use mathlib.Core.Path.{_∙_, _≡_, ap, refl, sym}
 use native.Mathlib.Omega.{arith}
-use lib.Dec.{eqb, ltb}
-use lib.ListN.{drop, getD, length, length-set, set}
-use lib.Seq.{getD-drop, getD-set-other, getD-set-same, getD-take}
-use borrow.Author.Tests.{eqb-true, ltb-false, ltb-true}
+use lib.ListN.{getD, length, length-set, set}
+use lib.Seq.{getD-set-other, getD-set-same}
 use Rattle.answers.proofs.Answers.{or-else-zero}
 use Rattle.entries.specs.Entries.{givenBy, takenBy}
 use Rattle.home_core.proofs.Accept.{HomeBounds, HomeSound, length-balances, length-held, sound-accepts, sound-of}
@@ -19,7 +17,6 @@ use Rattle.ledgers.specs.Limits.{accountLimit, capacity, maxAmount}
 use Rattle.ledgers.specs.declared.Kind.{Kind}
 use Rattle.ledgers.specs.declared.Kind.the-variants.{Local, Receiving, Sending}
 use Rattle.ledgers.specs.declared.Ledger.the-variants.{Far, Home}
-use Rattle.records.proofs.Formed.{formed-facts}
 use Rattle.records.specs.Records.{formed, reading, recordIn}
 use Rattle.records.specs.declared.Reading.the-variants.{Read}
 use Rattle.records.specs.declared.Record.{Record}
@@ -30,11 +27,11 @@ use Rattle.rules.proofs.Refusals.{HomePassable, home-judge-none, room-none}
 use Rattle.rules.specs.HomeValidator.{homeAccepts, homeAfter, homeJudge, homeJudgeRecord, poolAfter}
 use Rattle.rules.specs.Lists.{lowered, total}
 use Rattle.rules.specs.Rules.{LedgerState}
+use Rattle.table.proofs.Balances.{balance-fits, balance-in, given-fits}
 use Rattle.table.proofs.Growing.{grown, index-grown}
 use Rattle.table.proofs.Storing.{LedgerStored, Stored, ledger-stored-of, stored-of}
-use Rattle.table.specs.Table.{ledgerIn, stored, wordsAt}
-use Rattle.table_laws.proofs.Held.{Changes, given-most, stored-fits, zeros-kept}
-use Rattle.tables.proofs.Places.{all-each}
+use Rattle.table.specs.Table.{stored, wordsAt}
+use Rattle.table_laws.proofs.Held.{Changes, zeros-kept}
 use Rattle.tables.specs.Columns.{zerosAt}
 use Rattle.tables.specs.Places.{allAt}
 
@@ -45,26 +42,10 @@ module _ (s : List ℕ) (o : HomeSound s) where
   sums-fit : total (homeViewOf s .home .balances) + poolOf s ≤ maxAmount
   sums-fit = omega (arith, home-accepts-facts capacity (homeViewOf s) (o .accepted) .sums, o .bounds .supply-fits)
 
-  -- a balance beyond the accounts is zero
-  beyond-zero : (i : ℕ) → homesOf s ≤ i → i < accountLimit → getD s (balancesFrom + i) 0 ≡ 0
-  unfolding zerosAt
-  beyond-zero i a b =
-      eqb-true _ 0
-      (all-each (λ (j : ℕ). eqb (getD s j 0) 0) (balancesFrom + homesOf s) (accountLimit - homesOf s) (o .zeros) (balancesFrom + i)
-      (omega arith) (omega arith))
-
-  -- an account's balance, as the rules have it
-  balance-in : (i : ℕ) → i < homesOf s → getD s (balancesFrom + i) 0 ≡ getD (homeViewOf s .home .balances) i 0
-  unfolding ledgerIn
-  balance-in i h = sym (getD-take (homesOf s) (drop balancesFrom s) i 0 h ∙ getD-drop balancesFrom s i 0)
-
   -- any balance is at most the greatest amount
-  balance-fits : (i : ℕ) → i < accountLimit → getD s (balancesFrom + i) 0 ≤ maxAmount
-  balance-fits i h = go (ltb i (homesOf s)) refl
-    where
-      go : (u : Bool) → ltb i (homesOf s) ≡ u → getD s (balancesFrom + i) 0 ≤ maxAmount
-      go true q = omega (arith, balance-in i (ltb-true i (homesOf s) q), balance-total (homeViewOf s .home .balances) i, sums-fit)
-      go false q = omega (arith, beyond-zero i (ltb-false i (homesOf s) q) h)
+  balance-most : (i : ℕ) → i < accountLimit → getD s (balancesFrom + i) 0 ≤ maxAmount
+  balance-most i h =
+      balance-fits s balancesFrom (homesOf s) 0 (countOf s) accountLimit (o .zeros) maxAmount (omega (arith, sums-fit)) i h
 
 -- ## A pass
 
@@ -95,7 +76,7 @@ module _ (s : List ℕ) (o : HomeSound s) (r : Record) (space : countOf s < capa
         changes = rw q (x, y);
         sender = omega (arith, o .bounds .home-fits);
         receiver = omega (arith, o .bounds .home-fits);
-        pays = rw q (omega (arith, h .1, balance-in s o (r .sender) x));
+        pays = rw q (omega (arith, h .1, balance-in s balancesFrom (homesOf s) 0 (countOf s) (r .sender) x));
         pool-has = rw q (omega arith);
         pool-fits = rw q (omega (arith, h .1, b, sums-fit s o));
       }
@@ -107,7 +88,7 @@ module _ (s : List ℕ) (o : HomeSound s) (r : Record) (space : countOf s < capa
         changes = rw q x;
         sender = omega (arith, o .bounds .home-fits);
         receiver = omega (arith, h .0 .receiver-open, o .bounds .far-fits);
-        pays = rw q (omega (arith, h .1, balance-in s o (r .sender) x));
+        pays = rw q (omega (arith, h .1, balance-in s balancesFrom (homesOf s) 0 (countOf s) (r .sender) x));
         pool-has = rw q (omega arith);
         pool-fits = rw q (omega (arith, h .1, b, sums-fit s o));
       }
@@ -137,20 +118,9 @@ passes-of s o r j =
 pub paid-fits : (s : List ℕ) → HomeSound s → (r : Record) → HomePasses s r → r .amount ≤ maxAmount
     → getD (lowered s (balancesFrom + r .sender) (takenBy (r .kind) (r .amount))) (balancesFrom + r .receiver) 0
     + givenBy (r .kind) (r .amount) < 2 ^ 64
-unfolding lowered
 paid-fits s o r p m =
-    let a = balance-fits s o (r .sender) (p .sender) in
-    let f = stored-fits s (balancesFrom + r .sender) (balancesFrom + r .receiver)
-    (getD s (balancesFrom + r .sender) 0 - takenBy (r .kind) (r .amount)) maxAmount (omega (arith, o .long, p .sender)) (omega (arith, a))
-    (balance-fits s o (r .receiver) (p .receiver)) in
-    omega (arith, f, m, given-most (r .kind) (r .amount))
-
--- the amount of a record that was read
-pub amount-fits : (w : Words) (r : Record) → formed w ≡ true → recordIn w ≡ r → r .amount ≤ maxAmount
-unfolding recordIn
-amount-fits w r f e =
-    let q : w .amount ≡ r .amount = ap (λ (x : Record). x .amount) e in
-    omega (arith, q, formed-facts w f .amount-most)
+    given-fits s balancesFrom r (omega (arith, o .long, p .sender)) (balance-most s o (r .sender) (p .sender))
+    (balance-most s o (r .receiver) (p .receiver)) m
 
 -- what a record takes from its sender enters the pool, and what it gives leaves it
 pub pool-moved : (pool : ℕ) (r : Record) (k : Kind) → poolAfter pool r k ≡ pool + takenBy k (r .amount) - givenBy k (r .amount)

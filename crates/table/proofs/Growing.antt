@@ -1,7 +1,8 @@
 -- An index with a number more, and numbers that are apart. Assumes nothing.
-use Prim.Native.Nat.{_%_, _+_, _-_, _<_, ℕ}
+use Prim.Native.Nat.{_%_, _+_, _<_, _≤_, ℕ}
 use mathlib.Core.Bool.{Bool, cond, false, true}
 use mathlib.Core.List.{List}
+use mathlib.Core.Logic.{_⊎_, ⊎-elim}
 use mathlib.Core.Path.{_∙_, _≡_, ap, refl, sym}
 use native.Mathlib.Omega.{arith}
 use lib.Dec.{ltb}
@@ -95,3 +96,23 @@ grown-kept index base n m x h =
     kept-twice (kept-set index (base + chainCount + n) (getD index (base + x % chainCount) 0) (omega arith) (omega arith))
     (kept-set (set index (base + chainCount + n) (getD index (base + x % chainCount) 0)) (base + x % chainCount) (n + 1) (omega arith)
     (omega (arith, low-bits-most x)))
+
+-- ## The index beside it
+
+-- what is altered within a part is altered within a longer one
+pub kept-longer : {a b : ℕ} {xs ys : List ℕ} (c : ℕ) → b ≤ c → Kept a b xs ys → Kept a c xs ys
+kept-longer c h f = record { long = f .long; before = f .before; after = λ k p. f .after k (omega arith) }
+
+-- an index outside the part that is altered stays, where its numbers do
+pub index-beside : (s s' : List ℕ) (from : ℕ) {index index' : List ℕ} {a b : ℕ} (base n : ℕ) → Kept a b index index'
+    → (base + chainCount + n ≤ a) ⊎ (b ≤ base) → ((j : ℕ) → j < n → numberAt s' from j ≡ numberAt s from j)
+    → IndexOf s from index base n → IndexOf s' from index' base n
+index-beside s s' from {index} {index'} {a} {b} base n f d same c =
+    chains-same (numberAt s from) (λ (h : ℕ). getD index (base + h) 0) (λ (k : ℕ). getD index (base + chainCount + k) 0)
+    (numberAt s' from) (λ (h : ℕ). getD index' (base + h) 0) (λ (k : ℕ). getD index' (base + chainCount + k) 0) n c same
+    (λ h p.
+    ⊎-elim (λ (q : base + chainCount + n ≤ a). f .before (base + h) (omega arith))
+    (λ (q : b ≤ base). f .after (base + h) (omega arith)) d)
+    (λ k p.
+    ⊎-elim (λ (q : base + chainCount + n ≤ a). f .before (base + chainCount + k) (omega arith))
+    (λ (q : b ≤ base). f .after (base + chainCount + k) (omega arith)) d)

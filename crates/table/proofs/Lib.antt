@@ -9,3 +9,4 @@ pub mod Crossings
 pub mod Growing
 pub mod Storing
 pub mod Sums
+pub mod Balances

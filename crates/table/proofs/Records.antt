@@ -1,11 +1,16 @@
 -- What is asked of a table place by place is what the rules ask of its records. Assumes nothing.
-use Prim.Native.Nat.{ℕ}
+use Prim.Native.Nat.{_≤_, ℕ}
 use mathlib.Core.Bool.{true}
 use mathlib.Core.List.{List}
-use mathlib.Core.Path.{_≡_, sym, _∙_}
+use mathlib.Core.Path.{_∙_, _≡_, ap, sym}
+use native.Mathlib.Omega.{arith}
 use lib.ListN.{length}
+use Rattle.ledgers.specs.Limits.{maxAmount}
 use Rattle.ledgers.specs.declared.Ledger.{Ledger}
-use Rattle.records.specs.Records.{formed}
+use Rattle.records.proofs.Formed.{formed-facts}
+use Rattle.records.specs.Records.{formed, recordIn}
+use Rattle.records.specs.declared.Record.{Record}
+use Rattle.records.specs.declared.Words.{Words}
 use Rattle.rules.specs.Lists.{all}
 use Rattle.rules.specs.PairValidator.{heldAllowed, standsUnder}
 use Rattle.table.proofs.Holding.{Holds, holds-of, of-holds}
@@ -29,7 +34,8 @@ module _ (s : List ℕ) (from n : ℕ) (l : Ledger) (accounts : Ledger → ℕ) 
   pub all-held : allAt (mayHoldAt s from l accounts) 0 n ≡ true → AllHeld s from n l accounts
   unfolding recordsFrom
   all-held h =
-      let at : (i : ℕ) → _ → _ → Holds l accounts (wordsAt s from i) = λ i a b. holds-of l accounts (wordsAt s from i) (all-each _ 0 n h i a b) in
+      let at : (i : ℕ) → _ → _ → Holds l accounts (wordsAt s from i) =
+      λ i a b. holds-of l accounts (wordsAt s from i) (all-each _ 0 n h i a b) in
       record {
         read = all-of _ 0 n (λ i a b. at i a b .reads);
         stand = all-list (recordAt s from) (standsUnder l) 0 n ∙ all-of _ 0 n (λ i a b. at i a b .stands);
@@ -46,3 +52,10 @@ module _ (s : List ℕ) (from n : ℕ) (l : Ledger) (accounts : Ledger → ℕ) 
       (λ i a b.
       of-holds l accounts (wordsAt s from i)
       (record { reads = all-each _ 0 n (r .read) i a b; stands = all-each _ 0 n x i a b; allowed = all-each _ 0 n y i a b }))
+
+-- the amount of a record that was read
+pub amount-fits : (w : Words) (r : Record) → formed w ≡ true → recordIn w ≡ r → r .amount ≤ maxAmount
+unfolding recordIn
+amount-fits w r f e =
+    let q : w .amount ≡ r .amount = ap (λ (x : Record). x .amount) e in
+    omega (arith, q, formed-facts w f .amount-most)

@@ -1,11 +1,11 @@
--- A sum in two limbs, against an amount. Assumes nothing.
-use Prim.Native.Nat.{_≤_, ℕ}
-use mathlib.Core.Bool.{false}
-use mathlib.Core.Path.{_≡_, ap, sym}
+-- A sum in two limbs, against an amount and against another one. Assumes nothing.
+use Prim.Native.Nat.{_<_, _^_, _≤_, ℕ}
+use mathlib.Core.Bool.{Bool, false, true}
+use mathlib.Core.Path.{_≡_, ap, refl, sym}
 use native.Mathlib.Omega.{arith}
 use lib.Dec.{eqb}
-use borrow.Author.Tests.{ne-eqb}
-use Rattle.exact_sums.proofs.Sums.{wide-passes}
+use borrow.Author.Tests.{eq-eqb, eqb-false, eqb-true, ne-eqb}
+use Rattle.exact_sums.proofs.Sums.{same-limbs, same-wide, wide-passes}
 use Rattle.exact_sums.specs.Sums.{wide}
 use Rattle.exact_sums.specs.declared.Wide.{Wide}
 use Rattle.ledgers.specs.Limits.{maxAmount}
@@ -18,3 +18,16 @@ high-passes w x supply e fits high = sym (ne-eqb x supply (λ q. omega (arith, q
 pub low-compares : (w : Wide) (x supply : ℕ) → wide w ≡ x → w .high ≡ 0 → eqb (w .low) supply ≡ eqb x supply
 unfolding wide
 low-compares w x supply e high = ap (λ (y : ℕ). eqb y supply) (let z : w .low ≡ x = omega (arith, e, high) in z)
+
+module _ (v w : Wide) (x y : ℕ) (a : v .low < 2 ^ 63) (b : w .low < 2 ^ 63) (p : wide v ≡ x) (q : wide w ≡ y) where
+  -- high limbs that differ are sums that differ
+  pub high-differs : (v .high ≡ w .high → ⊥) → false ≡ eqb x y
+  high-differs differs = rw (← p, ← q) (sym (ne-eqb (wide v) (wide w) (λ e. differs (same-limbs v w a b e .0))))
+
+  -- under the same high limb the low limbs are compared
+  pub low-compared : v .high ≡ w .high → eqb (v .low) (w .low) ≡ eqb x y
+  low-compared high = rw (← p, ← q) (by (eqb (v .low) (w .low)) refl)
+    where
+      by : (t : Bool) → eqb (v .low) (w .low) ≡ t → t ≡ eqb (wide v) (wide w)
+      by true test = sym (eq-eqb _ _ (same-wide v w high (eqb-true _ _ test)))
+      by false test = sym (ne-eqb _ _ (λ e. eqb-false _ _ test (same-limbs v w a b e .1)))

@@ -1,0 +1,89 @@
+-- What the functions on words say of a record is what the rules say. Assumes nothing.
+use Prim.Native.Nat.{ℕ, _-_, _^_, _<_}
+use mathlib.Core.Bool.{Bool, false, not, true}
+use mathlib.Core.List.{List}
+use mathlib.Core.Path.{_∙_, _≡_, ap, sym}
+use lib.Dec.{leb}
+use lib.ListN.{getD}
+use Rattle.answers.specs.Answers.{orElse, refuse}
+use Rattle.ledgers.specs.Ledgers.{counterpart, ledgerByte, ledgerOf, receiverLedger, senderLedger}
+use Rattle.ledgers.specs.Limits.{capacity}
+use Rattle.ledgers.specs.declared.Kind.{Kind}
+use Rattle.ledgers.specs.declared.Kind.the-variants.{Local, Receiving, Sending}
+use Rattle.pair_core.proofs.Accept.{PairSound, standing-on}
+use Rattle.pair_core.proofs.Ledgers.{length-held, other-byte, state-on}
+use Rattle.pair_core.specs.Layout.{accountsOn, balancesOn, countOn, ledgerOn, pairViewOf, recordsOn}
+use Rattle.records.specs.Records.{formed, recordIn}
+use Rattle.records.specs.declared.Reading.the-variants.{Read}
+use Rattle.records.specs.declared.Record.{Record}
+use Rattle.records.specs.declared.Words.{Words}
+use Rattle.rules.proofs.Lists.{never-both-tests}
+use Rattle.rules.specs.Lists.{any}
+use Rattle.rules.specs.PairValidator.{matched, pairJudge, roomRefusal}
+use Rattle.rules.specs.Rules.{LedgerState, accountsOf, firstRefusal, fundsRefusal, isReceiving, judge, lastRefusal, matchRefusal}
+use Rattle.rules.specs.Rules.{matches, stateOf}
+use Rattle.table.proofs.Crossings.{asked, backed-is}
+use Rattle.table.proofs.Numbers.{clash-records}
+use Rattle.table.specs.Table.{backedBy, ledgerIn, numberedAt}
+use Rattle.table_laws.proofs.Judged.{first-else, funds-at}
+use Rattle.tables.specs.Columns.{firstBy, fundsAt}
+use Rattle.tables.specs.Places.{anyAt}
+
+module _ (s : List ℕ) (r : Record) where
+  -- a local or sending is paid
+  pub last-paid : (k : Kind) → isReceiving k ≡ false
+      → fundsAt s (balancesOn (ledgerByte (ledgerOf k))) (accountsOn s (ledgerByte (ledgerOf k))) r ≡ lastRefusal (pairViewOf s .pair) r k
+  unfolding ledgerIn
+  last-paid (Local l) h =
+      sym
+      (ap (λ (x : LedgerState). fundsRefusal (x .balances) r) (state-on s l)
+      ∙ funds-at s (balancesOn (ledgerByte l)) (accountsOn s (ledgerByte l)) r)
+  last-paid (Sending l) h =
+      sym
+      (ap (λ (x : LedgerState). fundsRefusal (x .balances) r) (state-on s l)
+      ∙ funds-at s (balancesOn (ledgerByte l)) (accountsOn s (ledgerByte l)) r)
+  last-paid (Receiving l) h = absurd (never-both-tests h)
+
+  -- an arrival is matched
+  pub last-matched : PairSound s → ((i : ℕ) → getD s i 0 < 2 ^ 64) → (w : Words) → formed w ≡ true → recordIn w ≡ r
+      → (k : Kind) → r .kind ≡ k → isReceiving k ≡ true → (o : ℕ) → o ≡ 1 - ledgerByte (ledgerOf k)
+      → refuse (not (backedBy s o (recordsOn o) (countOn s o) w)) 31 0 ≡ lastRefusal (pairViewOf s .pair) r k
+  unfolding ledgerIn matched matchRefusal
+  last-matched d small w f e (Local l) q h o p = absurd (never-both-tests (sym h))
+  last-matched d small w f e (Sending l) q h o p = absurd (never-both-tests (sym h))
+  last-matched d small w f e (Receiving l) q h o p =
+      let c = ledgerByte (counterpart l) in
+      let b = backed-is s (recordsOn c) (countOn s c) (counterpart l) (standing-on s d small (counterpart l)) w f in
+      let a = asked (isReceiving (r .kind)) (any (matches r) (ledgerOn s c .passed)) (rw q h) in
+      rw (p ∙ other-byte l, ← b, e, a, state-on s (counterpart l))
+
+  -- 41
+  room-of : (l : ℕ) → roomRefusal capacity (ledgerOn s l .passed) ≡ refuse (leb capacity (countOn s l)) 41 0
+  unfolding roomRefusal
+  room-of l = rw (length-held s l)
+
+  -- 22, 23 and 24, and those after them
+  first-of : (l later : ℕ) → firstRefusal (accountsOf (pairViewOf s .pair)) (ledgerOn s l .passed) r later
+      ≡ firstBy (accountsOf (pairViewOf s .pair) (senderLedger (r .kind))) (accountsOf (pairViewOf s .pair) (receiverLedger (r .kind))) r
+      (anyAt (numberedAt (r .number) s (recordsOn l)) 0 (countOn s l)) later
+  unfolding firstRefusal firstBy ledgerIn
+  first-of l later = rw (clash-records s (recordsOn l) r (countOn s l))
+
+  -- the refusals in order are the pair validator's
+  pub judge-by : (l senders receivers last full later : ℕ) (taken : Bool) (n : ℕ)
+      → l ≡ ledgerByte (ledgerOf (r .kind))
+      → senders ≡ accountsOf (pairViewOf s .pair) (senderLedger (r .kind))
+      → receivers ≡ accountsOf (pairViewOf s .pair) (receiverLedger (r .kind))
+      → last ≡ lastRefusal (pairViewOf s .pair) r (r .kind) → full ≡ refuse (leb capacity (countOn s l)) 41 0 → later ≡ orElse last full
+      → taken ≡ anyAt (numberedAt (r .number) s (recordsOn l)) 0 (countOn s l) → n ≡ firstBy senders receivers r taken later
+      → n ≡ pairJudge capacity (pairViewOf s .pair) (Read r)
+  unfolding judge
+  judge-by l senders receivers last full later taken n eb es ev el eu ea et h =
+      let p = pairViewOf s .pair in
+      let L = ledgerOf (r .kind) in
+      let b = ledgerByte L in
+      h
+      ∙ rw (et, ea, el, eu, es, ev, eb)
+      (sym (first-of b (orElse (lastRefusal p r (r .kind)) (refuse (leb capacity (countOn s b)) 41 0)))
+      ∙ rw (← room-of b, ← state-on s L)
+      (sym (first-else (accountsOf p) (stateOf L p .passed) r (lastRefusal p r (r .kind)) (roomRefusal capacity (stateOf L p .passed)))))

@@ -1,0 +1,350 @@
+-- A record that passes: what its stores need; the words then are, seen as the rules' state, the rules' next state, and are accepted
+-- again. Assumes nothing.
+use Prim.Native.Nat.{_*_, _+_, _-_, _<_, _^_, _≤_, ℕ}
+use mathlib.Core.Bool.{true}
+use mathlib.Core.List.{List}
+use mathlib.Core.Logic.{_⊎_, inl, inr, ⊎-elim}
+use mathlib.Core.Path.{_∙_, _≡_, ap, refl, sym}
+use native.Mathlib.Omega.{arith}
+use lib.ListN.{getD, length, length-set}
+use lib.Seq.{getD-set-other, getD-set-same}
+use borrow.Author.Tests.{leb-true}
+use Rattle.answers.proofs.Answers.{or-else-zero}
+use Rattle.entries.specs.Entries.{givenBy, takenBy}
+use Rattle.ledgers.specs.Ledgers.{counterpart, ledgerByte, ledgerOf}
+use Rattle.ledgers.specs.Limits.{accountLimit, capacity, maxAmount}
+use Rattle.ledgers.specs.declared.Kind.{Kind}
+use Rattle.ledgers.specs.declared.Kind.the-variants.{Local, Receiving, Sending}
+use Rattle.ledgers.specs.declared.Ledger.{Ledger}
+use Rattle.ledgers.specs.declared.Ledger.the-variants.{Far, Home}
+use Rattle.number_index.specs.Index.{chainCount}
+use Rattle.pair_core.proofs.Accept.{PairSound, sound-accepts, sound-of}
+use Rattle.pair_core.proofs.Ledgers.{Bounds, accounts-fit, balances-within, by-byte, byte-below, length-balances, length-held}
+use Rattle.pair_core.proofs.Ledgers.{state-on}
+use Rattle.pair_core.specs.Layout.{PairReady, acceptsPair, accountsOn, accountsWord, balancesOn, countOn, countWord, formedOn}
+use Rattle.pair_core.specs.Layout.{indexOn, ledgerOn, pairViewOf, pairWith, recordsOn, supplyOf, supplyWord, zeroBeyond}
+use Rattle.records.specs.Records.{formed, reading, recordIn}
+use Rattle.records.specs.declared.Reading.the-variants.{Read}
+use Rattle.records.specs.declared.Record.{Record}
+use Rattle.records.specs.declared.Words.{Words}
+use Rattle.rules.proofs.PairAccepted.{accepts-facts, pair-step}
+use Rattle.rules.proofs.Refusals.{Passable, judge-none, room-none}
+use Rattle.rules.specs.Lists.{lowered, total}
+use Rattle.rules.specs.PairValidator.{pairAccepts, pairJudge, supplyAllowed}
+use Rattle.rules.specs.Rules.{after, afterBytes, held, judge}
+use Rattle.table.proofs.Balances.{balance-fits, balance-in, given-fits}
+use Rattle.table.proofs.Growing.{grown, grown-kept, index-beside, index-grown}
+use Rattle.table.proofs.Storing.{Agree, LedgerStored, Stored, formed-same, ledger-same, ledger-stored-of, number-same, stored-of}
+use Rattle.table.specs.Table.{IndexOf, stored}
+use Rattle.table_laws.proofs.Held.{Changes, ledger-other, zeros-kept}
+
+-- ## A ledger and the other one
+
+-- what holds of a ledger's byte and of the other's holds of each
+either : (P : ℕ → Type 0) (L : Ledger) → P (ledgerByte L) → P (ledgerByte (counterpart L)) → (l : ℕ) → l < 2 → P l
+either P Home a b = by-byte P a b
+either P Far a b = by-byte P b a
+
+-- of two parts of one size, a place in the other one's is outside the ledger's own
+beside : (L : Ledger) (from size n i : ℕ) → n ≤ size → from + ledgerByte (counterpart L) * size ≤ i
+    → i < from + ledgerByte (counterpart L) * size + size
+    → (i < from + ledgerByte L * size) ⊎ (from + ledgerByte L * size + n ≤ i)
+beside Home from size n i h a b = inr (omega arith)
+beside Far from size n i h a b = inl (omega arith)
+
+-- so are their indexes
+index-apart : (L : Ledger) (n : ℕ) → n ≤ capacity
+    → (indexOn (ledgerByte (counterpart L)) + chainCount + n ≤ indexOn (ledgerByte L))
+    ⊎ (indexOn (ledgerByte L) + chainCount + capacity ≤ indexOn (ledgerByte (counterpart L)))
+index-apart Home n h = inr (omega arith)
+index-apart Far n h = inl (omega arith)
+
+-- ## A pass
+
+-- what a pass says of a record on the ledger with byte l
+pub record PairPasses (s : List ℕ) (r : Record) (l : ℕ) : Type 0 where
+  pub room : countOn s l < capacity
+  pub changes : Changes (accountsOn s l) r (r .kind)
+  pub sender : r .sender < accountLimit
+  pub receiver : r .receiver < accountLimit
+  pub pays : takenBy (r .kind) (r .amount) ≤ getD s (balancesOn l + r .sender) 0
+
+module _ (s : List ℕ) (d : PairSound s) where
+  -- the balances of both ledgers are at most the greatest amount
+  totals-fit : total (ledgerOn s 0 .balances) + total (ledgerOn s 1 .balances) ≤ maxAmount
+  unfolding supplyAllowed
+  totals-fit =
+      omega (
+        arith,
+        accepts-facts capacity (pairViewOf s) (d .accepted) .sums,
+        leb-true (supplyOf s) maxAmount (d .bounds .supply-fits),
+      )
+
+  -- any balance is
+  balance-most : (l : ℕ) → l < 2 → (i : ℕ) → i < accountLimit → getD s (balancesOn l + i) 0 ≤ maxAmount
+  unfolding zeroBeyond
+  balance-most l h i p =
+      balance-fits s (balancesOn l) (accountsOn s l) (recordsOn l) (countOn s l) accountLimit (d .zeros l h) maxAmount
+      (by-byte (λ (m : ℕ). total (ledgerOn s m .balances) ≤ maxAmount) (omega (arith, totals-fit)) (omega (arith, totals-fit)) l h) i p
+
+  -- what is given to an account stays in 64 bits
+  pub paid-fits : (r : Record) (l : ℕ) → l < 2 → PairPasses s r l → r .amount ≤ maxAmount
+      → getD (lowered s (balancesOn l + r .sender) (takenBy (r .kind) (r .amount))) (balancesOn l + r .receiver) 0
+      + givenBy (r .kind) (r .amount) < 2 ^ 64
+  paid-fits r l h p m =
+      given-fits s (balancesOn l) r (omega (arith, d .long, p .sender)) (balance-most l h (r .sender) (p .sender))
+      (balance-most l h (r .receiver) (p .receiver)) m
+
+module _ (s : List ℕ) (d : PairSound s) (r : Record) (l o : ℕ) (hl : l < 2) (ho : o < 2) (space : countOn s l < capacity) where
+  -- the rules count as many accounts
+  own : length (ledgerOn s l .balances) ≡ accountsOn s l
+  own = length-balances s (d .long) (d .bounds) l hl
+
+  -- of the other ledger too
+  other : length (ledgerOn s o .balances) ≡ accountsOn s o
+  other = length-balances s (d .long) (d .bounds) o ho
+
+  -- no more than a ledger can have
+  fits : (m : ℕ) → m < 2 → accountsOn s m ≤ accountLimit
+  fits m h = accounts-fit s (d .bounds) m h .1
+
+  -- the sender's balance, as the rules have it
+  pays-by : r .sender < accountsOn s l → getD s (balancesOn l + r .sender) 0 ≡ getD (ledgerOn s l .balances) (r .sender) 0
+  pays-by x = balance-in s (balancesOn l) (accountsOn s l) (recordsOn l) (countOn s l) (r .sender) x
+
+  -- from what the rules ask
+  passes-by : (k : Kind) → r .kind ≡ k → Passable (ledgerOn s l) (ledgerOn s o) r k → PairPasses s r l
+  unfolding Passable Changes
+  passes-by (Local m) q h =
+      let x : r .sender < accountsOn s l = rw own at (h .0 .sender-open) in
+      let y : r .receiver < accountsOn s l = rw own at (h .0 .receiver-open) in
+      record {
+        room = space;
+        changes = rw q (x, y);
+        sender = omega (arith, fits l hl);
+        receiver = omega (arith, fits l hl);
+        pays = rw q (omega (arith, h .1, pays-by x));
+      }
+  passes-by (Sending m) q h =
+      let x : r .sender < accountsOn s l = rw own at (h .0 .sender-open) in
+      let y : r .receiver < accountsOn s o = rw other at (h .0 .receiver-open) in
+      record {
+        room = space;
+        changes = rw q x;
+        sender = omega (arith, fits l hl);
+        receiver = omega (arith, fits o ho);
+        pays = rw q (omega (arith, h .1, pays-by x));
+      }
+  passes-by (Receiving m) q h =
+      let x : r .sender < accountsOn s o = rw other at (h .0 .sender-open) in
+      let y : r .receiver < accountsOn s l = rw own at (h .0 .receiver-open) in
+      record {
+        room = space;
+        changes = rw q y;
+        sender = omega (arith, fits o ho);
+        receiver = omega (arith, fits l hl);
+        pays = rw q (omega arith);
+      }
+
+-- a record without a refusal passes
+pub passes-of : (s : List ℕ) → PairSound s → (r : Record) → pairJudge capacity (pairViewOf s .pair) (Read r) ≡ 0
+    → PairPasses s r (ledgerByte (ledgerOf (r .kind)))
+passes-of s d r j =
+    let L = ledgerOf (r .kind) in
+    let a = or-else-zero (judge (pairViewOf s .pair) r) _ j in
+    let m = room-none capacity _ (a .1) in
+    let h = judge-none (pairViewOf s .pair) r (r .kind) refl (a .0) in
+    passes-by s d r (ledgerByte L) (ledgerByte (counterpart L)) (byte-below L) (byte-below (counterpart L))
+    (rw (state-on s L, length-held s (ledgerByte L)) at m) (r .kind) refl
+    (rw (state-on s L, state-on s (counterpart L)) at h)
+
+-- ## The words after it
+
+-- words t are those after a pass: both ledgers' by the store, the others by name
+pub record PairWritten (s t : List ℕ) (w : Words) (r : Record) (L : Ledger) : Type 0 where
+  pub long : length t ≡ length s
+  pub below : (i : ℕ) → i < supplyWord
+      → getD t i 0 ≡ getD (stored s (balancesOn (ledgerByte L)) (recordsOn (ledgerByte L) + 4 * countOn s (ledgerByte L)) w r) i 0
+  pub supply : supplyOf t ≡ supplyOf s
+  pub accounts : (m : ℕ) → m < 2 → accountsOn t m ≡ accountsOn s m
+  pub count : countOn t (ledgerByte L) ≡ countOn s (ledgerByte L) + 1
+  pub others : countOn t (ledgerByte (counterpart L)) ≡ countOn s (ledgerByte (counterpart L))
+
+module _ (s : List ℕ) (w : Words) (r : Record) (d : PairSound s) (L : Ledger) (p : PairPasses s r (ledgerByte L)) where
+  -- the record's ledger
+  abbrev l : ℕ
+  l = ledgerByte L
+
+  -- the other one
+  abbrev o : ℕ
+  o = ledgerByte (counterpart L)
+
+  -- the words after the store
+  abbrev stores : List ℕ
+  stores = stored s (balancesOn l) (recordsOn l + 4 * countOn s l) w r
+
+  -- the ledger's accounts
+  own-fits : accountsOn s l ≤ accountLimit
+  own-fits = accounts-fit s (d .bounds) l (byte-below L) .1
+
+  -- the store
+  is-stored : Stored s (balancesOn l) (accountsOn s l) (recordsOn l + 4 * countOn s l) w r
+  is-stored =
+      stored-of s (balancesOn l) (accountsOn s l) (recordsOn l + 4 * countOn s l) w r (p .changes)
+      (omega (arith, p .room, byte-below L)) (balances-within s (d .long) (d .bounds) l (byte-below L))
+
+  -- a word above the balances that is not the ledger's count
+  above : (i : ℕ) → supplyWord ≤ i → (i ≡ countWord l → ⊥) → getD (pairWith s w r l) i 0 ≡ getD s i 0
+  unfolding pairWith
+  above i h a =
+      getD-set-other stores (countWord l) i (countOn s l + 1) 0 a
+      ∙ is-stored .others i (inr (omega (arith, h, own-fits, byte-below L))) (inr (omega (arith, h, p .room, byte-below L)))
+
+  -- what was written
+  written : PairWritten s (pairWith s w r l) w r L
+  unfolding pairWith
+  written =
+      record {
+        long = length-set stores (countWord l) (countOn s l + 1) ∙ is-stored .long;
+        below = λ i h. getD-set-other stores (countWord l) i (countOn s l + 1) 0 (λ q. omega arith);
+        supply = above supplyWord (omega arith) (λ q. omega arith);
+        accounts = λ m h. above (accountsWord m) (omega arith) (λ q. omega arith);
+        count = getD-set-same stores (countWord l) (countOn s l + 1) 0 (omega (arith, is-stored .long, d .long, byte-below L));
+        others = above (countWord o) (omega arith) (λ q. omega (arith, q, ledger-other L));
+      }
+
+  module _ (t : List ℕ) (c : PairWritten s t w r L) where
+    -- the ledger
+    ledger-after : LedgerStored s t (balancesOn l) (accountsOn s l) (recordsOn l) (countOn s l) supplyWord w r
+    ledger-after =
+        ledger-stored-of s t (balancesOn l) (accountsOn s l) (recordsOn l) (countOn s l) supplyWord w r (p .changes)
+        (omega (arith, p .room, byte-below L)) (omega (arith, own-fits, byte-below L)) (omega (arith, d .long)) (c .long) (c .below)
+
+    -- the other one's records
+    records-beside : Agree s t (recordsOn o) (4 * countOn s o)
+    records-beside i a b =
+        let m = d .bounds .room o (byte-below (counterpart L)) in
+        let h = byte-below (counterpart L) in
+        ledger-after .others i (omega arith) (inl (omega arith))
+        (⊎-elim (λ (q : i < 0 + l * (4 * capacity)). inl (omega arith))
+        (λ (q : 0 + l * (4 * capacity) + (4 * countOn s l + 4) ≤ i). inr (omega arith))
+        (beside L 0 (4 * capacity) (4 * countOn s l + 4) i (omega (arith, p .room)) (omega arith) (omega arith)))
+
+    -- its balances, open or not
+    balances-beside : Agree s t (balancesOn o) accountLimit
+    balances-beside i a b =
+        ledger-after .others i (omega (arith, byte-below (counterpart L)))
+        (beside L (8 * capacity) accountLimit (accountsOn s l) i own-fits a b)
+        (inr (omega (arith, p .room, byte-below L)))
+
+    -- the ledger is the rules' ledger on which the record has passed
+    own-after : recordIn w ≡ r → ledgerOn t l ≡ held (ledgerOn s l) r
+    own-after e = rw (c .accounts l (byte-below L), c .count) (ledger-after .ledger e)
+
+    -- the other one stays
+    other-after : ledgerOn t o ≡ ledgerOn s o
+    other-after =
+        let h = byte-below (counterpart L) in
+        rw (c .accounts o h, c .others)
+        (ledger-same s t (recordsOn o) (countOn s o) records-beside (balancesOn o) (accountsOn s o) (c .long)
+        (balances-within s (d .long) (d .bounds) o h)
+        (λ i a b. balances-beside i a (omega (arith, b, accounts-fit s (d .bounds) o h .1))))
+
+    -- the bounds
+    bounds-after : Bounds t
+    bounds-after =
+        let b = d .bounds in
+        record {
+          count = λ m h. rw (c .accounts m h) (b .count m h);
+          room = either (λ (m : ℕ). countOn t m ≤ capacity) L (omega (arith, c .count, p .room))
+              (omega (arith, c .others, b .room o (byte-below (counterpart L))));
+          supply-fits = rw (c .supply) (b .supply-fits);
+        }
+
+    -- balances beyond the accounts stay zero
+    zeros-after : (m : ℕ) → m < 2 → zeroBeyond t m ≡ true
+    unfolding zeroBeyond
+    zeros-after =
+        let h = byte-below (counterpart L) in
+        either (λ (m : ℕ). zeroBeyond t m ≡ true) L
+        (rw (c .accounts l (byte-below L))
+        (zeros-kept s t (balancesOn l + accountsOn s l) (accountLimit - accountsOn s l)
+        (λ i a b. ledger-after .others i (omega (arith, b, own-fits, byte-below L)) (inr a)
+        (inr (omega (arith, a, p .room, byte-below L))))
+        ∙ d .zeros l (byte-below L)))
+        (rw (c .accounts o h)
+        (zeros-kept s t (balancesOn o + accountsOn s o) (accountLimit - accountsOn s o)
+        (λ i a b. balances-beside i (omega arith) (omega (arith, a, b, accounts-fit s (d .bounds) o h .1)))
+        ∙ d .zeros o h))
+
+    -- all held records read
+    reads-after : formed w ≡ true → (m : ℕ) → m < 2 → formedOn t m ≡ true
+    unfolding formedOn
+    reads-after f =
+        either (λ (m : ℕ). formedOn t m ≡ true) L (rw (c .count) (ledger-after .reads f (d .reads l (byte-below L))))
+        (rw (c .others)
+        (formed-same s t (recordsOn o) (countOn s o) records-beside ∙ d .reads o (byte-below (counterpart L))))
+
+    -- the index of one number more, and the other ledger's
+    indexed-after : recordIn w ≡ r → (index : List ℕ) → PairReady s index
+        → (m : ℕ) → m < 2 → IndexOf t (recordsOn m) (grown index (indexOn l) (countOn s l) (r .number)) (indexOn m) (countOn t m)
+    unfolding recordIn
+    indexed-after e index a =
+        let h = byte-below (counterpart L) in
+        let q : r .number ≡ w .number = ap (λ (x : Record). x .number) (sym e) in
+        either
+        (λ (m : ℕ). IndexOf t (recordsOn m) (grown index (indexOn l) (countOn s l) (r .number)) (indexOn m) (countOn t m)) L
+        (rw (c .count)
+        (index-grown s t (recordsOn l) index (indexOn l) (countOn s l) (r .number) (a .indexed l (byte-below L))
+        (omega (arith, a .index-long, p .room, byte-below L)) (ledger-after .numbers) (q ∙ ledger-after .number)))
+        (rw (c .others)
+        (index-beside s t (recordsOn o) (indexOn o) (countOn s o)
+        (grown-kept index (indexOn l) (countOn s l) capacity (r .number) (p .room))
+        (index-apart L (countOn s o) (d .bounds .room o h)) (number-same s t (recordsOn o) (countOn s o) records-beside)
+        (a .indexed o h)))
+
+-- both ledgers, as the rules have them
+view-after : (s t : List ℕ) (w : Words) (r : Record) → PairSound s → (L : Ledger) → ledgerOf (r .kind) ≡ L
+    → PairPasses s r (ledgerByte L) → PairWritten s t w r L → recordIn w ≡ r
+    → pairViewOf t ≡ record { pair = after (pairViewOf s .pair) r; supply = supplyOf s }
+unfolding after
+view-after s t w r d Home q p c e = rw (own-after s w r d Home p t c e, other-after s w r d Home p t c, c .supply, q)
+view-after s t w r d Far q p c e = rw (own-after s w r d Far p t c e, other-after s w r d Far p t c, c .supply, q)
+
+-- the words after a pass on the ledger with byte l: accepted, with the indexes kept, and seen as the rules' next state
+pub record PairNext (s index : List ℕ) (w : Words) (r : Record) (l : ℕ) : Type 0 where
+  pub ready : PairReady (pairWith s w r l) (grown index (indexOn l) (countOn s l) (r .number))
+  pub view : pairViewOf (pairWith s w r l) ≡ record { pair = after (pairViewOf s .pair) r; supply = supplyOf s }
+
+-- bytes that pass
+pub next-of : (s index : List ℕ) → PairReady s index → (b : List ℕ) (w : Words) (r : Record) → formed w ≡ true → recordIn w ≡ r
+    → reading b ≡ Read r → pairJudge capacity (pairViewOf s .pair) (Read r) ≡ 0
+    → PairNext s index w r (ledgerByte (ledgerOf (r .kind)))
+unfolding afterBytes
+next-of s index a b w r f e q j =
+    let d = sound-of s (a .accepted) in
+    let L = ledgerOf (r .kind) in
+    let t = pairWith s w r (ledgerByte L) in
+    let p = passes-of s d r j in
+    let c = written s w r d L p in
+    let v = view-after s t w r d L refl p c e in
+    let k : pairJudge capacity (pairViewOf s .pair) (reading b) ≡ 0 = rw q j in
+    let g : pairAccepts capacity (record { pair = after (pairViewOf s .pair) r; supply = supplyOf s }) ≡ true =
+    rw q at (pair-step capacity (pairViewOf s) b (d .accepted) k) in
+    let n : acceptsPair t ≡ true =
+    sound-accepts t
+    (record {
+      long = c .long ∙ d .long;
+      bounds = bounds-after s w r d L p t c;
+      zeros = zeros-after s w r d L p t c;
+      reads = reads-after s w r d L p t c f;
+      accepted = rw v g;
+    }) in
+    record {
+      ready = record {
+        accepted = n;
+        index-long = simp length-set (a .index-long);
+        indexed = indexed-after s w r d L p t c e index a;
+      };
+      view = v;
+    }

@@ -1,0 +1,35 @@
+-- `pair_core::accounts_of` meets its contract. Assumes nothing.
+use Rattle.pair_core.proofs.Accept.{sound-of}
+use Rattle.pair_core.proofs.Ledgers.{accounts-on}
+use Rattle.pair_core.specs.Layout.{accountsOn}
+use borrow.Author.Needs.{needs}
+use mathlib.Core.Path.{_∙_, ap, sym}
+use native.Mathlib.Omega.{arith}
+use Rattle.pair_core.proofs.accounts_of.Statement.{statement}
+use Rattle.pair_core.proofs.accounts_of.Tie as tie
+
+ledger-index-requires : tie.Need-ledger-index-requires
+ledger-index-requires c κs = search needs
+
+add-result : tie.Need-add-result
+add-result c = search needs
+
+mul-result : tie.Need-mul-result
+mul-result c = search needs
+
+shared-slice-read-result : tie.Need-shared-slice-read-result
+shared-slice-read-result c =
+    let o = c .before .before .before in
+    omega (arith, sound-of (o .args .s .now) (o .pre) .long, c .before .ledger-index .ensures .1)
+
+returns : tie.Need-returns
+returns c =
+    let o = c .before .before .before in
+    let s = o .args .s .now in
+    let h = sound-of s (o .pre) in
+    ap (accountsOn s) (c .before .ledger-index .ensures .0) ∙ sym (accounts-on s (h .long) (h .bounds) (o .args .l))
+
+pub accounts-of-spec : {M : Type 1} → statement M
+accounts-of-spec =
+    tie.close
+    (tie.spec ledger-index-requires add-result mul-result shared-slice-read-result returns)

@@ -1,0 +1,91 @@
+-- `pair_core::is_held` meets its contract. Assumes nothing.
+use Prim.Native.Nat.{_+_, _-_}
+use Rattle.pair_core.proofs.Ledgers.{accounts-fit, bounds-of, index-within, records-within}
+use Rattle.pair_core.specs.Layout.{indexLength, indexOn}
+use Rattle.table.proofs.Growing.{kept-longer}
+use borrow.Author.Needs.{needs}
+use native.Mathlib.Omega.{arith}
+use Rattle.pair_core.proofs.is_held.Statement.{statement}
+use Rattle.pair_core.proofs.is_held.Tie as tie
+
+mul-hold-indexed : tie.Need-mul-hold-indexed
+mul-hold-indexed c = search needs
+
+mul-hold-indexed-2 : tie.Need-mul-hold-indexed-2
+mul-hold-indexed-2 c = search needs
+
+add-hold-indexed : tie.Need-add-hold-indexed
+add-hold-indexed c = search needs
+
+mul-hold-indexed-3 : tie.Need-mul-hold-indexed-3
+mul-hold-indexed-3 c = search needs
+
+shared-slice-read-hold-indexed : tie.Need-shared-slice-read-hold-indexed
+shared-slice-read-hold-indexed c = search needs
+
+add-hold-indexed-2 : tie.Need-add-hold-indexed-2
+add-hold-indexed-2 c = search needs
+
+mul-hold-indexed-4 : tie.Need-mul-hold-indexed-4
+mul-hold-indexed-4 c = search needs
+
+shared-slice-read-hold-indexed-2 : tie.Need-shared-slice-read-hold-indexed-2
+shared-slice-read-hold-indexed-2 c = search needs
+
+sub-hold-indexed : tie.Need-sub-hold-indexed
+sub-hold-indexed c = search needs
+
+add-hold-indexed-3 : tie.Need-add-hold-indexed-3
+add-hold-indexed-3 c = search needs
+
+mul-hold-indexed-5 : tie.Need-mul-hold-indexed-5
+mul-hold-indexed-5 c = search needs
+
+shared-slice-read-hold-indexed-3 : tie.Need-shared-slice-read-hold-indexed-3
+shared-slice-read-hold-indexed-3 c = search needs
+
+hold-indexed-requires : tie.Need-hold-indexed-requires
+hold-indexed-requires c κs =
+    let o = c .before .before .before .before .before .before in
+    let p = o .pre in
+    let s = o .args .s .now in
+    let l = o .args .l in
+    let b = bounds-of s (p .1) in (
+      records-within s (p .0) b l (p .3),
+      omega (arith, index-within s (p .0) b l (p .3), p .2),
+      b .room l (p .3),
+      p .4,
+      omega (arith, p .3),
+      accounts-fit s b l (p .3) .1,
+      accounts-fit s b (1 - l) (omega (arith, p .3)) .1,
+    )
+
+same-length : tie.Need-same-length
+same-length c = search needs
+
+returns : tie.Need-returns
+returns c =
+    let h = c .before .before .hold-indexed .ensures in
+    let o = c .before .before .before .before .before .before .before .before .before in
+    let m = bounds-of (o .args .s .now) (o .pre .1) .room (o .args .l) (o .pre .3) in
+    (h .0, (h .1 .0, kept-longer (indexOn (o .args .l) + indexLength) (omega (arith, m)) (h .1 .1)))
+
+pub is-held-spec : {M : Type 1} → statement M
+is-held-spec =
+    tie.close
+    (tie.spec
+    mul-hold-indexed
+    mul-hold-indexed-2
+    add-hold-indexed
+    mul-hold-indexed-3
+    shared-slice-read-hold-indexed
+    add-hold-indexed-2
+    mul-hold-indexed-4
+    shared-slice-read-hold-indexed-2
+    sub-hold-indexed
+    add-hold-indexed-3
+    mul-hold-indexed-5
+    shared-slice-read-hold-indexed-3
+    hold-indexed-requires
+    same-length
+    returns)

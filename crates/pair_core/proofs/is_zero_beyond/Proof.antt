@@ -1,0 +1,55 @@
+-- `pair_core::is_zero_beyond` meets its contract. Assumes nothing.
+use Prim.Native.Nat.{_≤_}
+use Rattle.ledgers.specs.Limits.{accountLimit}
+use Rattle.pair_core.proofs.Ledgers.{accounts-fit, bounds-of}
+use Rattle.pair_core.specs.Layout.{accountsOn, zeroBeyond}
+use borrow.Author.Needs.{needs}
+use native.Mathlib.Omega.{arith}
+use Rattle.pair_core.proofs.is_zero_beyond.Statement.{statement}
+use Rattle.pair_core.proofs.is_zero_beyond.Tie as tie
+
+add-accounts : tie.Need-add-accounts
+add-accounts c = search needs
+
+mul-accounts : tie.Need-mul-accounts
+mul-accounts c = search needs
+
+shared-slice-read-accounts : tie.Need-shared-slice-read-accounts
+shared-slice-read-accounts c = search needs
+
+mul-zeros : tie.Need-mul-zeros
+mul-zeros c = search needs
+
+add-zeros : tie.Need-add-zeros
+add-zeros c = search needs
+
+-- the ledger has at most as many accounts as it can have
+fits-at : (c : tie.Start) → accountsOn (c .args .s .now) (c .args .l) ≤ accountLimit
+fits-at c = accounts-fit (c .args .s .now) (bounds-of (c .args .s .now) (c .pre .1)) (c .args .l) (c .pre .2) .1
+
+add-zeros-2 : tie.Need-add-zeros-2
+add-zeros-2 c = omega (arith, fits-at (c .before .before), c .before .before .pre .2)
+
+sub-zeros : tie.Need-sub-zeros
+sub-zeros c = fits-at (c .before .before)
+
+zeros-requires : tie.Need-zeros-requires
+zeros-requires c κs = omega (arith, fits-at (c .before .before), c .before .before .pre .0, c .before .before .pre .2)
+
+returns : tie.Need-returns
+unfolding zeroBeyond
+returns c = c .zeros .ensures
+
+pub is-zero-beyond-spec : {M : Type 1} → statement M
+is-zero-beyond-spec =
+    tie.close
+    (tie.spec
+    add-accounts
+    mul-accounts
+    shared-slice-read-accounts
+    mul-zeros
+    add-zeros
+    add-zeros-2
+    sub-zeros
+    zeros-requires
+    returns)

@@ -1,0 +1,117 @@
+-- `pair_core::judge` meets its contract. Assumes nothing.
+use Rattle.ledgers.specs.Ledgers.{ledgerByte}
+use Rattle.pair_core.proofs.Accept.{PairSound, sound-of}
+use Rattle.pair_core.proofs.Judging.{judge-by}
+use Rattle.pair_core.proofs.Ledgers.{index-within, records-within}
+use Rattle.pair_core.specs.Layout.{pairViewOf}
+use Rattle.rules.specs.Rules.{accountsOf}
+use borrow.Author.Needs.{needs}
+use mathlib.Core.Path.{_∙_, ap}
+use native.Mathlib.Omega.{arith}
+use Rattle.pair_core.proofs.judge.Statement.{statement}
+use Rattle.pair_core.proofs.judge.Tie as tie
+
+ledger-requires : tie.Need-ledger-requires
+ledger-requires c κs = search needs
+
+ledger-index-requires : tie.Need-ledger-index-requires
+ledger-index-requires c κs = search needs
+
+add-count : tie.Need-add-count
+add-count c = search needs
+
+mul-count : tie.Need-mul-count
+mul-count c = search needs
+
+-- the state is accepted
+sound-at : (c : tie.Start) → PairSound (c .args .s .now)
+sound-at c = sound-of (c .args .s .now) (c .pre .0 .accepted)
+
+shared-slice-read-count : tie.Need-shared-slice-read-count
+shared-slice-read-count c = omega (
+  arith,
+  sound-at (c .before .before .before .before .before) .long,
+  c .before .ledger-index .ensures
+      .1,
+)
+
+sender-ledger-requires : tie.Need-sender-ledger-requires
+sender-ledger-requires c κs = search needs
+
+accounts-of-requires : tie.Need-accounts-of-requires
+accounts-of-requires c κs = search needs
+
+receiver-ledger-requires : tie.Need-receiver-ledger-requires
+receiver-ledger-requires c κs = search needs
+
+accounts-of-requires-2 : tie.Need-accounts-of-requires-2
+accounts-of-requires-2 c κs = search needs
+
+last-refusal-requires : tie.Need-last-refusal-requires
+last-refusal-requires c κs = search needs
+
+refusal-if-requires : tie.Need-refusal-if-requires
+refusal-if-requires c κs = search needs
+
+mul-is-used : tie.Need-mul-is-used
+mul-is-used c = search needs
+
+mul-is-used-2 : tie.Need-mul-is-used-2
+mul-is-used-2 c = search needs
+
+is-used-requires : tie.Need-is-used-requires
+is-used-requires c κs =
+    let o = c .before .before .before .before .before .before .before .before .before .before .before in
+    let s = o .args .s .now in
+    let h = sound-at o in
+    let l = c .before .before .before .before .before .before .before .ledger-index .result in
+    let p = c .before .before .before .before .before .before .before .ledger-index .ensures .1 in (
+      records-within s (h .long) (h .bounds) l p,
+      omega (arith, index-within s (h .long) (h .bounds) l p, o .pre .0 .index-long),
+      o .pre .0 .indexed l p,
+    )
+
+first-refusal-requires : tie.Need-first-refusal-requires
+first-refusal-requires c κs = search needs
+
+first-refusals-requires : tie.Need-first-refusals-requires
+first-refusals-requires c κs = search needs
+
+returns : tie.Need-returns
+returns c =
+    let c5 = c .before .before .before .before .before in
+    let c7 = c5 .before .before in
+    let c10 = c7 .before .before .before in
+    let a = c10 .before .before .before .before .args in
+    let p = pairViewOf (a .s .now) .pair in
+    judge-by (a .s .now) (a .r) _ _ _ _ _ _ _ _
+    (c10 .ledger-index .ensures .0 ∙ ap ledgerByte (c10 .before .ledger .ensures))
+    (c7 .accounts-of .ensures ∙ ap (accountsOf p) (c7 .before .sender-ledger .ensures))
+    (c5 .accounts-of2 .ensures ∙ ap (accountsOf p) (c5 .before .receiver-ledger .ensures))
+    (c .before .before .before .before .last-refusal .ensures)
+    (c .before .before .before .refusal-if .ensures)
+    (c .before .first-refusal .ensures)
+    (c .before .before .is-used .ensures)
+    (c .first-refusals .ensures)
+
+pub judge-spec : {M : Type 1} → statement M
+judge-spec =
+    tie.close
+    (tie.spec
+    ledger-requires
+    ledger-index-requires
+    add-count
+    mul-count
+    shared-slice-read-count
+    sender-ledger-requires
+    accounts-of-requires
+    receiver-ledger-requires
+    accounts-of-requires-2
+    last-refusal-requires
+    refusal-if-requires
+    mul-is-used
+    mul-is-used-2
+    is-used-requires
+    first-refusal-requires
+    first-refusals-requires
+    returns)

@@ -1,0 +1,147 @@
+-- `pair_core::last_refusal` meets its contract. Assumes nothing.
+use Prim.Native.Nat.{_-_, _<_, _^_, ℕ}
+use Rattle.answers.specs.Answers.{refuse}
+use Rattle.ledgers.specs.Ledgers.{ledgerByte, ledgerOf}
+use Rattle.pair_core.proofs.Accept.{PairSound, sound-of}
+use Rattle.pair_core.proofs.Judging.{last-matched, last-paid}
+use Rattle.pair_core.proofs.Ledgers.{accounts-fit, index-within, records-within}
+use Rattle.pair_core.specs.Layout.{accountsOn, balancesOn}
+use Rattle.tables.specs.Columns.{fundsAt}
+use borrow.Author.Needs.{needs}
+use lib.ListN.{getD}
+use mathlib.Core.Bool.{Bool, not}
+use mathlib.Core.Path.{_∙_, _≡_, ap, refl, sym}
+use native.Mathlib.Omega.{arith}
+use Rattle.pair_core.proofs.last_refusal.Statement.{statement}
+use Rattle.pair_core.proofs.last_refusal.Tie as tie
+
+ledger-requires : tie.Need-ledger-requires
+ledger-requires c κs = search needs
+
+ledger-index-requires : tie.Need-ledger-index-requires
+ledger-index-requires c κs = search needs
+
+is-receiving-requires : tie.Need-is-receiving-requires
+is-receiving-requires c κs = search needs
+
+sub-o : tie.Need-sub-o
+sub-o c = search needs
+
+add-count : tie.Need-add-count
+add-count c = search needs
+
+mul-count : tie.Need-mul-count
+mul-count c = search needs
+
+-- the state is accepted
+sound-at : (c : tie.Start) → PairSound (c .args .s .now)
+sound-at c = sound-of (c .args .s .now) (c .pre .0 .accepted)
+
+-- the record's ledger
+ledger-at : (c : tie.After-ledger-index) → c .ledger-index .result ≡ ledgerByte (ledgerOf (c .before .before .before .before .args .r
+    .kind))
+ledger-at c = c .ledger-index .ensures .0 ∙ ap ledgerByte (c .before .ledger .ensures)
+
+shared-slice-read-count : tie.Need-shared-slice-read-count
+shared-slice-read-count c = omega (arith, sound-at (c .before .before .before .before .before .before .before) .long)
+
+mul-is-backed : tie.Need-mul-is-backed
+mul-is-backed c = search needs
+
+mul-is-backed-2 : tie.Need-mul-is-backed-2
+mul-is-backed-2 c = search needs
+
+is-backed-requires : tie.Need-is-backed-requires
+is-backed-requires c κs =
+    let o = c .before .before .before .before .before .before .before in
+    let s = o .args .s .now in
+    let h = sound-at o in
+    let m = 1 - c .before .before .before .ledger-index .result in
+    let p : m < 2 = omega arith in (
+      records-within s (h .long) (h .bounds) m p,
+      omega (arith, index-within s (h .long) (h .bounds) m p, o .pre .0 .index-long),
+      o .pre .0 .indexed m p,
+      omega arith,
+    )
+
+refusal-if-requires : tie.Need-refusal-if-requires
+refusal-if-requires c κs = search needs
+
+returns : tie.Need-returns
+returns c =
+    let o = c .before .before .before .before .before .before .before .before .before in
+    let small : (i : ℕ) → getD (o .args .s .now) i 0 < 2 ^ 64 = λ i. omega (
+      arith,
+      c .before .before .before .before .before .before
+          .before .before .shared-slice-known .given i,
+    ) in
+    c .refusal-if .ensures
+    ∙ ap (λ (t : Bool). refuse (not t) 31 0) (c .before .is-backed .ensures)
+    ∙ last-matched (o .args .s .now) (o .args .r) (sound-at o) small (o .args .w) (o .pre .1) (o .pre .2) (o .args .r .kind) refl
+    (sym (c .before .before .before .before .is-receiving .ensures) ∙ c .before .before .before .if1 .taken) (1 - c .before .before
+    .before .before .before .ledger-index .result)
+    (ap (λ (l : ℕ). 1 - l) (ledger-at (c .before .before .before .before .before)))
+
+mul-funds-refusal : tie.Need-mul-funds-refusal
+mul-funds-refusal c = search needs
+
+add-funds-refusal : tie.Need-add-funds-refusal
+add-funds-refusal c = search needs
+
+add-funds-refusal-2 : tie.Need-add-funds-refusal-2
+add-funds-refusal-2 c = search needs
+
+mul-funds-refusal-2 : tie.Need-mul-funds-refusal-2
+mul-funds-refusal-2 c = search needs
+
+shared-slice-read-funds-refusal : tie.Need-shared-slice-read-funds-refusal
+shared-slice-read-funds-refusal c = omega (
+  arith,
+  sound-at (c .before .before .before .before .before .before .before) .long,
+  c .before
+      .before .before .ledger-index .ensures .1,
+)
+
+funds-refusal-requires : tie.Need-funds-refusal-requires
+funds-refusal-requires c κs =
+    let h = sound-at (c .before .before .before .before .before .before .before) in
+    let l = c .before .before .before .ledger-index in
+    omega (
+      arith,
+      h .long,
+      accounts-fit (c .before .before .before .before .before .before .before .args .s .now) (h .bounds) (l
+          .result) (l .ensures .1) .1,
+      l .ensures .1,
+    )
+
+returns-2 : tie.Need-returns-2
+returns-2 c =
+    let a = c .before .before .before .before .before .before .before .before .args in
+    let s = a .s .now in
+    c .funds-refusal .ensures
+    ∙ ap (λ (l : ℕ). fundsAt s (balancesOn l) (accountsOn s l) (a .r)) (ledger-at (c .before .before .before .before))
+    ∙ last-paid s (a .r) (a .r .kind) (sym (c .before .before .before .is-receiving .ensures) ∙ c .before .before .if1 .left)
+
+pub last-refusal-spec : {M : Type 1} → statement M
+last-refusal-spec =
+    tie.close
+    (tie.spec
+    ledger-requires
+    ledger-index-requires
+    is-receiving-requires
+    sub-o
+    add-count
+    mul-count
+    shared-slice-read-count
+    mul-is-backed
+    mul-is-backed-2
+    is-backed-requires
+    refusal-if-requires
+    returns
+    mul-funds-refusal
+    add-funds-refusal
+    add-funds-refusal-2
+    mul-funds-refusal-2
+    shared-slice-read-funds-refusal
+    funds-refusal-requires
+    returns-2)

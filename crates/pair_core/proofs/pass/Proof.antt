@@ -1,0 +1,116 @@
+-- `pair_core::pass` meets its contract. Assumes nothing.
+use Prim.Native.Nat.{_+_, ℕ}
+use Rattle.ledgers.specs.Ledgers.{ledgerByte, ledgerOf}
+use Rattle.pair_core.proofs.Accept.{PairSound, sound-of}
+use Rattle.pair_core.proofs.Passing.{PairPasses, paid-fits, passes-of}
+use Rattle.pair_core.specs.Layout.{countOn, countWord, pairWith}
+use Rattle.table.proofs.Records.{amount-fits}
+use borrow.Author.Needs.{needs}
+use lib.ListN.{set}
+use mathlib.Core.List.{List}
+use mathlib.Core.Path.{_∙_, _≡_, ap, subst, sym}
+use native.Mathlib.Omega.{arith}
+use Rattle.pair_core.proofs.pass.Statement.{statement}
+use Rattle.pair_core.proofs.pass.Tie as tie
+
+ledger-requires : tie.Need-ledger-requires
+ledger-requires c κs = search needs
+
+ledger-index-requires : tie.Need-ledger-index-requires
+ledger-index-requires c κs = search needs
+
+add-count : tie.Need-add-count
+add-count c = search needs
+
+mul-count : tie.Need-mul-count
+mul-count c = search needs
+
+element-copy-out-count : tie.Need-element-copy-out-count
+element-copy-out-count c = search needs
+
+mul-store : tie.Need-mul-store
+mul-store c = search needs
+
+add-store : tie.Need-add-store
+add-store c = search needs
+
+mul-store-2 : tie.Need-mul-store-2
+mul-store-2 c = search needs
+
+-- the state is accepted
+sound-at : (c : tie.Start) → PairSound (c .args .state .now)
+sound-at c = sound-of (c .args .state .now) (c .pre .0)
+
+-- the record's ledger
+ledger-at : (c : tie.After-ledger-index) → c .ledger-index .result ≡ ledgerByte (ledgerOf (c .before .before .args .r .kind))
+ledger-at c = c .ledger-index .ensures .0 ∙ ap ledgerByte (c .before .ledger .ensures)
+
+-- the record passes on it
+passes-at : (c : tie.After-ledger-index) → PairPasses (c .before .before .args .state .now) (c .before .before .args .r) (c
+    .ledger-index .result)
+passes-at c =
+    let a = c .before .before .args in
+    subst (PairPasses (a .state .now) (a .r)) (sym (ledger-at c)) (passes-of (a .state .now) (sound-at (c .before .before)) (a .r) (c
+    .before .before .pre .3))
+
+mul-store-3 : tie.Need-mul-store-3
+mul-store-3 c = omega (arith, passes-at (c .before .before) .room)
+
+add-store-2 : tie.Need-add-store-2
+add-store-2 c = omega (arith, passes-at (c .before .before) .room, c .before .before .ledger-index .ensures .1)
+
+store-requires : tie.Need-store-requires
+store-requires c κs =
+    let o = c .before .before .before .before in
+    let a = o .args in
+    let h = sound-at o in
+    let p = passes-at (c .before .before) in
+    let l = c .before .before .ledger-index in (
+      omega (arith, h .long, p .sender, l .ensures .1),
+      omega (arith, h .long, p .receiver, l .ensures .1),
+      omega (arith, h .long, p .room, l .ensures .1),
+      p .pays,
+      paid-fits (a .state .now) h (a .r) (l .result) (l .ensures .1) p (amount-fits (a .w) (a .r) (o .pre .1) (o .pre .2)),
+    )
+
+add-state : tie.Need-add-state
+add-state c = omega (arith, passes-at (c .before .before .before) .room)
+
+add-state-2 : tie.Need-add-state-2
+add-state-2 c = search needs
+
+mul-state : tie.Need-mul-state
+mul-state c = search needs
+
+element-write-state : tie.Need-element-write-state
+element-write-state c = search needs
+
+returns : tie.Need-returns
+unfolding pairWith
+returns c =
+    let a = c .before .before .before .before .before .args in
+    let s = a .state .now in
+    let l = c .before .before .before .ledger-index .result in
+    ap (λ (x : List ℕ). set x (countWord l) (countOn s l + 1)) (c .store .ensures) ∙ ap (pairWith s (a .w) (a .r)) (ledger-at (c
+    .before .before .before))
+
+pub pass-spec : {M : Type 1} → statement M
+pass-spec =
+    tie.close
+    (tie.spec
+    ledger-requires
+    ledger-index-requires
+    add-count
+    mul-count
+    element-copy-out-count
+    mul-store
+    add-store
+    mul-store-2
+    mul-store-3
+    add-store-2
+    store-requires
+    add-state
+    add-state-2
+    mul-state
+    element-write-state
+    returns)

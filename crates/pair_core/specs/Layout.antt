@@ -1,0 +1,157 @@
+-- The state of the pair validator (document 01: pair book) is one array of words: the held records of home, four words each, as many as
+-- the capacity, and those of far; the balances of home, as many as a ledger can have, and those of far; then the supply, the numbers
+-- of home and of far accounts, and the numbers of held records of both. Here stands what it is as the rules' state, what refusal 3
+-- asks of it, and what a passed record makes of it. A ledger is named by its byte. Assumes nothing.
+use Prim.Native.Nat.{_*_, _+_, _-_, _<_, ℕ}
+use mathlib.Core.Bool.{Bool, true}
+use mathlib.Core.List.{List, [], _++_, _∷_}
+use mathlib.Core.Path.{_≡_}
+use lib.Dec.{eqb, leb}
+use lib.ListN.{getD, length, replicate, set}
+use Rattle.ledgers.specs.Ledgers.{ledgerByte, ledgerOf}
+use Rattle.ledgers.specs.Limits.{accountLimit, capacity}
+use Rattle.number_index.specs.Index.{chainCount}
+use Rattle.records.specs.Records.{formed, reading, wordsOf}
+use Rattle.records.specs.declared.Reading.{Reading}
+use Rattle.records.specs.declared.Reading.the-variants.{Read, Unreadable}
+use Rattle.records.specs.declared.Record.{Record}
+use Rattle.records.specs.declared.Words.{Words}
+use Rattle.rules.specs.Calls.{Checker}
+use Rattle.rules.specs.Lists.{total}
+use Rattle.rules.specs.PairValidator.{PairView, countAllowed, pairAccepts, pairJudge, supplyAllowed}
+use Rattle.rules.specs.Rules.{LedgerState}
+use Rattle.table.specs.Table.{IndexOf, ledgerIn, stored, wordsAt}
+use Rattle.tables.specs.Columns.{padded, zerosAt}
+use Rattle.tables.specs.Places.{allAt}
+use Rattle.wire.specs.BigEndian.{every}
+
+-- ## The layout
+
+-- the first word of a ledger's records
+abbrev pub recordsOn : ℕ → ℕ
+recordsOn l = l * (4 * capacity)
+
+-- of its balances
+abbrev pub balancesOn : ℕ → ℕ
+balancesOn l = 8 * capacity + l * accountLimit
+
+-- the words of the supply, of a ledger's number of accounts and of its number of held records
+abbrev pub supplyWord : ℕ
+supplyWord = 8 * capacity + 2 * accountLimit
+
+abbrev pub accountsWord : ℕ → ℕ
+accountsWord l = supplyWord + 1 + l
+
+abbrev pub countWord : ℕ → ℕ
+countWord l = supplyWord + 3 + l
+
+-- all words
+abbrev pub pairWords : ℕ
+pairWords = supplyWord + 5
+
+-- ## What the words say
+
+-- document 01: stake
+abbrev pub supplyOf : List ℕ → ℕ
+supplyOf s = getD s supplyWord 0
+
+-- the number of a ledger's accounts
+abbrev pub accountsOn : List ℕ → ℕ → ℕ
+accountsOn s l = getD s (accountsWord l) 0
+
+-- of its held records
+abbrev pub countOn : List ℕ → ℕ → ℕ
+countOn s l = getD s (countWord l) 0
+
+-- a ledger
+abbrev pub ledgerOn : List ℕ → ℕ → LedgerState
+ledgerOn s l = ledgerIn s (balancesOn l) (accountsOn s l) (recordsOn l) (countOn s l)
+
+-- the state, seen as the rules' state
+abbrev pub pairViewOf : List ℕ → PairView
+pairViewOf s = record { pair = record { home = ledgerOn s 0; far = ledgerOn s 1 }; supply = supplyOf s }
+
+-- ## 3
+
+-- the counts of accounts and of held records, and the supply, are in bounds (Refusals: 3, counts out of bounds, stake)
+unfoldable pub pairBounds : List ℕ → Bool
+pairBounds s =
+    every
+    (countAllowed (accountsOn s 0)
+    ∷ countAllowed (accountsOn s 1)
+    ∷ leb (countOn s 0) capacity
+    ∷ leb (countOn s 1) capacity
+    ∷ supplyAllowed (supplyOf s)
+    ∷ []
+    )
+
+-- the balances of a ledger beyond its accounts are zero (Refusals: 3, a balance beyond the accounts)
+unfoldable pub zeroBeyond : List ℕ → ℕ → Bool
+zeroBeyond s l = zerosAt s (balancesOn l + accountsOn s l) (accountLimit - accountsOn s l)
+
+-- the held records of a ledger are formed (Refusals: 3, a held record that 21 would refuse)
+unfoldable pub formedOn : List ℕ → ℕ → Bool
+formedOn s l = allAt (λ (i : ℕ). formed (wordsAt s (recordsOn l) i)) 0 (countOn s l)
+
+-- refusal 3: what only the words can hold, and what the rules' state is asked
+unfoldable pub acceptsPair : List ℕ → Bool
+acceptsPair s =
+    every
+    (eqb (length s) pairWords
+    ∷ pairBounds s
+    ∷ zeroBeyond s 0
+    ∷ zeroBeyond s 1
+    ∷ formedOn s 0
+    ∷ formedOn s 1
+    ∷ pairAccepts capacity (pairViewOf s)
+    ∷ []
+    )
+
+-- ## A passed record
+
+-- the words once a record has passed on the ledger with byte l: its balances and its own words, the number of held records
+unfoldable pub pairWith : List ℕ → Words → Record → ℕ → List ℕ
+pairWith s w r l = set (stored s (balancesOn l) (recordsOn l + 4 * countOn s l) w r) (countWord l) (countOn s l + 1)
+
+-- the words once what was read has passed
+abbrev pub pairAfterRead : List ℕ → Words → Reading → List ℕ
+pairAfterRead s w Unreadable = s
+pairAfterRead s w (Read r) = pairWith s w r (ledgerByte (ledgerOf (r .kind)))
+
+-- the pair validator over words
+abbrev pub pairWordsChecker : Checker (List ℕ)
+pairWordsChecker =
+    record {
+      accepts = acceptsPair;
+      judge = λ s b. pairJudge capacity (pairViewOf s .pair) (reading b);
+      after = λ s b. pairAfterRead s (wordsOf b) (reading b);
+    }
+
+-- ## The opening
+
+-- the words of an accepted opening
+unfoldable pub pairOpenedWords : List ℕ → List ℕ → List ℕ
+pairOpenedWords homes fars =
+    replicate (8 * capacity) 0
+    ++ (padded homes
+    ++ (padded fars ++ (total homes + total fars) ∷ length homes ∷ length fars ∷ 0 ∷ 0 ∷ []))
+
+-- all zero, which 3 refuses: what stands beside a refused opening
+unfoldable pub pairZeroWords : List ℕ
+pairZeroWords = replicate pairWords 0
+
+-- ## For inner functions
+
+-- the elements of a ledger's index of numbers: the heads of the chains, then the places
+abbrev pub indexLength : ℕ
+indexLength = chainCount + capacity
+
+-- where a ledger's index starts
+abbrev pub indexOn : ℕ → ℕ
+indexOn l = l * indexLength
+
+-- a state that is accepted, with the indexes of its numbers
+pub record PairReady (s index : List ℕ) : Type 0 where
+  pub accepted : acceptsPair s ≡ true
+  pub index-long : length index ≡ 2 * indexLength
+  pub indexed : (l : ℕ) → l < 2 → IndexOf s (recordsOn l) index (indexOn l) (countOn s l)

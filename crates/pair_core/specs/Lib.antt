@@ -1,0 +1,4 @@
+-- The pair validator over the words of its state. Assumes nothing.
+
+pub mod Layout
+pub mod Testing

@@ -1,0 +1,346 @@
+// The pair validator (document 01: pair book) over the words of its state, in place: whether a state is accepted, a record judged, a
+// passed record stored, and the calls with one record and with a list. Functions on one ledger take its byte as an index.
+ghost use Prim.Native.Nat.{ℕ, _+_, _*_, _<_};
+ghost use mathlib.Core.Bool.{true};
+ghost use mathlib.Core.Path.{_≡_};
+ghost use lib.ListN.{length};
+ghost use Rattle.ledgers.specs.Ledgers.{ledgerByte, ledgerOf};
+ghost use Rattle.ledgers.specs.Limits.{capacity};
+ghost use Rattle.number_index.specs.Index.{Kept};
+ghost use Rattle.pair_core.specs.Layout.{PairReady, acceptsPair, countOn, indexLength, indexOn, pairBounds, pairViewOf};
+ghost use Rattle.pair_core.specs.Layout.{pairWith, pairWords, pairWordsChecker, recordsOn, zeroBeyond};
+ghost use Rattle.pair_core.specs.Testing.{backedOn, heldOn, sumsAgree};
+ghost use Rattle.records.specs.Records.{formed, recordIn};
+ghost use Rattle.records.specs.declared.Reading.the-variants.{Read};
+ghost use Rattle.rules.specs.Calls.{call, callOne, list, one};
+ghost use Rattle.rules.specs.PairValidator.{pairJudge};
+ghost use Rattle.rules.specs.Rules.{accountsOf, lastRefusal};
+ghost use Rattle.table.specs.Table.{IndexOf};
+use answers::Answer;
+use answers::first_refusal;
+use answers::refusal_if;
+use entries::is_count_allowed;
+use entries::is_receiving;
+use exact_sums::Wide;
+use exact_sums::add_balances;
+use inputs::part_end;
+use ledgers::Ledger;
+use number_index::CHAINS;
+use record_refusals::first_refusals;
+use record_refusals::funds_refusal;
+use records::Reading;
+use records::Record;
+use records::Words;
+use table::add_crossings;
+use table::add_number;
+use table::all_backed;
+use table::hold_indexed;
+use table::is_backed;
+use table::is_used;
+use table::store;
+use table_checks::zeros;
+
+// ## The layout
+
+// The words of a ledger's records, which stand first, home's before far's.
+pub const RECORDS: usize = 4 * Ledger::CAPACITY;
+
+// The first word of the balances, home's before far's.
+pub const BALANCES: usize = 2 * RECORDS;
+
+// The words of the supply, of the numbers of accounts and of the numbers of held records.
+pub const SUPPLY: usize = BALANCES + 2 * Ledger::ACCOUNTS;
+
+pub const ACCOUNTS: usize = SUPPLY + 1;
+
+pub const COUNTS: usize = SUPPLY + 3;
+
+// All words of a state.
+pub const WORDS: usize = SUPPLY + 5;
+
+// The elements of a ledger's index of numbers, and of both.
+const INDEX: usize = CHAINS + Ledger::CAPACITY;
+
+pub const INDEXES: usize = 2 * INDEX;
+
+// A ledger's index among both.
+pub fn ledger_index(l: Ledger) -> usize
+    ensures { λ r. ⌜ (r ≡ ledgerByte l) × (r < 2) ⌝ }
+{
+    match l {
+        Ledger::Home => 0,
+        Ledger::Far => 1,
+    }
+}
+
+// ## 3
+
+// Counts of accounts and of held records, and the supply.
+fn is_bounded(s: &[u64]) -> bool
+    requires { ⌜ length (now s) ≡ pairWords ⌝ }
+    ensures { λ b. ⌜ b ≡ pairBounds (now (s .entry)) ⌝ }
+{
+    if !is_count_allowed(s[ACCOUNTS] as usize) {
+        return false;
+    }
+    if !is_count_allowed(s[ACCOUNTS + 1] as usize) {
+        return false;
+    }
+    if Ledger::CAPACITY < s[COUNTS] as usize {
+        return false;
+    }
+    if Ledger::CAPACITY < s[COUNTS + 1] as usize {
+        return false;
+    }
+    s[SUPPLY] <= Record::MAX_AMOUNT
+}
+
+// Balances of a ledger beyond its accounts.
+fn is_zero_beyond(s: &[u64], l: usize) -> bool
+    requires { ⌜ (length (now s) ≡ pairWords) × (pairBounds (now s) ≡ true) × (l < 2) ⌝ }
+    ensures { λ b. ⌜ b ≡ zeroBeyond (now (s .entry)) l ⌝ }
+{
+    let accounts = s[ACCOUNTS + l] as usize;
+    zeros(
+        s,
+        BALANCES + l * Ledger::ACCOUNTS + accounts,
+        Ledger::ACCOUNTS - accounts,
+    )
+}
+
+// Each held record of a ledger by itself, and their numbers; where they hold, their index is made in place of an empty one.
+fn is_held<'a, 'b>(s: &'a [u64], index: &'b mut [u16], l: usize) -> bool
+    requires { ⌜ (length (now s) ≡ pairWords) × (pairBounds (now s) ≡ true) × (length (now index) ≡ 2 * indexLength) × (l < 2)
+        × IndexOf (now s) (recordsOn l) (now index) (indexOn l) 0 ⌝ }
+    ensures holds { λ b. ⌜ b ≡ heldOn (now (s .entry)) l ⌝ }
+    ensures indexed { λ b. ⌜ (b ≡ true → IndexOf (now (s .entry)) (recordsOn l) (now (index .exit)) (indexOn l)
+        (countOn (now (s .entry)) l)) ⌝ }
+    ensures others { λ b. ⌜ Kept (indexOn l) (indexOn l + indexLength) (now (index .entry)) (now (index .exit)) ⌝ }
+{
+    hold_indexed(
+        s,
+        index,
+        l * RECORDS,
+        l * INDEX,
+        s[COUNTS + l] as usize,
+        l as u64,
+        s[ACCOUNTS + l],
+        s[ACCOUNTS + (1 - l)],
+    )
+}
+
+// The arrivals of a ledger, each with its sending on the other one.
+fn is_ledger_backed<'a>(s: &'a [u64], index: &'a [u16], l: usize) -> bool
+    requires { ⌜ (length (now s) ≡ pairWords) × (pairBounds (now s) ≡ true) × (length (now index) ≡ 2 * indexLength) × (l < 2)
+        × ((m : ℕ) → m < 2 → IndexOf (now s) (recordsOn m) (now index) (indexOn m) (countOn (now s) m)) ⌝ }
+    ensures { λ b. ⌜ b ≡ backedOn (now (s .entry)) l ⌝ }
+{
+    let o = 1 - l;
+    all_backed(
+        s,
+        index,
+        l * RECORDS,
+        s[COUNTS + l] as usize,
+        o as u64,
+        o * RECORDS,
+        o * INDEX,
+        s[COUNTS + o] as usize,
+    )
+}
+
+// Balances and what was sent, against the supply and what arrived.
+fn adds_up(s: &[u64]) -> bool
+    requires { ⌜ (length (now s) ≡ pairWords) × (pairBounds (now s) ≡ true) ⌝ }
+    ensures { λ b. ⌜ b ≡ sumsAgree (now (s .entry)) ⌝ }
+{
+    let zero = Wide { high: 0, low: 0 };
+    let homes = add_balances(s, BALANCES, s[ACCOUNTS] as usize, zero);
+    let held = add_balances(
+        s,
+        BALANCES + Ledger::ACCOUNTS,
+        s[ACCOUNTS + 1] as usize,
+        homes,
+    );
+    let home = add_crossings(s, 0, s[COUNTS] as usize, held, zero.add(s[SUPPLY]));
+    let both = add_crossings(s, RECORDS, s[COUNTS + 1] as usize, home.sent, home.received);
+    let sent = both.sent;
+    let received = both.received;
+    if sent.high != received.high {
+        return false;
+    }
+    sent.low == received.low
+}
+
+// All that 3 asks of a state; where it holds, the indexes of its numbers are made in place of empty ones.
+pub fn is_accepted<'a, 'b>(s: &'a [u64], index: &'b mut [u16]) -> bool
+    requires { ⌜ (length (now index) ≡ 2 * indexLength)
+        × ((l : ℕ) → l < 2 → IndexOf (now s) (recordsOn l) (now index) (indexOn l) 0) ⌝ }
+    ensures accepts { λ b. ⌜ b ≡ acceptsPair (now (s .entry)) ⌝ }
+    ensures ready { λ b. ⌜ (b ≡ true → PairReady (now (s .entry)) (now (index .exit))) ⌝ }
+    ensures long { λ b. ⌜ length (now (index .exit)) ≡ length (now (index .entry)) ⌝ }
+{
+    if s.len() != WORDS {
+        return false;
+    }
+    if !is_bounded(s) {
+        return false;
+    }
+    if !is_zero_beyond(s, 0) {
+        return false;
+    }
+    if !is_zero_beyond(s, 1) {
+        return false;
+    }
+    if !is_held(s, index, 0) {
+        return false;
+    }
+    if !is_held(s, index, 1) {
+        return false;
+    }
+    if !is_ledger_backed(s, index, 0) {
+        return false;
+    }
+    if !is_ledger_backed(s, index, 1) {
+        return false;
+    }
+    adds_up(s)
+}
+
+// ## Judging a record
+
+// The number of accounts of a ledger.
+fn accounts_of(s: &[u64], l: Ledger) -> usize
+    requires { ⌜ acceptsPair (now s) ≡ true ⌝ }
+    ensures { λ n. ⌜ n ≡ accountsOf (pairViewOf (now (s .entry)) .pair) l ⌝ }
+{
+    s[ACCOUNTS + ledger_index(l)] as usize
+}
+
+// 25 or 31, or 0.
+fn last_refusal<'a>(s: &'a [u64], index: &'a [u16], w: Words, r: Record) -> u32
+    requires { ⌜ PairReady (now s) (now index) × (formed w ≡ true) × (recordIn w ≡ r) ⌝ }
+    ensures { λ n. ⌜ n ≡ lastRefusal (pairViewOf (now (s .entry)) .pair) r (r .kind) ⌝ }
+{
+    let kind = r.kind;
+    let l = ledger_index(kind.ledger());
+    if is_receiving(kind) {
+        let o = 1 - l;
+        let count = s[COUNTS + o] as usize;
+        let backed = is_backed(s, index, o as u64, o * RECORDS, o * INDEX, count, w);
+        return refusal_if(!backed, 31);
+    }
+    funds_refusal(
+        s,
+        BALANCES + l * Ledger::ACCOUNTS,
+        s[ACCOUNTS + l] as usize,
+        r,
+    )
+}
+
+// The refusals of a record that was read, 22 to 41 in order, or 0.
+pub fn judge<'a>(s: &'a [u64], index: &'a [u16], w: Words, r: Record) -> u32
+    requires { ⌜ PairReady (now s) (now index) × (formed w ≡ true) × (recordIn w ≡ r) ⌝ }
+    ensures { λ n. ⌜ n ≡ pairJudge capacity (pairViewOf (now (s .entry)) .pair) (Read r) ⌝ }
+{
+    let kind = r.kind;
+    let l = ledger_index(kind.ledger());
+    let count = s[COUNTS + l] as usize;
+    let senders = accounts_of(s, kind.sender_ledger());
+    let receivers = accounts_of(s, kind.receiver_ledger());
+    let last = last_refusal(s, index, w, r);
+    let full = refusal_if(Ledger::CAPACITY <= count, 41);
+    let used = is_used(s, index, l * RECORDS, l * INDEX, count, r.number);
+    first_refusals(senders, receivers, r, used, first_refusal(last, full))
+}
+
+// ## A passed record
+
+// All stores of a passed record.
+fn pass(state: &mut [u64; WORDS], w: Words, r: Record)
+    requires { ⌜ (acceptsPair (now state) ≡ true) × (formed w ≡ true) × (recordIn w ≡ r)
+        × (pairJudge capacity (pairViewOf (now state) .pair) (Read r) ≡ 0) ⌝ }
+    ensures { λ _. ⌜ now (state .exit) ≡ pairWith (now (state .entry)) w r (ledgerByte (ledgerOf (r .kind))) ⌝ }
+{
+    let kind = r.kind;
+    let l = ledger_index(kind.ledger());
+    let count = state[COUNTS + l];
+    store(
+        state,
+        BALANCES + l * Ledger::ACCOUNTS,
+        l * RECORDS + 4 * count as usize,
+        w,
+        r,
+    );
+    state[COUNTS + l] = count + 1;
+}
+
+// ## The calls
+
+// One record of a call in an accepted state, with the indexes of its numbers kept: its refusal, 21 first, or 0 where it passes and is
+// stored.
+pub fn step<'a, 'b>(state: &'a mut [u64; WORDS], index: &'b mut [u16; INDEXES], bytes: &[u8]) -> u32
+    requires { ⌜ PairReady (now state) (now index) ⌝ }
+    ensures answers { λ n. ⌜ n ≡ pairWordsChecker .judge (now (state .entry)) (now (bytes .entry)) ⌝ }
+    ensures leaves { λ n. ⌜ now (state .exit) ≡ callOne pairWordsChecker (now (state .entry)) (now (bytes .entry)) .state ⌝ }
+    ensures keeps { λ n. ⌜ PairReady (now (state .exit)) (now (index .exit)) ⌝ }
+{
+    let Reading::Read(r) = Record::read(bytes) else {
+        return 21;
+    };
+    let w = Words::of(bytes);
+    let number = judge(state, index, w, r);
+    if number != 0 {
+        return number;
+    }
+    let kind = r.kind;
+    let l = ledger_index(kind.ledger());
+    let count = state[COUNTS + l] as usize;
+    pass(state, w, r);
+    add_number(index, l * INDEX, count, r.number);
+    0
+}
+
+// A call with one record, on a state lent: 3, 21 and 22 to 41. A refusal leaves every word as it was.
+pub fn take(state: &mut [u64; WORDS], bytes: &[u8]) -> Answer
+    ensures answers { λ a. ⌜ a ≡ call pairWordsChecker (now (state .entry)) (one (now (bytes .entry))) .answer ⌝ }
+    ensures leaves { λ a. ⌜ now (state .exit) ≡ call pairWordsChecker (now (state .entry)) (one (now (bytes .entry))) .state ⌝ }
+{
+    let mut index = [0u16; INDEXES];
+    if !is_accepted(state, &mut index) {
+        return Answer::Refused {
+            number: 3,
+            place: 0,
+        };
+    }
+    let number = step(state, &mut index, bytes);
+    Answer::new(number, 0)
+}
+
+// A call with a list of records, on a state lent: 3, then of each record 21 and 22 to 41. A refusal has its record's index, and leaves
+// every word as it was.
+pub fn take_list(state: &mut [u64; WORDS], bytes: &[u8]) -> Answer
+    ensures answers { λ a. ⌜ a ≡ call pairWordsChecker (now (state .entry)) (list (now (bytes .entry))) .answer ⌝ }
+    ensures leaves { λ a. ⌜ now (state .exit) ≡ call pairWordsChecker (now (state .entry)) (list (now (bytes .entry))) .state ⌝ }
+{
+    let mut index = [0u16; INDEXES];
+    if !is_accepted(state, &mut index) {
+        return Answer::Refused {
+            number: 3, // once, before all else
+            place: 0,
+        };
+    }
+    let before = *state;
+    let mut at = 0;
+    let mut i: u64 = 0;
+    while at < bytes.len() {
+        let end = part_end(Record::SIZE, at, bytes.len());
+        let number = step(state, &mut index, &bytes[at..end]);
+        if number != 0 {
+            *state = before; // nothing of the list is kept
+            return Answer::Refused { number, place: i };
+        }
+        at = end;
+        i += 1;
+    }
+    Answer::Passed
+}
