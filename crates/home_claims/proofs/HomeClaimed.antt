@@ -10,20 +10,21 @@ use lib.ListN.{length}
 use borrow.Author.Tests.{leb-false, leb-true}
 use Rattle.answers.specs.Answers.{answer}
 use Rattle.answers.specs.declared.Answer.the-variants.{Passed, Refused}
-use Rattle.home_laws.proofs.Accept.{length-home-held}
-use Rattle.home_laws.proofs.Passing.{HomeSound, home-next-of, home-sound-accepts, home-sound-of}
-use Rattle.home_tables.specs.Tables.{acceptsHome, homeIn}
+use Rattle.home_core.proofs.Accept.{length-held, sound-accepts, sound-of}
+use Rattle.home_core.proofs.Passing.{next-of}
+use Rattle.home_core.specs.Layout.{acceptsHome, poolOf}
 use Rattle.home_validator.proofs.HomeOpened.{home-opened-sound, home-opened-view, home-zero-refused}
 use Rattle.home_claims.specs.Claims.{HomeCallsAsRules, HomeFullWhenNoneLeft, HomeListsAndRefusals, HomeOpenedAsRules}
 use Rattle.home_claims.specs.Claims.{HomePlacesLeft, HomeStateAnswers, HomeStateWithin, HomeStatesAnswer}
 use Rattle.home_claims.specs.Claims.{HomeStatesStayAccepted, HomeStatesWithin, HomeThreeExactly, HomeZeroRefused}
 use Rattle.home_claims.specs.Claims.{homePassedOfRun, homePlacesLeft, homeStateOfRun}
-use Rattle.home_validator.specs.State.{homeChecker, homeOpenedState, homeTablesOf, homeViewOfState, homeZeroState}
+use Rattle.home_validator.specs.State.{homeChecker, homeOpenedState, homeViewOfState, homeZeroState}
 use Rattle.home_validator.specs.declared.HomeValidator.{HomeValidator}
 use Rattle.inputs.proofs.Parts.{call-unaccepted}
 use Rattle.ledgers.specs.Limits.{capacity}
 use Rattle.ledgers.specs.declared.Ledger.the-variants.{Home}
-use Rattle.records.specs.Records.{reading}
+use Rattle.records.proofs.Formed.{read-formed}
+use Rattle.records.specs.Records.{reading, wordsOf}
 use Rattle.records.specs.declared.Reading.{Reading}
 use Rattle.records.specs.declared.Reading.the-variants.{Read, Unreadable}
 use Rattle.records.specs.declared.Record.{Record}
@@ -44,43 +45,44 @@ use Rattle.wire.specs.BigEndian.{All}
 
 -- ## The program's states follow the rules' states
 
+-- a state that the program accepts
+abbrev Accepted : HomeValidator → Type 0
+Accepted s = acceptsHome (s .words) ≡ true
+
 -- both accept
-same-accepts : (s : HomeValidator) → HomeSound (homeTablesOf s)
-    → homeChecker .accepts s ≡ homeValidator capacity .accepts (homeViewOfState s)
-same-accepts s z = home-sound-accepts (homeTablesOf s) z ∙ sym (z .accepted)
+same-accepts : (s : HomeValidator) → Accepted s → homeChecker .accepts s ≡ homeValidator capacity .accepts (homeViewOfState s)
+same-accepts s a = a ∙ sym (sound-of (s .words) a .accepted)
 
 -- both judge alike
-same-judge : (s : HomeValidator) (b : List ℕ) → HomeSound (homeTablesOf s)
+same-judge : (s : HomeValidator) (b : List ℕ) → Accepted s
     → homeChecker .judge s b ≡ homeValidator capacity .judge (homeViewOfState s) b
-same-judge s b z = refl
+same-judge s b a = refl
 
 -- both go on alike
-same-after : (s : HomeValidator) (b : List ℕ) → HomeSound (homeTablesOf s) → homeChecker .judge s b ≡ 0
-    → HomeSound (homeTablesOf (homeChecker .after s b))
+same-after : (s : HomeValidator) (b : List ℕ) → Accepted s → homeChecker .judge s b ≡ 0
+    → Accepted (homeChecker .after s b)
     × (homeViewOfState (homeChecker .after s b) ≡ homeValidator capacity .after (homeViewOfState s) b)
-same-after s b z j = go (reading b) refl j
+same-after s b a j = go (reading b) refl j
   where
     go : (x : Reading) → reading b ≡ x → homeJudge capacity (homeViewOfState s) x ≡ 0
-        → HomeSound (homeTablesOf (homeChecker .after s b))
+        → Accepted (homeChecker .after s b)
         × (homeViewOfState (homeChecker .after s b) ≡ homeValidator capacity .after (homeViewOfState s) b)
     go Unreadable q h = absurd (omega arith)
-    go (Read r) q h = let n = home-next-of (homeTablesOf s) z r b q h in rw q (n .sound, n .view)
+    go (Read r) q h =
+        let f = read-formed b r q in
+        let n = next-of (s .words) a b (wordsOf b) r (f .1) (f .2) q h in
+        rw q (n .accepted, n .view)
 
 -- a call
-agrees : (s : HomeValidator) (d : Call) → HomeSound (homeTablesOf s)
-    → Agree homeChecker (homeValidator capacity) homeViewOfState (λ (s : HomeValidator). HomeSound (homeTablesOf s)) same-accepts
-    same-judge same-after (call homeChecker s d) (call (homeValidator capacity) (homeViewOfState s) d)
-agrees s d z =
-    agree-call homeChecker (homeValidator capacity) homeViewOfState (λ (s : HomeValidator). HomeSound (homeTablesOf s)) same-accepts
-    same-judge same-after s d z
+agrees : (s : HomeValidator) (d : Call) → Accepted s
+    → Agree homeChecker (homeValidator capacity) homeViewOfState Accepted same-accepts same-judge same-after (call homeChecker s d)
+    (call (homeValidator capacity) (homeViewOfState s) d)
+agrees s d a = agree-call homeChecker (homeValidator capacity) homeViewOfState Accepted same-accepts same-judge same-after s d a
 
 -- a run
-follows : (s : HomeValidator) (ds : List Call) → HomeSound (homeTablesOf s)
-    → Follows homeChecker (homeValidator capacity) homeViewOfState (λ (s : HomeValidator). HomeSound (homeTablesOf s)) same-accepts
-    same-judge same-after s ds
-follows s ds z =
-    simulation homeChecker (homeValidator capacity) homeViewOfState (λ (s : HomeValidator). HomeSound (homeTablesOf s)) same-accepts
-    same-judge same-after ds s z
+follows : (s : HomeValidator) (ds : List Call) → Accepted s
+    → Follows homeChecker (homeValidator capacity) homeViewOfState Accepted same-accepts same-judge same-after s ds
+follows s ds a = simulation homeChecker (homeValidator capacity) homeViewOfState Accepted same-accepts same-judge same-after ds s a
 
 -- an opening
 pub home-opened-as-rules : HomeOpenedAsRules
@@ -90,7 +92,7 @@ home-opened-as-rules = home-opened-view
 -- any call
 pub home-calls-as-rules : HomeCallsAsRules
 unfolding HomeCallsAsRules
-home-calls-as-rules s z a d = let g = agrees s d (home-sound-of (homeTablesOf s) z a) in (g .answers, g .states)
+home-calls-as-rules s a d = let g = agrees s d a in (g .answers, g .states)
 
 -- no judgement is 3
 judge-never-3 : (s : HomeValidator) (b : List ℕ) → homeChecker .judge s b ≡ 3 → ⊥
@@ -103,13 +105,13 @@ home-three-exactly s d = (λ h. call-unaccepted homeChecker s d h, λ h. never-3
 
 -- ## A call with one record
 
-module _ (s : HomeValidator) (z : HomeSound (homeTablesOf s)) (b : List ℕ) where
+module _ (s : HomeValidator) (a : Accepted s) (b : List ℕ) where
   rules : HomeAnswers capacity (homeViewOfState s) b
   unfolding HomeAnswersAll
-  rules = home-answers capacity (homeViewOfState s) (z .accepted) b
+  rules = home-answers capacity (homeViewOfState s) (sound-of (s .words) a .accepted) b
 
   answers : call homeChecker s (one b) .answer ≡ call (homeValidator capacity) (homeViewOfState s) (one b) .answer
-  answers = agrees s (one b) z .answers
+  answers = agrees s (one b) a .answers
 
   -- a refusal with the state
   refused : (n place : ℕ)
@@ -117,8 +119,8 @@ module _ (s : HomeValidator) (z : HomeSound (homeTablesOf s)) (b : List ℕ) whe
       → call homeChecker s (one b) ≡ record { answer = Refused n place; state = s }
   unfolding RefusedUnaltered
   refused n place h =
-      let a : call homeChecker s (one b) .answer ≡ Refused n place = answers ∙ ap (λ (x : Result HomeView). x .answer) h in
-      λ i. record { answer = a i; state = refused-unaltered homeChecker s (one b) n place a i }
+      let e : call homeChecker s (one b) .answer ≡ Refused n place = answers ∙ ap (λ (x : Result HomeView). x .answer) h in
+      λ i. record { answer = e i; state = refused-unaltered homeChecker s (one b) n place e i }
 
   -- a judgement without a refusal leaves the state that follows
   state-after : (r : Record) → reading b ≡ Read r → call homeChecker s (one b) .answer ≡ Passed
@@ -140,7 +142,7 @@ module _ (s : HomeValidator) (z : HomeSound (homeTablesOf s)) (b : List ℕ) whe
               absurd (never-both 41 0
               (sym p ∙ ap (λ (x : Result HomeView). x .answer) (rules .refuses-full r q j (leb-true _ _ e))))
           room false e =
-              agrees s (one b) z .states
+              agrees s (one b) a .states
               ∙ ap (λ (x : Result HomeView). x .state) (rules .passes r q j (leb-false _ _ e))
 
   state-answers : HomeStateAnswers s b
@@ -156,7 +158,7 @@ module _ (s : HomeValidator) (z : HomeSound (homeTablesOf s)) (b : List ℕ) whe
 -- in every accepted state the program answers as the rules do
 pub home-states-answer : HomeStatesAnswer
 unfolding HomeStatesAnswer
-home-states-answer s z a b = state-answers s (home-sound-of (homeTablesOf s) z a) b
+home-states-answer s a b = state-answers s a b
 
 -- lists in turn, and refusals
 pub home-lists-and-refusals : HomeListsAndRefusals
@@ -166,16 +168,16 @@ home-lists-and-refusals = (lists-in-turn homeChecker, refused-unaltered homeChec
 -- accepted states stay accepted
 pub home-states-stay-accepted : HomeStatesStayAccepted
 unfolding HomeStatesStayAccepted
-home-states-stay-accepted s z a d =
-    let i = agrees s d (home-sound-of (homeTablesOf s) z a) .invariant in
-    (i .sized, home-sound-accepts (homeTablesOf (call homeChecker s d .state)) i)
+home-states-stay-accepted s a d = agrees s d a .invariant
 
 -- ## Demand 3, second half
 
 module _ (homes : List ℕ) (fars farTotal : ℕ) (ok : homeOpeningRefusal homes fars farTotal ≡ 0) (ds : List Call) where
-  run-follows : Follows homeChecker (homeValidator capacity) homeViewOfState (λ (s : HomeValidator). HomeSound (homeTablesOf s))
-      same-accepts same-judge same-after (homeOpenedState homes fars farTotal) ds
-  run-follows = follows (homeOpenedState homes fars farTotal) ds (home-opened-sound homes fars farTotal ok)
+  run-follows : Follows homeChecker (homeValidator capacity) homeViewOfState Accepted same-accepts same-judge same-after
+      (homeOpenedState homes fars farTotal) ds
+  run-follows =
+      follows (homeOpenedState homes fars farTotal) ds
+      (sound-accepts (homeOpenedState homes fars farTotal .words) (home-opened-sound homes fars farTotal ok))
 
   -- the state reached, as the rules have it
   reached : homeViewOfState (homeStateOfRun homes fars farTotal ds) ≡ run (homeValidator capacity) (homeOpened homes fars farTotal) ds
@@ -209,10 +211,7 @@ module _ (homes : List ℕ) (fars farTotal : ℕ) (ok : homeOpeningRefusal homes
       rw (call-same d, passed-same)
       (exactly-when-possible capacity (omega arith) homes fars farTotal ok ds bytes d db home (rw passed-same at most) split l t)
 
-  state-accepted : acceptsHome (homeTablesOf (homeStateOfRun homes fars farTotal ds)) ≡ true
-  state-accepted = home-sound-accepts (homeTablesOf (homeStateOfRun homes fars farTotal ds)) (run-follows .invariant)
-
-  pool-same : homeTablesOf (homeStateOfRun homes fars farTotal ds) .pool
+  pool-same : poolOf (homeStateOfRun homes fars farTotal ds .words)
       ≡ farPoolOf farTotal (recordsOn Home (homePassedOfRun homes fars farTotal ds))
   pool-same = ap (λ (x : HomeView). x .farPool) reached ∙ rw passed-same (within .figure)
 
@@ -222,17 +221,17 @@ module _ (homes : List ℕ) (fars farTotal : ℕ) (ok : homeOpeningRefusal homes
         exactly = exactly-state;
         bounded = λ xs ys e. within .bounded xs ys (sym passed-same ∙ e);
         each = λ xs ys b r e. within .each xs ys b r (sym passed-same ∙ e);
-        figures = rw state-accepted
+        figures = rw (run-follows .invariant)
             (λ i. record {
               answer = Passed;
-              home = total (homeIn (homeTablesOf (homeStateOfRun homes fars farTotal ds)) .balances);
+              home = total (homeViewOfState (homeStateOfRun homes fars farTotal ds) .home .balances);
               pool = pool-same i;
             });
         as-rules = reached;
         home-records = rw passed-same (within .home-records);
         table = ap (λ (x : HomeView). x .home .passed) reached ∙ rw passed-same (within .table);
-        accepted = state-accepted;
-        never-3 = never-3 homeChecker judge-never-3 (homeStateOfRun homes fars farTotal ds) state-accepted;
+        accepted = run-follows .invariant;
+        never-3 = never-3 homeChecker judge-never-3 (homeStateOfRun homes fars farTotal ds) (run-follows .invariant);
       }
 
 -- after every run
@@ -247,9 +246,8 @@ home-zero-is-refused d = call-unaccepted homeChecker homeZeroState d home-zero-r
 
 -- ## The places left
 
--- those of accepted tables
-left-is : (s : HomeValidator) → acceptsHome (homeTablesOf s) ≡ true
-    → homePlacesLeft s .home ≡ capacity - length (homeViewOfState s .home .passed)
+-- those of an accepted state
+left-is : (s : HomeValidator) → Accepted s → homePlacesLeft s .home ≡ capacity - length (homeViewOfState s .home .passed)
 left-is s a = rw a
 
 -- after every run
@@ -257,20 +255,26 @@ pub home-places-left : HomePlacesLeft
 unfolding HomePlacesLeft
 home-places-left homes fars farTotal ok ds =
     let s = homeStateOfRun homes fars farTotal ds in
-    let z = run-follows homes fars farTotal ok ds .invariant in
     let w = within-state homes fars farTotal ok ds in
     record {
       told = rw (w .accepted);
-      with-passed = omega (arith, left-is s (w .accepted), ap length (w .table), length-home-held (homeTablesOf s), z .bounds .room);
+      with-passed =
+          omega (
+            arith,
+            left-is s (w .accepted),
+            ap length (w .table),
+            length-held (s .words),
+            sound-of (s .words) (w .accepted) .bounds .room,
+          );
     }
 
 -- 41 exactly when no place is left
 pub home-full-when-none-left : HomeFullWhenNoneLeft
 unfolding HomeFullWhenNoneLeft
-home-full-when-none-left s z a b r q j = (only, whenever)
+home-full-when-none-left s a b r q j = (only, whenever)
   where
     f : HomeStateAnswers s b
-    f = state-answers s (home-sound-of (homeTablesOf s) z a) b
+    f = state-answers s a b
 
     n : ℕ
     n = length (homeViewOfState s .home .passed)

@@ -8,10 +8,10 @@ use mathlib.Core.Path.{_≡_}
 use lib.ListN.{length}
 use Rattle.answers.specs.Answers.{answer}
 use Rattle.answers.specs.declared.Answer.the-variants.{Passed, Refused}
+use Rattle.home_core.specs.Layout.{acceptsHome}
 use Rattle.home_figures.specs.Figures.{homeFiguresOf, homePlacesOf}
 use Rattle.home_figures.specs.declared.HomePlaces.{HomePlaces}
-use Rattle.home_tables.specs.Tables.{HomeSized, acceptsHome, homeIn}
-use Rattle.home_validator.specs.State.{homeChecker, homeOpenedState, homeTablesOf, homeViewOfState, homeZeroState}
+use Rattle.home_validator.specs.State.{homeChecker, homeOpenedState, homeViewOfState, homeZeroState}
 use Rattle.home_validator.specs.declared.HomeValidator.{HomeValidator}
 use Rattle.ledgers.specs.Limits.{capacity}
 use Rattle.ledgers.specs.declared.Kind.the-variants.{Receiving}
@@ -37,7 +37,7 @@ HomeOpenedAsRules =
 -- any call in an accepted state has the answer of the rules' call and, seen as the rules' state, its state
 unfoldable pub HomeCallsAsRules : Type 0
 HomeCallsAsRules =
-    (s : HomeValidator) → HomeSized (homeTablesOf s) → acceptsHome (homeTablesOf s) ≡ true → (d : Call)
+    (s : HomeValidator) → acceptsHome (s .words) ≡ true → (d : Call)
     → (call homeChecker s d .answer ≡ call (homeValidator capacity) (homeViewOfState s) d .answer)
     × (homeViewOfState (call homeChecker s d .state) ≡ call (homeValidator capacity) (homeViewOfState s) d .state)
 
@@ -45,8 +45,8 @@ HomeCallsAsRules =
 unfoldable pub HomeThreeExactly : Type 0
 HomeThreeExactly =
     (s : HomeValidator) (d : Call)
-    → (acceptsHome (homeTablesOf s) ≡ false → call homeChecker s d ≡ record { answer = Refused 3 0; state = s })
-    × (acceptsHome (homeTablesOf s) ≡ true → (place : ℕ) → call homeChecker s d .answer ≡ Refused 3 place → ⊥)
+    → (acceptsHome (s .words) ≡ false → call homeChecker s d ≡ record { answer = Refused 3 0; state = s })
+    × (acceptsHome (s .words) ≡ true → (place : ℕ) → call homeChecker s d .answer ≡ Refused 3 place → ⊥)
 
 -- ## A call with one record
 
@@ -71,7 +71,7 @@ pub record HomeStateAnswers (s : HomeValidator) (b : List ℕ) : Type 0 where
 -- in every state that the home validator accepts, and for every byte string
 unfoldable pub HomeStatesAnswer : Type 0
 HomeStatesAnswer =
-    (s : HomeValidator) → HomeSized (homeTablesOf s) → acceptsHome (homeTablesOf s) ≡ true → (b : List ℕ) → HomeStateAnswers s b
+    (s : HomeValidator) → acceptsHome (s .words) ≡ true → (b : List ℕ) → HomeStateAnswers s b
 
 -- a call with a list answers by its records in turn; a refusal of any call hands back the state handed in
 unfoldable pub HomeListsAndRefusals : Type 0
@@ -80,8 +80,8 @@ HomeListsAndRefusals = ListsInTurn homeChecker × RefusedUnaltered homeChecker
 -- a call in any accepted state, reached by a run or not, hands back an accepted one
 unfoldable pub HomeStatesStayAccepted : Type 0
 HomeStatesStayAccepted =
-    (s : HomeValidator) → HomeSized (homeTablesOf s) → acceptsHome (homeTablesOf s) ≡ true → (d : Call)
-    → HomeSized (homeTablesOf (call homeChecker s d .state)) × (acceptsHome (homeTablesOf (call homeChecker s d .state)) ≡ true)
+    (s : HomeValidator) → acceptsHome (s .words) ≡ true → (d : Call)
+    → acceptsHome (call homeChecker s d .state .words) ≡ true
 
 -- ## Demand 3, second half
 
@@ -109,11 +109,11 @@ pub record HomeStateWithin (homes : List ℕ) (fars farTotal : ℕ) (ds : List C
   pub each : (xs ys : List (List ℕ)) (b : List ℕ) (r : Record) → homePassedOfRun homes fars farTotal ds ≡ xs ++ b ∷ ys
       → reading b ≡ Read r → r .kind ≡ Receiving Home → r .amount ≤ farPoolOf farTotal (recordsOn Home xs)
   -- the figures that the validator gives are the home total and the far pool worked out
-  pub figures : homeFiguresOf (acceptsHome (homeTablesOf (homeStateOfRun homes fars farTotal ds)))
-      (homeTablesOf (homeStateOfRun homes fars farTotal ds))
+  pub figures : homeFiguresOf (acceptsHome (homeStateOfRun homes fars farTotal ds .words))
+      (homeStateOfRun homes fars farTotal ds .words)
       ≡ record {
         answer = Passed;
-        home = total (homeIn (homeTablesOf (homeStateOfRun homes fars farTotal ds)) .balances);
+        home = total (homeViewOfState (homeStateOfRun homes fars farTotal ds) .home .balances);
         pool = farPoolOf farTotal (recordsOn Home (homePassedOfRun homes fars farTotal ds));
       }
   -- the state is, seen as the rules' state, the one that the rules' run reaches
@@ -121,10 +121,10 @@ pub record HomeStateWithin (homes : List ℕ) (fars farTotal : ℕ) (ds : List C
   -- every passed record is a home one
   pub home-records : All HomeRecord (homePassedOfRun homes fars farTotal ds)
   -- the table holds the passed records, in order
-  pub table : homeIn (homeTablesOf (homeStateOfRun homes fars farTotal ds)) .passed
+  pub table : homeViewOfState (homeStateOfRun homes fars farTotal ds) .home .passed
       ≡ recordsOn Home (homePassedOfRun homes fars farTotal ds)
   -- the state is accepted
-  pub accepted : acceptsHome (homeTablesOf (homeStateOfRun homes fars farTotal ds)) ≡ true
+  pub accepted : acceptsHome (homeStateOfRun homes fars farTotal ds .words) ≡ true
   -- no call answers 3
   pub never-3 : (d : Call) (place : ℕ) → call homeChecker (homeStateOfRun homes fars farTotal ds) d .answer ≡ Refused 3 place → ⊥
 
@@ -142,7 +142,7 @@ HomeZeroRefused = (d : Call) → call homeChecker homeZeroState d ≡ record { a
 
 -- what the validator gives for a state
 abbrev pub homePlacesLeft : HomeValidator → HomePlaces
-homePlacesLeft s = homePlacesOf (acceptsHome (homeTablesOf s)) (homeTablesOf s)
+homePlacesLeft s = homePlacesOf (acceptsHome (s .words)) (s .words)
 
 -- what holds of it after the calls of a run
 pub record HomePlacesLeftAfter (homes : List ℕ) (fars farTotal : ℕ) (ds : List Call) : Type 0 where
@@ -162,6 +162,6 @@ HomePlacesLeft =
 -- is left
 unfoldable pub HomeFullWhenNoneLeft : Type 0
 HomeFullWhenNoneLeft =
-    (s : HomeValidator) → HomeSized (homeTablesOf s) → acceptsHome (homeTablesOf s) ≡ true → (b : List ℕ) (r : Record)
+    (s : HomeValidator) → acceptsHome (s .words) ≡ true → (b : List ℕ) (r : Record)
     → reading b ≡ Read r → homeJudgeRecord (homeViewOfState s) r ≡ 0
     → (call homeChecker s (one b) .answer ≡ answer 41 0) ↔ (homePlacesLeft s .home ≡ 0)

@@ -253,22 +253,24 @@ module _ (s t : List ℕ) (w : Words) (r : Record) (o : HomeSound s) (p : HomePa
             (ledger-after .numbers) (q ∙ ledger-after .number));
       }
 
--- the words after a pass: accepted, with the index kept, and seen as the rules' next state
-pub record HomeNext (s index : List ℕ) (w : Words) (r : Record) : Type 0 where
-  pub ready : HomeReady (homeWith s w r) (grown index 0 (countOf s) (r .number))
+-- the words after a pass: accepted, seen as the rules' next state, and with the index kept
+pub record HomeNext (s : List ℕ) (w : Words) (r : Record) : Type 0 where
+  pub accepted : acceptsHome (homeWith s w r) ≡ true
   pub view : homeViewOf (homeWith s w r) ≡ homeAfter (homeViewOf s) (Read r)
+  pub ready : (index : List ℕ) → HomeReady s index → HomeReady (homeWith s w r) (grown index 0 (countOf s) (r .number))
 
 -- bytes that pass
-pub next-of : (s index : List ℕ) → HomeReady s index → (b : List ℕ) (w : Words) (r : Record) → formed w ≡ true → recordIn w ≡ r
-    → reading b ≡ Read r → homeJudge capacity (homeViewOf s) (Read r) ≡ 0 → HomeNext s index w r
-next-of s index d b w r f e q j =
-    let o = sound-of s (d .accepted) in
+pub next-of : (s : List ℕ) → acceptsHome s ≡ true → (b : List ℕ) (w : Words) (r : Record) → formed w ≡ true → recordIn w ≡ r
+    → reading b ≡ Read r → homeJudge capacity (homeViewOf s) (Read r) ≡ 0 → HomeNext s w r
+next-of s h b w r f e q j =
+    let o = sound-of s h in
     let p = passes-of s o r j in
     let c = written s w r o p in
     let k : homeJudge capacity (homeViewOf s) (reading b) ≡ 0 = rw q j in
     let a : homeAccepts capacity (homeAfter (homeViewOf s) (Read r)) ≡ true =
     rw q at (home-step capacity (homeViewOf s) b (o .accepted) k) in
     record {
-      ready = ready-after s (homeWith s w r) w r o p c e index d f a;
+      accepted = accepted-after s (homeWith s w r) w r o p c e f a;
       view = view-after s (homeWith s w r) w r o p c e;
+      ready = λ index d. ready-after s (homeWith s w r) w r o p c e index d f a;
     }

@@ -31,6 +31,6 @@ module _ (s index b : List ℕ) (h : HomeReady s index) where
   unfolding callOne
   step-passed r q j t i e g =
       let f = read-formed b r q in
-      let x = next-of s index h b (wordsOf b) r (f .1) (f .2) q j in
+      let x = next-of s (h .accepted) b (wordsOf b) r (f .1) (f .2) q j in
       let l : callOne homeWordsChecker s b .state ≡ homeWith s (wordsOf b) r = rw (q, j) in
-      (rw q (sym j), (e ∙ sym l, rw (e, g) (x .ready)))
+      (rw q (sym j), (e ∙ sym l, rw (e, g) (x .ready index h)))

@@ -1,3 +1,4 @@
--- Laws of the home validator's calls, and the theorems about them. Assumes nothing.
+-- Proofs about the home validator. Assumes nothing.
+
 pub mod HomeOpened
-pub mod HomeStepping
+pub mod Words

@@ -1,2 +1,2 @@
 -- It holds. Assumes nothing.
-pub mod Claimed
+pub mod PairClaimed

@@ -8,14 +8,14 @@ use mathlib.Core.Path.{_≡_}
 use lib.ListN.{length}
 use Rattle.answers.specs.Answers.{answer}
 use Rattle.answers.specs.declared.Answer.the-variants.{Passed, Refused}
-use Rattle.ledgers.specs.Ledgers.{ledgerByte, ledgerOf}
+use Rattle.ledgers.specs.Ledgers.{ledgerOf}
 use Rattle.ledgers.specs.Limits.{capacity}
 use Rattle.ledgers.specs.declared.Ledger.{Ledger}
 use Rattle.ledgers.specs.declared.Ledger.the-variants.{Far, Home}
-use Rattle.pair_figures.specs.Figures.{figuresOf, placesOf}
+use Rattle.pair_core.specs.Layout.{acceptsPair}
+use Rattle.pair_figures.specs.Figures.{pairFiguresOf, pairPlacesOf}
 use Rattle.pair_figures.specs.declared.PairPlaces.{PairPlaces}
-use Rattle.pair_tables.specs.Tables.{Sized, accepts, balancesOf, heldOf}
-use Rattle.pair_validator.specs.State.{openedState, pairChecker, tablesOf, viewOfState, zeroState}
+use Rattle.pair_validator.specs.State.{pairChecker, pairOpenedState, pairViewOfState, pairZeroState}
 use Rattle.pair_validator.specs.declared.PairValidator.{PairValidator}
 use Rattle.records.specs.Records.{reading}
 use Rattle.records.specs.declared.Reading.the-variants.{Read, Unreadable}
@@ -28,106 +28,110 @@ use Rattle.rules.specs.Rules.{afterBytes, judge, judgeBytes, stateOf}
 -- ## The rules' calls
 
 -- an accepted opening gives, seen as the rules' state, the rules' opening
-unfoldable pub OpenedAsRules : Type 0
-OpenedAsRules = (homes fars : List ℕ) → pairOpeningRefusal homes fars ≡ 0 → viewOfState (openedState homes fars) ≡ pairOpened homes fars
+unfoldable pub PairOpenedAsRules : Type 0
+PairOpenedAsRules =
+    (homes fars : List ℕ) → pairOpeningRefusal homes fars ≡ 0
+    → pairViewOfState (pairOpenedState homes fars) ≡ pairOpened homes fars
 
 -- any call in an accepted state has the answer of the rules' call and, seen as the rules' state, its state
-unfoldable pub CallsAsRules : Type 0
-CallsAsRules =
-    (s : PairValidator) → Sized (tablesOf s) → accepts (tablesOf s) ≡ true → (d : Call)
-    → (call pairChecker s d .answer ≡ call (pairValidator capacity) (viewOfState s) d .answer)
-    × (viewOfState (call pairChecker s d .state) ≡ call (pairValidator capacity) (viewOfState s) d .state)
+unfoldable pub PairCallsAsRules : Type 0
+PairCallsAsRules =
+    (s : PairValidator) → acceptsPair (s .words) ≡ true → (d : Call)
+    → (call pairChecker s d .answer ≡ call (pairValidator capacity) (pairViewOfState s) d .answer)
+    × (pairViewOfState (call pairChecker s d .state) ≡ call (pairValidator capacity) (pairViewOfState s) d .state)
 
 -- 3 is answered in its condition, with the state as it came, and not otherwise
-unfoldable pub ThreeExactly : Type 0
-ThreeExactly =
+unfoldable pub PairThreeExactly : Type 0
+PairThreeExactly =
     (s : PairValidator) (d : Call)
-    → (accepts (tablesOf s) ≡ false → call pairChecker s d ≡ record { answer = Refused 3 0; state = s })
-    × (accepts (tablesOf s) ≡ true → (place : ℕ) → call pairChecker s d .answer ≡ Refused 3 place → ⊥)
+    → (acceptsPair (s .words) ≡ false → call pairChecker s d ≡ record { answer = Refused 3 0; state = s })
+    × (acceptsPair (s .words) ≡ true → (place : ℕ) → call pairChecker s d .answer ≡ Refused 3 place → ⊥)
 
 -- ## Demand 2
 
 -- what holds of a call with one record, whatever its bytes, in an accepted state
-pub record StateFollowsRules (s : PairValidator) (b : List ℕ) : Type 0 where
+pub record PairStateFollowsRules (s : PairValidator) (b : List ℕ) : Type 0 where
   -- what does not read is refused 21
   pub unreadable : reading b ≡ Unreadable → call pairChecker s (one b) ≡ record { answer = Refused 21 0; state = s }
   -- a record passes exactly when the rules pass it and its ledger's table is not full
   pub passes-when : (r : Record) → reading b ≡ Read r
       → (call pairChecker s (one b) .answer ≡ Passed)
-      ↔ ((judge (viewOfState s .pair) r ≡ 0) × (length (stateOf (ledgerOf (r .kind)) (viewOfState s .pair) .passed) < capacity))
+      ↔ ((judge (pairViewOfState s .pair) r ≡ 0) × (length (stateOf (ledgerOf (r .kind)) (pairViewOfState s .pair) .passed) < capacity))
   -- one that the rules refuse is refused with their number
-  pub refuses-as : (n : ℕ) → judgeBytes (viewOfState s .pair) b ≡ suc n
+  pub refuses-as : (n : ℕ) → judgeBytes (pairViewOfState s .pair) b ≡ suc n
       → call pairChecker s (one b) ≡ record { answer = Refused (suc n) 0; state = s }
   -- one that only a full table stops is refused 41
-  pub refuses-full : (r : Record) → reading b ≡ Read r → judge (viewOfState s .pair) r ≡ 0
-      → capacity ≤ length (stateOf (ledgerOf (r .kind)) (viewOfState s .pair) .passed)
+  pub refuses-full : (r : Record) → reading b ≡ Read r → judge (pairViewOfState s .pair) r ≡ 0
+      → capacity ≤ length (stateOf (ledgerOf (r .kind)) (pairViewOfState s .pair) .passed)
       → call pairChecker s (one b) ≡ record { answer = Refused 41 0; state = s }
   -- the state beside a pass is, seen as the rules' state, the one that the rules give, with the supply as before
   pub gives : call pairChecker s (one b) .answer ≡ Passed
-      → viewOfState (call pairChecker s (one b) .state) ≡ record { pair = afterBytes (viewOfState s .pair) b; supply = s .supply }
+      → pairViewOfState (call pairChecker s (one b) .state)
+      ≡ record { pair = afterBytes (pairViewOfState s .pair) b; supply = pairViewOfState s .supply }
 
 -- DEMAND 2, of the program's states: in every state that the pair validator accepts, and for every byte string
-unfoldable pub StatesFollowRules : Type 0
-StatesFollowRules = (s : PairValidator) → Sized (tablesOf s) → accepts (tablesOf s) ≡ true → (b : List ℕ) → StateFollowsRules s b
+unfoldable pub PairStatesFollowRules : Type 0
+PairStatesFollowRules = (s : PairValidator) → acceptsPair (s .words) ≡ true → (b : List ℕ) → PairStateFollowsRules s b
 
 -- a call with a list answers by its records in turn; a refusal of any call hands back the state handed in
-unfoldable pub ListsAndRefusals : Type 0
-ListsAndRefusals = ListsInTurn pairChecker × RefusedUnaltered pairChecker
+unfoldable pub PairListsAndRefusals : Type 0
+PairListsAndRefusals = ListsInTurn pairChecker × RefusedUnaltered pairChecker
 
 -- a call in any accepted state, reached by a run or not, hands back an accepted one
-unfoldable pub StatesStayAccepted : Type 0
-StatesStayAccepted =
-    (s : PairValidator) → Sized (tablesOf s) → accepts (tablesOf s) ≡ true → (d : Call)
-    → Sized (tablesOf (call pairChecker s d .state)) × (accepts (tablesOf (call pairChecker s d .state)) ≡ true)
+unfoldable pub PairStatesStayAccepted : Type 0
+PairStatesStayAccepted =
+    (s : PairValidator) → acceptsPair (s .words) ≡ true → (d : Call) → acceptsPair (call pairChecker s d .state .words) ≡ true
 
 -- ## Demand 3, first half
 
 -- the state after calls from an opening
-abbrev pub stateOfRun : List ℕ → List ℕ → List Call → PairValidator
-stateOfRun homes fars ds = run pairChecker (openedState homes fars) ds
+abbrev pub pairStateOfRun : List ℕ → List ℕ → List Call → PairValidator
+pairStateOfRun homes fars ds = run pairChecker (pairOpenedState homes fars) ds
 
 -- the records that passed in them
-abbrev pub passedOfRun : List ℕ → List ℕ → List Call → List (List ℕ)
-passedOfRun homes fars ds = passedRecords pairChecker (openedState homes fars) ds
+abbrev pub pairPassedOfRun : List ℕ → List ℕ → List Call → List (List ℕ)
+pairPassedOfRun homes fars ds = passedRecords pairChecker (pairOpenedState homes fars) ds
 
 -- what holds after the calls of a run
-pub record StateConserved (homes fars : List ℕ) (ds : List Call) : Type 0 where
+pub record PairStateConserved (homes fars : List ℕ) (ds : List Call) : Type 0 where
   -- home balances plus far balances plus in flight, worked out from the passed records, equal the supply
-  pub conserved : total (balancesOf (tablesOf (stateOfRun homes fars ds)) 0) + total (balancesOf (tablesOf (stateOfRun homes fars ds)) 1)
-      + inFlightOf (passedOfRun homes fars ds)
+  pub conserved : total (pairViewOfState (pairStateOfRun homes fars ds) .pair .home .balances)
+      + total (pairViewOfState (pairStateOfRun homes fars ds) .pair .far .balances)
+      + inFlightOf (pairPassedOfRun homes fars ds)
       ≡ total homes + total fars
   -- the figures that the validator gives are these totals and the in flight worked out
-  pub figures : figuresOf (accepts (tablesOf (stateOfRun homes fars ds))) (tablesOf (stateOfRun homes fars ds))
+  pub figures : pairFiguresOf (acceptsPair (pairStateOfRun homes fars ds .words)) (pairStateOfRun homes fars ds .words)
       ≡ record {
         answer = Passed;
-        home = total (balancesOf (tablesOf (stateOfRun homes fars ds)) 0);
-        far = total (balancesOf (tablesOf (stateOfRun homes fars ds)) 1);
-        flight = inFlightOf (passedOfRun homes fars ds);
+        home = total (pairViewOfState (pairStateOfRun homes fars ds) .pair .home .balances);
+        far = total (pairViewOfState (pairStateOfRun homes fars ds) .pair .far .balances);
+        flight = inFlightOf (pairPassedOfRun homes fars ds);
       }
   -- the state is, seen as the rules' state, the one that the rules' run reaches
-  pub as-rules : viewOfState (stateOfRun homes fars ds) ≡ run (pairValidator capacity) (pairOpened homes fars) ds
+  pub as-rules : pairViewOfState (pairStateOfRun homes fars ds) ≡ run (pairValidator capacity) (pairOpened homes fars) ds
   -- the state's supply is the opening's
-  pub supply-same : stateOfRun homes fars ds .supply ≡ total homes + total fars
+  pub supply-same : pairViewOfState (pairStateOfRun homes fars ds) .supply ≡ total homes + total fars
   -- each ledger's table holds its passed records, in order
-  pub tables : (l : Ledger) → heldOf (tablesOf (stateOfRun homes fars ds)) (ledgerByte l) ≡ recordsOn l (passedOfRun homes fars ds)
+  pub tables : (l : Ledger)
+      → stateOf l (pairViewOfState (pairStateOfRun homes fars ds) .pair) .passed ≡ recordsOn l (pairPassedOfRun homes fars ds)
   -- the state is accepted
-  pub accepted : accepts (tablesOf (stateOfRun homes fars ds)) ≡ true
+  pub accepted : acceptsPair (pairStateOfRun homes fars ds .words) ≡ true
   -- no call answers 3
-  pub never-3 : (d : Call) (place : ℕ) → call pairChecker (stateOfRun homes fars ds) d .answer ≡ Refused 3 place → ⊥
+  pub never-3 : (d : Call) (place : ℕ) → call pairChecker (pairStateOfRun homes fars ds) d .answer ≡ Refused 3 place → ⊥
 
 -- DEMAND 3, FIRST HALF, of the program's states: at every accepted opening and after every list of calls
-unfoldable pub StatesConserved : Type 0
-StatesConserved = (homes fars : List ℕ) → pairOpeningRefusal homes fars ≡ 0 → (ds : List Call) → StateConserved homes fars ds
+unfoldable pub PairStatesConserved : Type 0
+PairStatesConserved = (homes fars : List ℕ) → pairOpeningRefusal homes fars ≡ 0 → (ds : List Call) → PairStateConserved homes fars ds
 
 -- beside a refused opening stands a state that every call refuses with 3
-unfoldable pub ZeroRefused : Type 0
-ZeroRefused = (d : Call) → call pairChecker zeroState d ≡ record { answer = Refused 3 0; state = zeroState }
+unfoldable pub PairZeroRefused : Type 0
+PairZeroRefused = (d : Call) → call pairChecker pairZeroState d ≡ record { answer = Refused 3 0; state = pairZeroState }
 
 -- ## The places left
 
 -- what the validator gives for a state
-abbrev pub placesLeft : PairValidator → PairPlaces
-placesLeft s = placesOf (accepts (tablesOf s)) (tablesOf s)
+abbrev pub pairPlacesLeft : PairValidator → PairPlaces
+pairPlacesLeft s = pairPlacesOf (acceptsPair (s .words)) (s .words)
 
 -- of them those of a ledger
 abbrev pub leftOn : Ledger → PairPlaces → ℕ
@@ -135,21 +139,21 @@ leftOn Home p = p .home
 leftOn Far p = p .far
 
 -- what holds of them after the calls of a run
-pub record PlacesLeftAfter (homes fars : List ℕ) (ds : List Call) : Type 0 where
+pub record PairPlacesLeftAfter (homes fars : List ℕ) (ds : List Call) : Type 0 where
   -- they are told
-  pub told : placesLeft (stateOfRun homes fars ds) .answer ≡ answer 0 0
+  pub told : pairPlacesLeft (pairStateOfRun homes fars ds) .answer ≡ answer 0 0
   -- with the passed records of a ledger they make the capacity
   pub with-passed : (l : Ledger)
-      → leftOn l (placesLeft (stateOfRun homes fars ds)) + length (recordsOn l (passedOfRun homes fars ds)) ≡ capacity
+      → leftOn l (pairPlacesLeft (pairStateOfRun homes fars ds)) + length (recordsOn l (pairPassedOfRun homes fars ds)) ≡ capacity
 
 -- at every accepted opening and after every list of calls, the places left on a ledger are the capacity less its passed records
-unfoldable pub PlacesLeft : Type 0
-PlacesLeft = (homes fars : List ℕ) → pairOpeningRefusal homes fars ≡ 0 → (ds : List Call) → PlacesLeftAfter homes fars ds
+unfoldable pub PairPlacesLeft : Type 0
+PairPlacesLeft = (homes fars : List ℕ) → pairOpeningRefusal homes fars ≡ 0 → (ds : List Call) → PairPlacesLeftAfter homes fars ds
 
 -- in every state that the pair validator accepts, a record handed in alone that the rules pass is refused 41 exactly when its ledger has
 -- no place left
-unfoldable pub FullWhenNoneLeft : Type 0
-FullWhenNoneLeft =
-    (s : PairValidator) → Sized (tablesOf s) → accepts (tablesOf s) ≡ true → (b : List ℕ) (r : Record) → reading b ≡ Read r
-    → judge (viewOfState s .pair) r ≡ 0
-    → (call pairChecker s (one b) .answer ≡ answer 41 0) ↔ (leftOn (ledgerOf (r .kind)) (placesLeft s) ≡ 0)
+unfoldable pub PairFullWhenNoneLeft : Type 0
+PairFullWhenNoneLeft =
+    (s : PairValidator) → acceptsPair (s .words) ≡ true → (b : List ℕ) (r : Record) → reading b ≡ Read r
+    → judge (pairViewOfState s .pair) r ≡ 0
+    → (call pairChecker s (one b) .answer ≡ answer 41 0) ↔ (leftOn (ledgerOf (r .kind)) (pairPlacesLeft s) ≡ 0)

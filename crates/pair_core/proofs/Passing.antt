@@ -311,18 +311,18 @@ unfolding after
 view-after s t w r d Home q p c e = rw (own-after s w r d Home p t c e, other-after s w r d Home p t c, c .supply, q)
 view-after s t w r d Far q p c e = rw (own-after s w r d Far p t c e, other-after s w r d Far p t c, c .supply, q)
 
--- the words after a pass on the ledger with byte l: accepted, with the indexes kept, and seen as the rules' next state
-pub record PairNext (s index : List ℕ) (w : Words) (r : Record) (l : ℕ) : Type 0 where
-  pub ready : PairReady (pairWith s w r l) (grown index (indexOn l) (countOn s l) (r .number))
+-- the words after a pass on the ledger with byte l: accepted, seen as the rules' next state, and with the indexes kept
+pub record PairNext (s : List ℕ) (w : Words) (r : Record) (l : ℕ) : Type 0 where
+  pub accepted : acceptsPair (pairWith s w r l) ≡ true
   pub view : pairViewOf (pairWith s w r l) ≡ record { pair = after (pairViewOf s .pair) r; supply = supplyOf s }
+  pub ready : (index : List ℕ) → PairReady s index → PairReady (pairWith s w r l) (grown index (indexOn l) (countOn s l) (r .number))
 
 -- bytes that pass
-pub next-of : (s index : List ℕ) → PairReady s index → (b : List ℕ) (w : Words) (r : Record) → formed w ≡ true → recordIn w ≡ r
-    → reading b ≡ Read r → pairJudge capacity (pairViewOf s .pair) (Read r) ≡ 0
-    → PairNext s index w r (ledgerByte (ledgerOf (r .kind)))
+pub next-of : (s : List ℕ) → acceptsPair s ≡ true → (b : List ℕ) (w : Words) (r : Record) → formed w ≡ true → recordIn w ≡ r
+    → reading b ≡ Read r → pairJudge capacity (pairViewOf s .pair) (Read r) ≡ 0 → PairNext s w r (ledgerByte (ledgerOf (r .kind)))
 unfolding afterBytes
-next-of s index a b w r f e q j =
-    let d = sound-of s (a .accepted) in
+next-of s h b w r f e q j =
+    let d = sound-of s h in
     let L = ledgerOf (r .kind) in
     let t = pairWith s w r (ledgerByte L) in
     let p = passes-of s d r j in
@@ -341,10 +341,11 @@ next-of s index a b w r f e q j =
       accepted = rw v g;
     }) in
     record {
-      ready = record {
+      accepted = n;
+      view = v;
+      ready = λ index a. record {
         accepted = n;
         index-long = simp length-set (a .index-long);
         indexed = indexed-after s w r d L p t c e index a;
       };
-      view = v;
     }

@@ -33,6 +33,6 @@ module _ (s index b : List ℕ) (h : PairReady s index) where
   unfolding callOne
   step-passed r q j l d t i e g =
       let f = read-formed b r q in
-      let x = next-of s index h b (wordsOf b) r (f .1) (f .2) q j in
+      let x = next-of s (h .accepted) b (wordsOf b) r (f .1) (f .2) q j in
       let k : callOne pairWordsChecker s b .state ≡ pairWith s (wordsOf b) r (ledgerByte (ledgerOf (r .kind))) = rw (q, j) in
-      (rw q (sym j), (e ∙ sym k, rw (e, g, d) (x .ready)))
+      (rw q (sym j), (e ∙ sym k, rw (e, g, d) (x .ready index h)))

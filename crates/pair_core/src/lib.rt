@@ -59,7 +59,7 @@ pub const COUNTS: usize = SUPPLY + 3;
 pub const WORDS: usize = SUPPLY + 5;
 
 // The elements of a ledger's index of numbers, and of both.
-const INDEX: usize = CHAINS + Ledger::CAPACITY;
+pub const INDEX: usize = CHAINS + Ledger::CAPACITY;
 
 pub const INDEXES: usize = 2 * INDEX;
 

@@ -1,34 +1,46 @@
 -- The figures of the pair validator (document 01: pair book), the balance of one account, and the places left. Assumes nothing.
-use Prim.Native.Nat.{_-_, ℕ}
+use Prim.Native.Nat.{_-_, suc, zero, ℕ}
 use mathlib.Core.Bool.{Bool, false, true}
+use mathlib.Core.List.{List, []}
 use lib.ListN.{length}
 use Rattle.answers.specs.Answers.{answer}
 use Rattle.balances.specs.Balances.{balanceAmong, balanceRefused}
 use Rattle.balances.specs.declared.Balance.{Balance}
 use Rattle.ledgers.specs.Limits.{capacity}
+use Rattle.pair_core.specs.Layout.{pairViewOf}
 use Rattle.pair_figures.specs.declared.PairFigures.{PairFigures}
 use Rattle.pair_figures.specs.declared.PairPlaces.{PairPlaces}
-use Rattle.pair_tables.specs.Tables.{PairTables, balancesOf, pairViewOf}
 use Rattle.rules.specs.Lists.{total}
-use Rattle.rules.specs.Rules.{inFlight}
+use Rattle.rules.specs.Rules.{PairState, inFlight}
 
--- the totals of both ledgers and in flight, of tables that are accepted or not
-abbrev pub figuresOf : Bool → PairTables → PairFigures
-figuresOf true t =
-    record { answer = answer 0 0; home = total (balancesOf t 0); far = total (balancesOf t 1); flight = inFlight (pairViewOf t .pair) }
-figuresOf false t = record { answer = answer 3 0; home = 0; far = 0; flight = 0 }
-
--- the balance of an account of the ledger with a byte, of tables that are accepted or not; a byte of no ledger has no accounts
-abbrev pub balanceOf : Bool → PairTables → ℕ → ℕ → Balance
-balanceOf true t l a = balanceAmong (balancesOf t l) a
-balanceOf false t l a = balanceRefused 3
-
--- the places left on each ledger (document 01: 512 passed records a ledger), of tables that are accepted or not
-abbrev pub placesOf : Bool → PairTables → PairPlaces
-placesOf true t =
+-- the totals of both ledgers and in flight, of words that are accepted or not
+abbrev pub pairFiguresOf : Bool → List ℕ → PairFigures
+pairFiguresOf true s =
     record {
       answer = answer 0 0;
-      home = capacity - length (pairViewOf t .pair .home .passed);
-      far = capacity - length (pairViewOf t .pair .far .passed);
+      home = total (pairViewOf s .pair .home .balances);
+      far = total (pairViewOf s .pair .far .balances);
+      flight = inFlight (pairViewOf s .pair);
     }
-placesOf false t = record { answer = answer 3 0; home = 0; far = 0 }
+pairFiguresOf false s = record { answer = answer 3 0; home = 0; far = 0; flight = 0 }
+
+-- the balances of the ledger with a byte; a byte of no ledger has no accounts
+abbrev pub balancesUnder : PairState → ℕ → List ℕ
+balancesUnder p zero = p .home .balances
+balancesUnder p (suc zero) = p .far .balances
+balancesUnder p (suc (suc l)) = []
+
+-- the balance of an account of the ledger with a byte, of words that are accepted or not
+abbrev pub pairBalanceOf : Bool → List ℕ → ℕ → ℕ → Balance
+pairBalanceOf true s l a = balanceAmong (balancesUnder (pairViewOf s .pair) l) a
+pairBalanceOf false s l a = balanceRefused 3
+
+-- the places left on each ledger (document 01: 512 passed records a ledger), of words that are accepted or not
+abbrev pub pairPlacesOf : Bool → List ℕ → PairPlaces
+pairPlacesOf true s =
+    record {
+      answer = answer 0 0;
+      home = capacity - length (pairViewOf s .pair .home .passed);
+      far = capacity - length (pairViewOf s .pair .far .passed);
+    }
+pairPlacesOf false s = record { answer = answer 3 0; home = 0; far = 0 }

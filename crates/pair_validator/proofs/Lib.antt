@@ -1,3 +1,4 @@
--- Laws of the pair validator's calls, and the theorems about them. Assumes nothing.
-pub mod Opened
-pub mod Stepping
+-- Proofs about the pair validator. Assumes nothing.
+
+pub mod PairOpened
+pub mod Words

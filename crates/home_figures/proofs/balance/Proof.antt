@@ -1,35 +1,34 @@
 -- `home_figures::balance` meets its contract. Assumes nothing.
-use mathlib.Core.Path.{_∙_, sym}
+use Rattle.home_core.specs.Layout.{acceptsHome}
+use Rattle.home_figures.proofs.Totals.{home-balance-passed, home-on-ledger}
 use borrow.Author.Needs.{needs}
 use borrow.Author.Tests.{not-false, not-true}
-use Rattle.home_laws.proofs.Passing.{HomeSound, home-sound-of}
-use Rattle.home_figures.proofs.Totals.{home-balance-passed, home-on-ledger}
-use Rattle.home_validator.specs.State.{homeTablesOf}
+use mathlib.Core.Bool.{true}
+use mathlib.Core.Path.{_∙_, _≡_, sym}
 use Rattle.home_figures.proofs.balance.Statement.{statement}
 use Rattle.home_figures.proofs.balance.Tie as tie
 
 accepted-requires : tie.Need-accepted-requires
 accepted-requires c κs = search needs
 
--- an accepted state
-sound-at : (c : tie.Else1) → HomeSound (homeTablesOf (c .before .before .before .args .state))
-sound-at c = let e = c .before .accepted .ensures in home-sound-of _ (e .1) (sym (e .0) ∙ not-false _ (c .if1 .left))
-
 balance-refused-requires : tie.Need-balance-refused-requires
 balance-refused-requires c κs = search needs
 
 returns : tie.Need-returns
-returns c =
-    c .balance-refused .ensures ∙ rw (sym (c .before .before .accepted .ensures .0) ∙ not-true _ (c .before .if1 .taken))
+returns c = c .balance-refused .ensures ∙ rw (sym (c .before .before .accepted .ensures) ∙ not-true _ (c .before .if1 .taken))
 
-slice-aggregate-balance-among : tie.Need-slice-aggregate-balance-among
-slice-aggregate-balance-among c = search needs
+element-copy-out-open : tie.Need-element-copy-out-open
+element-copy-out-open c = search needs
+
+-- the state is accepted past the test
+accepted-at : (c : tie.Else1) → acceptsHome (c .before .before .before .before .before .args .t1 .words) ≡ true
+accepted-at c = sym (c .before .accepted .ensures) ∙ not-false _ (c .if1 .left)
 
 balance-among-requires : tie.Need-balance-among-requires
-balance-among-requires c κs = home-on-ledger _ (sound-at (c .before))
+balance-among-requires c κs = home-on-ledger _ (accepted-at (c .before .before .before .before))
 
 returns-2 : tie.Need-returns-2
-returns-2 c = c .balance-among .ensures ∙ home-balance-passed _ (sound-at (c .before .before)) _
+returns-2 c = c .balance-among .ensures ∙ home-balance-passed _ (accepted-at (c .before .before .before .before .before)) _
 
 pub balance-spec : {M : Type 1} → statement M
 balance-spec =
@@ -38,6 +37,6 @@ balance-spec =
     accepted-requires
     balance-refused-requires
     returns
-    slice-aggregate-balance-among
+    element-copy-out-open
     balance-among-requires
     returns-2)

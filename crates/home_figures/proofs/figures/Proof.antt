@@ -1,11 +1,11 @@
 -- `home_figures::figures` meets its contract. Assumes nothing.
-use mathlib.Core.Path.{_∙_, sym}
-use native.Mathlib.Omega.{arith}
+use Rattle.home_core.specs.Layout.{acceptsHome}
+use Rattle.home_figures.proofs.Totals.{home-figures-passed, home-supply-shared}
 use borrow.Author.Needs.{needs}
 use borrow.Author.Tests.{not-false, not-true}
-use Rattle.home_laws.proofs.Passing.{HomeSound, home-sound-of}
-use Rattle.home_figures.proofs.Totals.{home-figures-passed, home-supply-shared}
-use Rattle.home_validator.specs.State.{homeTablesOf}
+use mathlib.Core.Bool.{true}
+use mathlib.Core.Path.{_∙_, _≡_, sym}
+use native.Mathlib.Omega.{arith}
 use Rattle.home_figures.proofs.figures.Statement.{statement}
 use Rattle.home_figures.proofs.figures.Tie as tie
 
@@ -13,17 +13,31 @@ accepted-requires : tie.Need-accepted-requires
 accepted-requires c κs = search needs
 
 returns : tie.Need-returns
-returns c = rw (sym (c .before .accepted .ensures .0) ∙ not-true _ (c .if1 .taken))
+returns c = rw (sym (c .before .accepted .ensures) ∙ not-true _ (c .if1 .taken))
 
--- an accepted state
-sound-at : (c : tie.Else1) → HomeSound (homeTablesOf (c .before .before .args .state))
-sound-at c = let e = c .before .accepted .ensures in home-sound-of _ (e .1) (sym (e .0) ∙ not-false _ (c .if1 .left))
+element-copy-out-supply : tie.Need-element-copy-out-supply
+element-copy-out-supply c = search needs
 
-sub-t8 : tie.Need-sub-t8
-sub-t8 c = omega (arith, home-supply-shared _ (sound-at c))
+element-copy-out-pool : tie.Need-element-copy-out-pool
+element-copy-out-pool c = search needs
+
+-- the state is accepted past the test
+accepted-at : (c : tie.Else1) → acceptsHome (c .before .before .before .before .before .args .t1 .words) ≡ true
+accepted-at c = sym (c .before .accepted .ensures) ∙ not-false _ (c .if1 .left)
+
+sub-t12 : tie.Need-sub-t12
+sub-t12 c = omega (arith, home-supply-shared _ (accepted-at (c .before .before)))
 
 returns-2 : tie.Need-returns-2
-returns-2 c = home-figures-passed _ (sound-at c)
+returns-2 c = home-figures-passed _ (accepted-at (c .before .before))
 
 pub figures-spec : {M : Type 1} → statement M
-figures-spec = tie.close (tie.spec accepted-requires returns sub-t8 returns-2)
+figures-spec =
+    tie.close
+    (tie.spec
+    accepted-requires
+    returns
+    element-copy-out-supply
+    element-copy-out-pool
+    sub-t12
+    returns-2)

@@ -1,76 +1,105 @@
 -- `pair_figures::figures` meets its contract. Assumes nothing.
-use mathlib.Core.Path.{_∙_, sym}
-use native.Mathlib.Omega.{arith}
+use Prim.Native.Nat.{ℕ}
+use mathlib.Core.List.{List}
+use Rattle.pair_core.specs.Layout.{acceptsPair, ledgerOn}
+use Rattle.pair_figures.proofs.Totals.{pair-figures-passed, pair-on-ledger, pair-supply-shared, pair-total}
+use Rattle.rules.specs.Lists.{total}
 use borrow.Author.Needs.{needs}
 use borrow.Author.Tests.{not-false, not-true}
-use Rattle.pair_laws.proofs.Passing.{Sound, sound-of}
-use Rattle.pair_figures.proofs.Totals.{far-total, figures-passed, home-total, supply-shared}
-use Rattle.pair_validator.specs.State.{tablesOf}
+use mathlib.Core.Bool.{true}
+use mathlib.Core.Path.{_∙_, _≡_, sym}
+use native.Mathlib.Omega.{arith}
 use Rattle.pair_figures.proofs.figures.Statement.{statement}
 use Rattle.pair_figures.proofs.figures.Tie as tie
-
-element-copy-out-homes : tie.Need-element-copy-out-homes
-element-copy-out-homes c = search needs
-
-element-copy-out-fars : tie.Need-element-copy-out-fars
-element-copy-out-fars c = search needs
 
 accepted-requires : tie.Need-accepted-requires
 accepted-requires c κs = search needs
 
 returns : tie.Need-returns
-returns c = rw (sym (c .before .accepted .ensures .0) ∙ not-true _ (c .if1 .taken))
+returns c = rw (sym (c .before .accepted .ensures) ∙ not-true _ (c .if1 .taken))
 
--- an accepted state
-sound-at : (c : tie.Else1) → Sound (tablesOf (c .before .before .before .before .before .args .t1))
-sound-at c = let e = c .before .accepted .ensures in sound-of _ (e .1) (sym (e .0) ∙ not-false _ (c .if1 .left))
+element-copy-out-supply : tie.Need-element-copy-out-supply
+element-copy-out-supply c = search needs
 
-slice-aggregate-add-balances : tie.Need-slice-aggregate-add-balances
-slice-aggregate-add-balances c = search needs
+element-copy-out-homes : tie.Need-element-copy-out-homes
+element-copy-out-homes c = search needs
+
+add-fars : tie.Need-add-fars
+add-fars c = search needs
+
+mul-fars : tie.Need-mul-fars
+mul-fars c = search needs
+
+element-copy-out-fars : tie.Need-element-copy-out-fars
+element-copy-out-fars c = search needs
+
+-- the words that are asked
+abbrev wordsAt : tie.Else1 → List ℕ
+wordsAt c = c .before .before .before .before .before .args .t1 .words
+
+-- they are accepted past the test
+accepted-at : (c : tie.Else1) → acceptsPair (wordsAt c) ≡ true
+accepted-at c = sym (c .before .accepted .ensures) ∙ not-false _ (c .if1 .left)
 
 add-balances-requires : tie.Need-add-balances-requires
 add-balances-requires c κs =
-    let s = sound-at (c .before) in
-    (omega (arith, s .sized .balances-are, s .bounds .home-fits), omega arith, omega (arith, s .bounds .home-fits))
+    let w = pair-on-ledger _ (accepted-at (c .before .before .before .before .before .before)) 0 (omega arith) in
+    (w .0, omega arith, omega (arith, w .1))
 
-slice-aggregate-add-balances-2 : tie.Need-slice-aggregate-add-balances-2
-slice-aggregate-add-balances-2 c = search needs
+add-add-balances : tie.Need-add-add-balances
+add-add-balances c = search needs
+
+-- home's sum comes past the test
+abbrev pastHome : tie.After-add-balances → tie.Else1
+pastHome c = c .before .before .before .before .before .before .before
+
+-- it is home's total
+home-at : (c : tie.After-add-balances) → c .add-balances .result .low ≡ total (ledgerOn (wordsAt (pastHome c)) 0 .balances)
+home-at c = pair-total _ (accepted-at (pastHome c)) 0 (omega arith) (c .add-balances .ensures)
 
 add-balances-requires-2 : tie.Need-add-balances-requires-2
 add-balances-requires-2 c κs =
-    let s = sound-at (c .before .before .before) in
-    (omega (arith, s .sized .balances-are, s .bounds .far-fits), omega arith, omega (arith, s .bounds .far-fits))
+    let w = pair-on-ledger _ (accepted-at (pastHome (c .before .before .before))) 1 (omega arith) in
+    (w .0, omega arith, omega (arith, w .1))
 
-sub-t25 : tie.Need-sub-t25
-sub-t25 c =
-    let h = c .before .before .before in
-    let s = sound-at (h .before .before) in
-    omega (arith, home-total _ s (h .add-balances .ensures), supply-shared _ s)
+-- far's sum comes past home's
+abbrev pastFar : tie.After-add-balances2 → tie.After-add-balances
+pastFar c = c .before .before .before .before
 
-sub-t26 : tie.Need-sub-t26
-sub-t26 c =
-    let h = c .before .before .before .before in
-    let s = sound-at (h .before .before) in
-    omega (arith, home-total _ s (h .add-balances .ensures), far-total _ s (c .before .before .add-balances2 .ensures), supply-shared _ s)
+-- it is far's total
+far-at : (c : tie.After-add-balances2)
+    → c .add-balances2 .result .low ≡ total (ledgerOn (wordsAt (pastHome (pastFar c))) 1 .balances)
+far-at c = pair-total _ (accepted-at (pastHome (pastFar c))) 1 (omega arith) (c .add-balances2 .ensures)
+
+sub-t16 : tie.Need-sub-t16
+sub-t16 c =
+    let h = pastFar (c .before) in
+    omega (arith, home-at h, pair-supply-shared _ (accepted-at (pastHome h)))
+
+sub-t28 : tie.Need-sub-t28
+sub-t28 c =
+    let h = pastFar (c .before .before) in
+    omega (arith, home-at h, far-at (c .before .before), pair-supply-shared _ (accepted-at (pastHome h)))
 
 returns-2 : tie.Need-returns-2
 returns-2 c =
-    let h = c .before .before .before .before in
-    let s = sound-at (h .before .before) in
-    figures-passed _ s _ _ (home-total _ s (h .add-balances .ensures)) (far-total _ s (c .before .before .add-balances2 .ensures))
+    let h = pastFar (c .before .before) in
+    pair-figures-passed _ (accepted-at (pastHome h)) _ _ (home-at h) (far-at (c .before .before))
 
 pub figures-spec : {M : Type 1} → statement M
 figures-spec =
     tie.close
     (tie.spec
-    element-copy-out-homes
-    element-copy-out-fars
     accepted-requires
     returns
-    slice-aggregate-add-balances
+    element-copy-out-supply
+    element-copy-out-homes
+    add-fars
+    mul-fars
+    element-copy-out-fars
     add-balances-requires
-    slice-aggregate-add-balances-2
+    add-add-balances
     add-balances-requires-2
-    sub-t25
-    sub-t26
+    sub-t16
+    sub-t28
     returns-2)

@@ -1,20 +1,13 @@
 -- `pair_figures::places_left` meets its contract. Assumes nothing.
+use Rattle.pair_core.specs.Layout.{acceptsPair}
+use Rattle.pair_figures.proofs.Totals.{pair-held-fits, pair-places-passed, pair-places-refused}
+use borrow.Author.Needs.{needs}
+use borrow.Author.Tests.{not-false, not-true}
 use mathlib.Core.Bool.{true}
 use mathlib.Core.Path.{_∙_, _≡_, sym}
 use native.Mathlib.Omega.{arith}
-use borrow.Author.Needs.{needs}
-use borrow.Author.Tests.{not-false, not-true}
-use Rattle.pair_figures.proofs.Totals.{held-fits, places-passed, places-refused}
-use Rattle.pair_tables.specs.Tables.{accepts}
-use Rattle.pair_validator.specs.State.{tablesOf}
 use Rattle.pair_figures.proofs.places_left.Statement.{statement}
 use Rattle.pair_figures.proofs.places_left.Tie as tie
-
-element-copy-out-home : tie.Need-element-copy-out-home
-element-copy-out-home c = search needs
-
-element-copy-out-far : tie.Need-element-copy-out-far
-element-copy-out-far c = search needs
 
 accepted-requires : tie.Need-accepted-requires
 accepted-requires c κs = search needs
@@ -23,30 +16,44 @@ new-requires : tie.Need-new-requires
 new-requires c κs = search needs
 
 returns : tie.Need-returns
-returns c = places-refused _ (sym (c .before .before .accepted .ensures .0) ∙ not-true _ (c .before .if1 .taken)) (c .new .ensures)
+returns c = pair-places-refused _ (sym (c .before .before .accepted .ensures) ∙ not-true _ (c .before .if1 .taken)) (c .new .ensures)
+
+element-copy-out-home : tie.Need-element-copy-out-home
+element-copy-out-home c = search needs
+
+add-far : tie.Need-add-far
+add-far c = search needs
+
+mul-far : tie.Need-mul-far
+mul-far c = search needs
+
+element-copy-out-far : tie.Need-element-copy-out-far
+element-copy-out-far c = search needs
 
 -- the state is accepted past the test
-accepted-at : (c : tie.Else1) → accepts (tablesOf (c .before .before .before .before .args .t1)) ≡ true
-accepted-at c = sym (c .before .accepted .ensures .0) ∙ not-false _ (c .if1 .left)
+accepted-at : (c : tie.Else1) → acceptsPair (c .before .before .before .before .before .args .t1 .words) ≡ true
+accepted-at c = sym (c .before .accepted .ensures) ∙ not-false _ (c .if1 .left)
 
-sub-t7 : tie.Need-sub-t7
-sub-t7 c = omega (arith, held-fits _ (accepted-at c) .0)
+sub-t13 : tie.Need-sub-t13
+sub-t13 c = omega (arith, pair-held-fits _ (accepted-at (c .before .before)) 0 (omega arith))
 
-sub-t16 : tie.Need-sub-t16
-sub-t16 c = omega (arith, held-fits _ (accepted-at c) .1)
+sub-t14 : tie.Need-sub-t14
+sub-t14 c = omega (arith, pair-held-fits _ (accepted-at (c .before .before)) 1 (omega arith))
 
 returns-2 : tie.Need-returns-2
-returns-2 c = places-passed _ (accepted-at c)
+returns-2 c = pair-places-passed _ (accepted-at (c .before .before))
 
 pub places-left-spec : {M : Type 1} → statement M
 places-left-spec =
     tie.close
     (tie.spec
-    element-copy-out-home
-    element-copy-out-far
     accepted-requires
     new-requires
     returns
-    sub-t7
-    sub-t16
+    element-copy-out-home
+    add-far
+    mul-far
+    element-copy-out-far
+    sub-t13
+    sub-t14
     returns-2)
