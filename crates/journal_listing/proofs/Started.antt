@@ -1,23 +1,16 @@
--- The columns after an accepted opening, and small laws of the program's loop. Assumes nothing.
+-- The state after an accepted opening, and small laws of the program's loop. Assumes nothing.
 use Prim.Native.Nat.{_*_, _≤_, ℕ}
-use mathlib.Core.List.{List, [], _∷_}
-use mathlib.Core.Path.{_∙_, _≡_, ap, refl, subst, sym}
+use mathlib.Core.List.{List}
+use mathlib.Core.Path.{_∙_, _≡_, ap, ap₂, sym}
 use native.Mathlib.Omega.{arith}
 use lib.ListN.{length, length-replicate, length-take, replicate, take}
 use Rattle.block_format.specs.Blocks.{balancesOf}
-use Rattle.journal_listing.specs.Turns.{lentEmpty}
-use Rattle.ledgers.specs.Limits.{capacity}
-use Rattle.number_index.specs.Index.{chainCount}
 use Rattle.opening_listing.specs.Opened.{OpenedIn}
 use Rattle.opening_listing.specs.declared.Start.{Start}
-use Rattle.pair_steps.specs.Steps.{Ready, figuresIn}
-use Rattle.pair_tables.proofs.Indexes.{indexes-of-none}
-use Rattle.pair_tables.specs.Tables.{openedTables}
-use Rattle.pair_validator.proofs.Opened.{opened-accepts, opened-sized, opened-state, opened-view}
-use Rattle.pair_validator.specs.declared.PairValidator.{PairValidator}
-use Rattle.rules.specs.Lists.{sum, total}
-use Rattle.rules.specs.PairValidator.{pairOpened}
-use Rattle.rules.specs.Rules.{flight, inFlight, opened}
+use Rattle.pair_core.specs.Layout.{indexLength, pairViewOf}
+use Rattle.pair_rows.proofs.Opened.{opened-ready, opened-view}
+use Rattle.pair_rows.specs.Rows.{RowReady, rowOf}
+use Rattle.pair_rows.specs.declared.Row.{Row}
 
 -- the first bytes are no more than there are
 pub take-within : (n : ℕ) (xs : List ℕ) (m : ℕ) → length xs ≤ m → length (take n xs) ≤ m
@@ -39,25 +32,14 @@ fits-as n r xs q h = omega (arith, long-as n xs q)
 pub room-kept : (n m e : ℕ) (xs : List ℕ) → length xs ≡ n → e ≤ m → m ≤ n → e ≤ length xs
 room-kept n m e xs q h k = omega (arith, q)
 
--- at an opening nothing is in flight
-none-in-flight : (homes fars : List ℕ) → inFlight (opened homes fars) ≡ 0
-unfolding inFlight flight sum
-none-in-flight homes fars = refl
-
--- the columns of an accepted opening, with nothing held yet, are ready for the first record
-pub started : (home far : List ℕ) (start : Start) (figures accounts balances : List ℕ) → OpenedIn home far start figures accounts balances
-    → Ready (lentEmpty (start .supply) accounts balances) figures (replicate (2 * chainCount) 0) (replicate (2 * capacity) 0)
-unfolding openedTables
-started home far start figures accounts balances o =
-    let e = opened-state (balancesOf home) (balancesOf far) balances (start .supply) (o .supply-is) (o .balances-are) in
-    let v = opened-view (balancesOf home) (balancesOf far) (o .unrefused) in
-    let f : figures ≡ figuresIn (pairOpened (balancesOf home) (balancesOf far)) =
-    o .figures-are ∙ ap (λ (n : ℕ). total (balancesOf home) ∷ total (balancesOf far) ∷ n ∷ []) (sym (none-in-flight _ _)) in
-    rw (o .accounts-are)
-    (subst (λ (s : PairValidator). Ready s figures (replicate (2 * chainCount) 0) (replicate (2 * capacity) 0)) (sym e)
-    (record {
-      sized = opened-sized (balancesOf home) (balancesOf far) (o .unrefused);
-      accepted = opened-accepts (balancesOf home) (balancesOf far) (o .unrefused);
-      indexes = indexes-of-none _;
-      figures-are = f ∙ ap figuresIn (sym v);
-    }))
+-- the state of an accepted opening, with nothing held yet, is ready for the first record
+pub started : (home far : List ℕ) (start : Start) (state : List ℕ) → OpenedIn home far start state
+    → RowReady state (replicate (2 * indexLength) 0) (start .row)
+started home far start state o =
+    let homes = balancesOf home in
+    let fars = balancesOf far in
+    let n = ap (λ (x : Row). x .refusal) (o .row-is) in
+    record {
+      ready = rw (o .state-is) (opened-ready homes fars (o .unrefused));
+      row-is = o .row-is ∙ ap₂ rowOf (sym n) (sym (ap pairViewOf (o .state-is) ∙ opened-view homes fars (o .unrefused)));
+    }

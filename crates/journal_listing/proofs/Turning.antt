@@ -8,7 +8,7 @@ use lib.Dec.{eqb}
 use lib.ListN.{length, take}
 use lib.Seq.{length-take-le}
 use borrow.Author.Tests.{eq-eqb, eqb-true, ne-eqb, not-false, not-true}
-use Rattle.block_listing.specs.Runs.{Bounded, StandsAt, standing}
+use Rattle.block_listing.specs.Runs.{Bounded, standing}
 use Rattle.block_listing.specs.declared.Run.{Run}
 use Rattle.journal_listing.specs.Turns.{Reached, Turned, firstRun, goesOn, here, resumedRun, turned}
 use Rattle.journal_listing.specs.declared.TurnResult.{TurnResult}
@@ -16,7 +16,8 @@ use Rattle.listing.proofs.Blocks.{went-on}
 use Rattle.listing.proofs.Chunked.{chunk-count}
 use Rattle.listing.specs.Chunks.{afterChunk, chunkBlocks, chunkSize, chunkText, mostChunks}
 use Rattle.listing.specs.Listing.{Standing, blocksIn, opened}
-use Rattle.pair_validator.specs.declared.PairValidator.{PairValidator}
+use Rattle.pair_rows.specs.Rows.{RowReady}
+use Rattle.pair_rows.specs.declared.Row.{Row}
 use Rattle.rules.proofs.Lists.{never-both-tests}
 use Rattle.wire.specs.BigEndian.{every}
 
@@ -57,33 +58,34 @@ goes-full true n going h = go (eqb n chunkSize) going refl h
 pub resumed-bounded : {run r : Run} {going : Bool} → r ≡ resumedRun run going → Bounded run → Bounded r
 resumed-bounded e b = rw e (record { records = b .records; block-fits = b .block-fits; index-fits = b .index-fits })
 
+-- its row is the run's
+pub resumed-row : (run : Run) {r : Run} {going : Bool} {s index : List ℕ} → r ≡ resumedRun run going → RowReady s index (run .row)
+    → RowReady s index (r .row)
+resumed-row run e h = rw e h
+
 -- its text starts anew
 pub resumed-end : (run : Run) {r : Run} {going : Bool} → r ≡ resumedRun run going → r .end ≡ 0
 resumed-end run e = ap (λ (x : Run). x .end) e
 
--- standings with the same parts are the same
-same-standing : {s t : PairValidator} {i j b d m n : ℕ} {g h : Bool} → s ≡ t → i ≡ j → b ≡ d → m ≡ n → g ≡ h
-    → _≡_ {A = Standing PairValidator} (record { state = s; index = i; block = b; before = m; going = g })
-    (record { state = t; index = j; block = d; before = n; going = h })
-same-standing p q e f k = cc
+-- where the listing stands after a chunk, with what a turn says of going on
+abbrev turnedFrom : Bool → ℕ → Standing (List ℕ) → Standing (List ℕ)
+turnedFrom w n q =
+    record { state = q .state; index = q .index; block = q .block; before = q .before; going = goesOn w n (q .going) }
 
 -- the chunk that was read, its text, and the run that stands after it
-pub turned-by : (p : Standing PairValidator) (input out : List ℕ) (n e : ℕ) (w g : Bool) (run r : Run) (s : PairValidator)
-    → n ≤ length input → e ≤ length out → take e out ≡ chunkText p (take n input) → StandsAt run (afterChunk p (take n input))
-    → s ≡ afterChunk p (take n input) .state → g ≡ goesOn w n (run .going) → r ≡ resumedRun run g
+pub turned-by : (p : Standing (List ℕ)) (input out : List ℕ) (n e : ℕ) (w g : Bool) (run r : Run) (s : List ℕ)
+    → n ≤ length input → e ≤ length out → take e out ≡ chunkText p (take n input) → standing run s ≡ afterChunk p (take n input)
+    → g ≡ goesOn w n (run .going) → r ≡ resumedRun run g
     → Turned p input out (record { run = r; read = n; text = e; written = w }) s
-turned-by p input out n e w g run r s fits room text a state q d =
+turned-by p input out n e w g run r s fits room text a q d =
     record {
       read-fits = fits;
       text-fits = room;
       text-is = text;
       stands =
-          same-standing state (ap (λ (x : Run). x .index) d ∙ a .index-is) (ap (λ (x : Run). x .block) d ∙ a .block-is)
-          (ap (λ (x : Run). x .before) d ∙ a .before-is)
-          (ap (λ (x : Run). x .going) d
-          ∙ q
-          ∙ ap (λ (t : Bool). goesOn w n t) (a .going-is)
-          ∙ ap (λ (k : ℕ). goesOn w k (afterChunk p (take n input) .going)) (sym (length-take-le n input fits)));
+          ap (λ (x : Run). standing x s) (d ∙ ap (resumedRun run) q)
+          ∙ ap (turnedFrom w n) a
+          ∙ ap (λ (k : ℕ). turnedFrom w k (afterChunk p (take n input))) (sym (length-take-le n input fits));
     }
 
 -- ## Turn after turn
@@ -93,22 +95,22 @@ abbrev pub numberAfter : ℕ
 numberAfter = 2 + chunkBlocks * mostChunks
 
 -- a turn more, after which the listing goes on
-pub reached-next : {p q : Standing PairValidator} {input out : List ℕ} {t : TurnResult} {s : PairValidator} → Reached p q
+pub reached-next : {p q : Standing (List ℕ)} {input out : List ℕ} {t : TurnResult} {s : List ℕ} → Reached p q
     → Turned q input out t s → t .run .going ≡ true → Reached p (standing (t .run) s)
 reached-next {p} {q} {input} {out} {t} {s} r d g =
     rw (d .stands)
-    (turned r (take (t .read) input) (t .written) (sym (ap (λ (x : Standing PairValidator). x .going) (d .stands)) ∙ g))
+    (turned r (take (t .read) input) (t .written) (sym (ap (λ (x : Standing (List ℕ)). x .going) (d .stands)) ∙ g))
 
 -- a turn after which the listing goes on leaves as many turns as there are chunks of block numbers left
-pub numbers-next : {q : Standing PairValidator} {input out : List ℕ} {t : TurnResult} {s : PairValidator} (turns : ℕ) → 0 < turns
+pub numbers-next : {q : Standing (List ℕ)} {input out : List ℕ} {t : TurnResult} {s : List ℕ} (turns : ℕ) → 0 < turns
     → Turned q input out t s → q .block + chunkBlocks * turns ≡ numberAfter → t .run .going ≡ true
     → t .run .block + chunkBlocks * (turns - 1) ≡ numberAfter
 numbers-next {q} {input} {out} {t} {s} turns h d e g =
     let chunk = take (t .read) input in
     let f = goes-full (t .written) (length chunk) (afterChunk q chunk .going)
-    (sym (ap (λ (x : Standing PairValidator). x .going) (d .stands)) ∙ g) in
+    (sym (ap (λ (x : Standing (List ℕ)). x .going) (d .stands)) ∙ g) in
     let w = went-on q (blocksIn chunk) (f .1) in
-    omega (arith, ap (λ (x : Standing PairValidator). x .block) (d .stands), w .number, chunk-count chunk (f .0))
+    omega (arith, ap (λ (x : Standing (List ℕ)). x .block) (d .stands), w .number, chunk-count chunk (f .0))
 
 -- with no turn left the listing does not go on
 pub turns-end : (run : Run) (turns : ℕ) → Bounded run → (run .going ≡ true → run .block + chunkBlocks * turns ≡ numberAfter)
@@ -119,14 +121,18 @@ turns-end run turns b f z = go (run .going) refl
     go false q = refl
     go true q = absurd (omega (arith, f q, b .block-fits))
 
-module _ (run : Run) (before : ℕ) (e : run ≡ firstRun before) where
+module _ (run : Run) (before : ℕ) (row : Row) (e : run ≡ firstRun before row) where
   -- the first run is in bounds
   pub first-bounded : Bounded run
   first-bounded = rw e (record { records = omega arith; block-fits = omega arith; index-fits = omega arith })
 
   -- the first turn is made from the opening
-  pub first-reached : (s : PairValidator) → run .going ≡ true → Reached (opened s before) (standing run s)
+  pub first-reached : (s : List ℕ) → run .going ≡ true → Reached (opened s (run .before)) (standing run s)
   first-reached s g = rw e here
+
+  -- with the opening's row
+  pub first-ready : {s index : List ℕ} → RowReady s index row → RowReady s index (run .row)
+  first-ready h = rw e h
 
   -- where the listing goes on
   pub first-goes : {A : Type 0} → run .going ≡ false → A

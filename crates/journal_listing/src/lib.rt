@@ -6,13 +6,11 @@ ghost use mathlib.Core.Path.{_≡_};
 ghost use lib.ListN.{length, replicate};
 ghost use Rattle.block_listing.specs.Runs.{Bounded, standing};
 ghost use Rattle.hex_digits.specs.Hex.{pairTable};
-ghost use Rattle.journal_listing.specs.Turns.{Ended, Listed, SomeEnd, Turned, firstRun, goesOn, lentEmpty, noTurn};
-ghost use Rattle.journal_listing.specs.Turns.{openingAlone, resumedRun};
-ghost use Rattle.ledgers.specs.Limits.{capacity};
+ghost use Rattle.journal_listing.specs.Turns.{Ended, Listed, SomeEnd, Turned, firstRun, goesOn, noTurn, openingAlone, resumedRun};
 ghost use Rattle.listing.specs.Chunks.{chunkRoom, chunkSize};
 ghost use Rattle.listing.specs.Listing.{opened};
-ghost use Rattle.number_index.specs.Index.{chainCount};
-ghost use Rattle.pair_steps.specs.Steps.{Ready, lent};
+ghost use Rattle.pair_core.specs.Layout.{indexLength};
+ghost use Rattle.pair_rows.specs.Rows.{RowReady};
 use block_format::BLOCK_SIZE;
 use block_format::RECORDS;
 use block_listing::Run;
@@ -21,9 +19,9 @@ use hex_digits::pairs;
 use lines::LINE;
 use opening_listing::Start;
 use opening_listing::list_start;
-use pair_tables::HEADS;
-use pair_tables::PLACES;
-use pair_validator::ACCOUNTS;
+use pair_core::INDEXES;
+use pair_core::WORDS;
+use pair_rows::Row;
 
 // The bytes of blocks 0 and 1.
 const OPENING: usize = 2 * BLOCK_SIZE;
@@ -55,9 +53,9 @@ pub struct ListResult {
     pub last: TurnResult,
 }
 
-// The run of an accepted opening, with the count of block 1.
-fn first_run(before: u64) -> Run
-    ensures { λ r. ⌜ r ≡ firstRun before ⌝ }
+// The run of an accepted opening, with the count of block 1 and the opening's row.
+fn first_run(before: u64, row: Row) -> Run
+    ensures { λ r. ⌜ r ≡ firstRun before row ⌝ }
 {
     Run {
         index: 0,
@@ -65,15 +63,16 @@ fn first_run(before: u64) -> Run
         before,
         end: 0,
         going: true,
+        row,
     }
 }
 
 // What stands for the turn before the first.
-fn no_turn(before: u64) -> TurnResult
-    ensures { λ r. ⌜ r ≡ noTurn before ⌝ }
+fn no_turn(before: u64, row: Row) -> TurnResult
+    ensures { λ r. ⌜ r ≡ noTurn before row ⌝ }
 {
     TurnResult {
-        run: first_run(before),
+        run: first_run(before, row),
         read: 0,
         text: 0,
         written: true,
@@ -84,12 +83,14 @@ fn no_turn(before: u64) -> TurnResult
 fn resumed(run: Run, going: bool) -> Run
     ensures { λ r. ⌜ r ≡ resumedRun run going ⌝ }
 {
+    let row = run.row;
     Run {
         index: run.index,
         block: run.block,
         before: run.before,
         end: 0,
         going,
+        row,
     }
 }
 
@@ -107,62 +108,23 @@ fn goes_on(written: bool, n: usize, going: bool) -> bool
 }
 
 // One chunk: read, listed and written.
-fn turn<'a>(
+fn turn<'a, 'b, 'c, 'd>(
     source: i32,
     target: i32,
     run: Run,
     input: &'a mut [u8],
     digits: &'a [u8; 512],
-    out: &'a mut [u8],
-    supply: u64,
-    figures: &'a mut [u64],
-    accounts: &'a [usize],
-    counts: &'a mut [usize],
-    balances: &'a mut [u64],
-    numbers: &'a mut [u64],
-    amounts: &'a mut [u64],
-    senders: &'a mut [u16],
-    receivers: &'a mut [u16],
-    kinds: &'a mut [u8],
-    ledgers: &'a mut [u8],
-    verdicts: &'a mut [u8],
-    heads: &'a mut [u16],
-    nexts: &'a mut [u16],
+    out: &'b mut [u8],
+    state: &'c mut [u64; WORDS],
+    index: &'d mut [u16; INDEXES],
 ) -> TurnResult
     requires { ⌜ Bounded run × (run .end ≡ 0) × (length (now input) ≡ chunkSize) × (length (now out) ≡ chunkRoom)
-        × (now digits ≡ pairTable) × Ready (lent supply (now accounts) (now counts) (now balances) (now numbers) (now amounts)
-        (now senders) (now receivers) (now kinds) (now ledgers) (now verdicts)) (now figures) (now heads) (now nexts) ⌝ }
-    ensures keeps { λ r. ⌜ Bounded (r .run) × (r .run .end ≡ 0) × Ready (lent supply (now (accounts .entry)) (now (counts .exit))
-        (now (balances .exit)) (now (numbers .exit)) (now (amounts .exit)) (now (senders .exit)) (now (receivers .exit))
-        (now (kinds .exit)) (now (ledgers .exit)) (now (verdicts .exit))) (now (figures .exit)) (now (heads .exit))
-        (now (nexts .exit)) ⌝ }
-    ensures turns { λ r. ⌜ Turned (standing run (lent supply (now (accounts .entry)) (now (counts .entry))
-        (now (balances .entry)) (now (numbers .entry)) (now (amounts .entry)) (now (senders .entry)) (now (receivers .entry))
-        (now (kinds .entry)) (now (ledgers .entry)) (now (verdicts .entry)))) (now (input .exit)) (now (out .exit)) r (lent supply
-        (now (accounts .entry)) (now (counts .exit)) (now (balances .exit)) (now (numbers .exit)) (now (amounts .exit))
-        (now (senders .exit)) (now (receivers .exit)) (now (kinds .exit)) (now (ledgers .exit)) (now (verdicts .exit))) ⌝ }
+        × (now digits ≡ pairTable) × RowReady (now state) (now index) (run .row) ⌝ }
+    ensures keeps { λ r. ⌜ Bounded (r .run) × (r .run .end ≡ 0) × RowReady (now (state .exit)) (now (index .exit)) (r .run .row) ⌝ }
+    ensures turns { λ r. ⌜ Turned (standing run (now (state .entry))) (now (input .exit)) (now (out .exit)) r (now (state .exit)) ⌝ }
 {
     let read = io::read_full(source, input);
-    let next = list_chunk(
-        run,
-        &input[..read],
-        digits,
-        out,
-        supply,
-        figures,
-        accounts,
-        counts,
-        balances,
-        numbers,
-        amounts,
-        senders,
-        receivers,
-        kinds,
-        ledgers,
-        verdicts,
-        heads,
-        nexts,
-    );
+    let next = list_chunk(run, &input[..read], digits, out, state, index);
     let text = next.end;
     let written = io::write_all(target, &out[..text]);
     let going = goes_on(written, read, next.going);
@@ -176,118 +138,57 @@ fn turn<'a>(
 
 // The blocks after an accepted opening, chunk by chunk, up to a bad block, the end of the journal or a text that could not be written:
 // the last turn. As many turns as there are chunks get there from every journal.
-fn list_rest<'a>(
+fn list_rest<'a, 'b, 'c, 'd>(
     source: i32,
     target: i32,
-    before: u64,
+    start: Start,
     input: &'a mut [u8],
     digits: &'a [u8; 512],
-    out: &'a mut [u8],
-    supply: u64,
-    figures: &'a mut [u64],
-    accounts: &'a [usize],
-    counts: &'a mut [usize],
-    balances: &'a mut [u64],
-    numbers: &'a mut [u64],
-    amounts: &'a mut [u64],
-    senders: &'a mut [u16],
-    receivers: &'a mut [u16],
-    kinds: &'a mut [u8],
-    ledgers: &'a mut [u8],
-    verdicts: &'a mut [u8],
-    heads: &'a mut [u16],
-    nexts: &'a mut [u16],
+    out: &'b mut [u8],
+    state: &'c mut [u64; WORDS],
+    index: &'d mut [u16; INDEXES],
 ) -> TurnResult
-    requires { ⌜ (length (now input) ≡ chunkSize) × (length (now out) ≡ chunkRoom)
-        × (now digits ≡ pairTable) × Ready (lent supply (now accounts) (now counts) (now balances) (now numbers) (now amounts)
-        (now senders) (now receivers) (now kinds) (now ledgers) (now verdicts)) (now figures) (now heads) (now nexts) ⌝ }
-    ensures { λ r. ⌜ Ended (opened (lent supply (now (accounts .entry)) (now (counts .entry))
-        (now (balances .entry)) (now (numbers .entry)) (now (amounts .entry)) (now (senders .entry)) (now (receivers .entry))
-        (now (kinds .entry)) (now (ledgers .entry)) (now (verdicts .entry))) before) (now (input .exit)) (now (out .exit)) r (lent supply
-        (now (accounts .entry)) (now (counts .exit)) (now (balances .exit)) (now (numbers .exit)) (now (amounts .exit))
-        (now (senders .exit)) (now (receivers .exit)) (now (kinds .exit)) (now (ledgers .exit)) (now (verdicts .exit))) ⌝ }
+    requires { ⌜ (length (now input) ≡ chunkSize) × (length (now out) ≡ chunkRoom) × (now digits ≡ pairTable)
+        × RowReady (now state) (now index) (start .row) ⌝ }
+    ensures { λ r. ⌜ Ended (opened (now (state .entry)) (start .before)) (now (input .exit)) (now (out .exit)) r (now (state .exit)) ⌝ }
 {
-    let mut last = no_turn(before);
+    let row = start.row;
+    let mut last = no_turn(start.before, row);
     let mut turns = CHUNKS;
     while 0 < turns {
         let run = last.run;
         if !run.going {
             return last;
         }
-        last = turn(
-            source,
-            target,
-            run,
-            input,
-            digits,
-            out,
-            supply,
-            figures,
-            accounts,
-            counts,
-            balances,
-            numbers,
-            amounts,
-            senders,
-            receivers,
-            kinds,
-            ledgers,
-            verdicts,
-            heads,
-            nexts,
-        );
+        last = turn(source, target, run, input, digits, out, state, index);
         turns -= 1;
     }
     last
 }
 
-// The rest of a journal after an accepted opening, with columns that hold no record yet: the last turn.
-fn list_opened<'a>(
+// The rest of a journal after an accepted opening, with a state that holds no record yet: the last turn.
+fn list_opened<'a, 'b>(
     source: i32,
     target: i32,
     start: Start,
     out: &'a mut [u8],
-    figures: &'a mut [u64],
-    accounts: &'a [usize],
-    balances: &'a mut [u64],
+    state: &'b mut [u64; WORDS],
 ) -> TurnResult
-    requires { ⌜ (length (now out) ≡ chunkRoom) × Ready (lentEmpty (start .supply) (now accounts) (now balances)) (now figures)
-        (replicate (2 * chainCount) 0) (replicate (2 * capacity) 0) ⌝ }
-    ensures { λ r. ⌜ SomeEnd (opened (lentEmpty (start .supply) (now (accounts .entry)) (now (balances .entry))) (start .before)) r ⌝ }
+    requires { ⌜ (length (now out) ≡ chunkRoom) × RowReady (now state) (replicate (2 * indexLength) 0) (start .row) ⌝ }
+    ensures { λ r. ⌜ SomeEnd (opened (now (state .entry)) (start .before)) r ⌝ }
 {
     let digits = pairs();
     let mut input = [0u8; CHUNK];
-    let mut counts = [0usize; 2];
-    let mut numbers = [0u64; PLACES];
-    let mut amounts = [0u64; PLACES];
-    let mut senders = [0u16; PLACES];
-    let mut receivers = [0u16; PLACES];
-    let mut kinds = [0u8; PLACES];
-    let mut ledgers = [0u8; PLACES];
-    let mut verdicts = [0u8; PLACES];
-    let mut heads = [0u16; HEADS];
-    let mut nexts = [0u16; PLACES];
+    let mut index = [0u16; INDEXES];
     list_rest(
         source,
         target,
-        start.before,
+        start,
         &mut input,
         &digits,
         out,
-        start.supply,
-        figures,
-        accounts,
-        &mut counts,
-        balances,
-        &mut numbers,
-        &mut amounts,
-        &mut senders,
-        &mut receivers,
-        &mut kinds,
-        &mut ledgers,
-        &mut verdicts,
-        &mut heads,
-        &mut nexts,
+        state,
+        &mut index,
     )
 }
 
@@ -295,12 +196,18 @@ fn list_opened<'a>(
 fn opening_alone(first: usize, end: usize, printed: bool, opened: bool) -> ListResult
     ensures { λ r. ⌜ r ≡ openingAlone first end printed opened ⌝ }
 {
+    let none = Row {
+        refusal: 0,
+        home: 0,
+        far: 0,
+        flight: 0,
+    };
     ListResult {
         first,
         end,
         printed,
         opened,
-        last: no_turn(0),
+        last: no_turn(0, none),
     }
 }
 
@@ -310,18 +217,10 @@ pub fn list(source: i32, target: i32) -> ListResult
     ensures { λ r. ⌜ Listed r ⌝ }
 {
     let mut out = [0u8; TEXT];
-    let mut figures = [0u64; 3];
-    let mut accounts = [0usize; 2];
-    let mut balances = [0u64; ACCOUNTS];
+    let mut state = [0u64; WORDS];
     let mut opening = [0u8; OPENING];
     let first = io::read_full(source, &mut opening);
-    let start = list_start(
-        &opening[..first],
-        &mut out,
-        &mut figures,
-        &mut accounts,
-        &mut balances,
-    );
+    let start = list_start(&opening[..first], &mut out, &mut state);
     let end = start.end;
     let printed = io::write_all(target, &out[..end]);
     let opened = start.going;
@@ -332,15 +231,7 @@ pub fn list(source: i32, target: i32) -> ListResult
     if !opened {
         return alone;
     }
-    let last = list_opened(
-        source,
-        target,
-        start,
-        &mut out,
-        &mut figures,
-        &accounts,
-        &mut balances,
-    );
+    let last = list_opened(source, target, start, &mut out, &mut state);
     ListResult {
         first,
         end,

@@ -12,8 +12,7 @@ use Rattle.block_checks.specs.Checked.{blockRefusal}
 use Rattle.lines.specs.Lines.{faultLine}
 use Rattle.listing.specs.Chunks.{afterBlocks, stateFigures}
 use Rattle.listing.specs.Listing.{Standing, afterBlock, blockText, blocksText, recordLines, stateListed}
-use Rattle.pair_validator.specs.State.{pairChecker}
-use Rattle.pair_validator.specs.declared.PairValidator.{PairValidator}
+use Rattle.pair_core.specs.Layout.{pairWordsChecker}
 use Rattle.rules.proofs.Lists.{never-both-tests}
 use Rattle.rules.specs.Calls.{Checker}
 
@@ -74,18 +73,18 @@ module _ {S : Type 0} (c : Checker S) (f : S → List ℕ) where
 -- ## Where the program's listing stands after blocks
 
 -- after no block it stands as before
-pub blocks-none : (p : Standing PairValidator) → afterBlocks p [] ≡ p
+pub blocks-none : (p : Standing (List ℕ)) → afterBlocks p [] ≡ p
 unfolding afterBlocks
 blocks-none p = refl
 
 -- where it goes on, it stands after a block and others as after the others from where it stood after the block
-pub blocks-next : (p : Standing PairValidator) (b : List ℕ) (bs : List (List ℕ)) → p .going ≡ true
-    → afterBlocks p (b ∷ bs) ≡ afterBlocks (afterBlock pairChecker p b) bs
+pub blocks-next : (p : Standing (List ℕ)) (b : List ℕ) (bs : List (List ℕ)) → p .going ≡ true
+    → afterBlocks p (b ∷ bs) ≡ afterBlocks (afterBlock pairWordsChecker p b) bs
 unfolding afterBlocks
 blocks-next p b bs g = rw g
 
 -- where it does not go on, blocks leave it
-pub blocks-stopped : (p : Standing PairValidator) (bs : List (List ℕ)) → p .going ≡ false → afterBlocks p bs ≡ p
+pub blocks-stopped : (p : Standing (List ℕ)) (bs : List (List ℕ)) → p .going ≡ false → afterBlocks p bs ≡ p
 unfolding afterBlocks
 blocks-stopped p [] g = refl
 blocks-stopped p (b ∷ bs) g = rw g
@@ -93,75 +92,75 @@ blocks-stopped p (b ∷ bs) g = rw g
 -- ## Blocks after others
 
 -- the listing stands after all of them as after the others from where it stood after the first ones
-pub blocks-append : (p : Standing PairValidator) (xs ys : List (List ℕ)) → afterBlocks p (xs ++ ys) ≡ afterBlocks (afterBlocks p xs) ys
-blocks-append p [] ys = ap (λ (q : Standing PairValidator). afterBlocks q ys) (sym (blocks-none p))
-blocks-append p (b ∷ bs) ys = go (p .going) refl (blocks-append (afterBlock pairChecker p b) bs ys)
+pub blocks-append : (p : Standing (List ℕ)) (xs ys : List (List ℕ)) → afterBlocks p (xs ++ ys) ≡ afterBlocks (afterBlocks p xs) ys
+blocks-append p [] ys = ap (λ (q : Standing (List ℕ)). afterBlocks q ys) (sym (blocks-none p))
+blocks-append p (b ∷ bs) ys = go (p .going) refl (blocks-append (afterBlock pairWordsChecker p b) bs ys)
   where
     go : (t : Bool) → p .going ≡ t
-        → afterBlocks (afterBlock pairChecker p b) (bs ++ ys) ≡ afterBlocks (afterBlocks (afterBlock pairChecker p b) bs) ys
+        → afterBlocks (afterBlock pairWordsChecker p b) (bs ++ ys) ≡ afterBlocks (afterBlocks (afterBlock pairWordsChecker p b) bs) ys
         → afterBlocks p (b ∷ (bs ++ ys)) ≡ afterBlocks (afterBlocks p (b ∷ bs)) ys
     go true g ih = rw (blocks-next p b (bs ++ ys) g, blocks-next p b bs g) ih
     go false g ih = rw (blocks-stopped p (b ∷ (bs ++ ys)) g, blocks-stopped p (b ∷ bs) g, blocks-stopped p ys g)
 
 -- their text is the first ones' and then the others' from there
-pub text-append : (p : Standing PairValidator) (xs ys : List (List ℕ))
-    → blocksText pairChecker stateFigures p (xs ++ ys)
-    ≡ blocksText pairChecker stateFigures p xs ++ blocksText pairChecker stateFigures (afterBlocks p xs) ys
-text-append p [] ys = rw (blocks-none p, text-none pairChecker stateFigures p)
-text-append p (b ∷ bs) ys = go (p .going) refl (text-append (afterBlock pairChecker p b) bs ys)
+pub text-append : (p : Standing (List ℕ)) (xs ys : List (List ℕ))
+    → blocksText pairWordsChecker stateFigures p (xs ++ ys)
+    ≡ blocksText pairWordsChecker stateFigures p xs ++ blocksText pairWordsChecker stateFigures (afterBlocks p xs) ys
+text-append p [] ys = rw (blocks-none p, text-none pairWordsChecker stateFigures p)
+text-append p (b ∷ bs) ys = go (p .going) refl (text-append (afterBlock pairWordsChecker p b) bs ys)
   where
-    text : Standing PairValidator → List (List ℕ) → List ℕ
-    text q ds = blocksText pairChecker stateFigures q ds
+    text : Standing (List ℕ) → List (List ℕ) → List ℕ
+    text q ds = blocksText pairWordsChecker stateFigures q ds
 
     go : (t : Bool) → p .going ≡ t
-        → text (afterBlock pairChecker p b) (bs ++ ys)
-        ≡ text (afterBlock pairChecker p b) bs ++ text (afterBlocks (afterBlock pairChecker p b) bs) ys
+        → text (afterBlock pairWordsChecker p b) (bs ++ ys)
+        ≡ text (afterBlock pairWordsChecker p b) bs ++ text (afterBlocks (afterBlock pairWordsChecker p b) bs) ys
         → text p (b ∷ (bs ++ ys)) ≡ text p (b ∷ bs) ++ text (afterBlocks p (b ∷ bs)) ys
     go true g ih =
         rw (
-          text-next pairChecker stateFigures p b (bs ++ ys) g,
-          text-next pairChecker stateFigures p b bs g,
+          text-next pairWordsChecker stateFigures p b (bs ++ ys) g,
+          text-next pairWordsChecker stateFigures p b bs g,
           blocks-next p b bs g,
           ih,
-        ) (sym (append-assoc (blockText pairChecker stateFigures p b) _ _))
+        ) (sym (append-assoc (blockText pairWordsChecker stateFigures p b) _ _))
     go false g ih =
         rw (
-          text-stopped pairChecker stateFigures p (b ∷ (bs ++ ys)) g,
-          text-stopped pairChecker stateFigures p (b ∷ bs) g,
+          text-stopped pairWordsChecker stateFigures p (b ∷ (bs ++ ys)) g,
+          text-stopped pairWordsChecker stateFigures p (b ∷ bs) g,
           blocks-stopped p (b ∷ bs) g,
-          text-stopped pairChecker stateFigures p ys g,
+          text-stopped pairWordsChecker stateFigures p ys g,
         )
 
 -- ## A listing that goes on
 
 -- it went on before, each block gave it the next number, and the last block's number is one that a block can have
-pub record WentOn (p : Standing PairValidator) (bs : List (List ℕ)) : Type 0 where
+pub record WentOn (p : Standing (List ℕ)) (bs : List (List ℕ)) : Type 0 where
   pub went : p .going ≡ true
   pub number : afterBlocks p bs .block ≡ p .block + length bs
   pub low : 0 < length bs → p .block + length bs ≤ suc maxBlock
 
 -- a block after which the listing goes on is right, and it went on before
-pub right-going : (p : Standing PairValidator) (b : List ℕ) → afterBlock pairChecker p b .going ≡ true
+pub right-going : (p : Standing (List ℕ)) (b : List ℕ) → afterBlock pairWordsChecker p b .going ≡ true
     → (p .going ≡ true) × (blockRefusal b (p .block) (p .before) ≡ 0)
 right-going p b g = go (blockRefusal b (p .block) (p .before)) refl
   where
     go : (n : ℕ) → blockRefusal b (p .block) (p .before) ≡ n → (p .going ≡ true) × (blockRefusal b (p .block) (p .before) ≡ 0)
-    go zero q = (sym (ap (λ (x : Standing PairValidator). x .going) (right-after pairChecker p b q)) ∙ g, q)
+    go zero q = (sym (ap (λ (x : Standing (List ℕ)). x .going) (right-after pairWordsChecker p b q)) ∙ g, q)
     go (suc n) q =
-        absurd (never-both-tests (sym g ∙ ap (λ (x : Standing PairValidator). x .going) (bad-after pairChecker p b n q)))
+        absurd (never-both-tests (sym g ∙ ap (λ (x : Standing (List ℕ)). x .going) (bad-after pairWordsChecker p b n q)))
 
 -- where the listing goes on after blocks, it went on through them
-pub went-on : (p : Standing PairValidator) (bs : List (List ℕ)) → afterBlocks p bs .going ≡ true → WentOn p bs
+pub went-on : (p : Standing (List ℕ)) (bs : List (List ℕ)) → afterBlocks p bs .going ≡ true → WentOn p bs
 went-on p [] g =
     record {
       went = rw (blocks-none p) at g;
-      number = omega (arith, ap (λ (q : Standing PairValidator). q .block) (blocks-none p));
+      number = omega (arith, ap (λ (q : Standing (List ℕ)). q .block) (blocks-none p));
       low = λ h. absurd (omega arith);
     }
-went-on p (b ∷ bs) g = go (p .going) refl (went-on (afterBlock pairChecker p b) bs)
+went-on p (b ∷ bs) g = go (p .going) refl (went-on (afterBlock pairWordsChecker p b) bs)
   where
-    next : Standing PairValidator
-    next = afterBlock pairChecker p b
+    next : Standing (List ℕ)
+    next = afterBlock pairWordsChecker p b
 
     -- the last number is this block's, or that of one after it
     last : (n k : ℕ) → k ≤ maxBlock → (0 < n → suc k + n ≤ suc maxBlock) → k + suc n ≤ suc maxBlock
@@ -171,13 +170,13 @@ went-on p (b ∷ bs) g = go (p .going) refl (went-on (afterBlock pairChecker p b
     go : (t : Bool) → p .going ≡ t → (afterBlocks next bs .going ≡ true → WentOn next bs) → WentOn p (b ∷ bs)
     go true q ih =
         let e = blocks-next p b bs q in
-        let w = ih (sym (ap (λ (x : Standing PairValidator). x .going) e) ∙ g) in
+        let w = ih (sym (ap (λ (x : Standing (List ℕ)). x .going) e) ∙ g) in
         let r = right-going p b (w .went) .1 in
-        let k : next .block ≡ suc (p .block) = ap (λ (x : Standing PairValidator). x .block) (right-after pairChecker p b r) in
+        let k : next .block ≡ suc (p .block) = ap (λ (x : Standing (List ℕ)). x .block) (right-after pairWordsChecker p b r) in
         record {
           went = q;
-          number = omega (arith, ap (λ (x : Standing PairValidator). x .block) e, w .number);
+          number = omega (arith, ap (λ (x : Standing (List ℕ)). x .block) e, w .number);
           low = λ h. last (length bs) (p .block) (right-facts b (p .block) (p .before) r .low) (λ l. rw k at (w .low l));
         }
     go false q ih =
-        absurd (never-both-tests (sym g ∙ ap (λ (x : Standing PairValidator). x .going) (blocks-stopped p (b ∷ bs) q) ∙ q))
+        absurd (never-both-tests (sym g ∙ ap (λ (x : Standing (List ℕ)). x .going) (blocks-stopped p (b ∷ bs) q) ∙ q))

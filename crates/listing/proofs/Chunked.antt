@@ -17,9 +17,8 @@ use Rattle.listing.proofs.Carried.{text-carried}
 use Rattle.listing.proofs.Cutting.{parts-count, parts-empty, parts-split}
 use Rattle.listing.specs.Chunks.{ListedInChunks, afterChunk, chunkSize, chunkText, chunksText, mostChunks, openedBy, stateFigures}
 use Rattle.listing.specs.Listing.{Standing, blocksIn, blocksText, figuresLine, listing, opened, openingText, unlessFault, whileGoing}
-use Rattle.pair_validator.proofs.Opened.{opened-sound, opened-view}
-use Rattle.pair_validator.specs.State.{pairChecker}
-use Rattle.pair_validator.specs.declared.PairValidator.{PairValidator}
+use Rattle.pair_core.specs.Layout.{pairWordsChecker}
+use Rattle.pair_rows.proofs.Opened.{opened-ready, opened-view}
 use Rattle.rules.specs.PairValidator.{PairView, pairOpened, pairOpeningRefusal, pairValidator}
 
 -- ## The opening
@@ -43,11 +42,11 @@ opening-rest home far rest other e =
 -- after an accepted opening the text of blocks over the rules' states is the one over the program's
 opened-carried : (home far : List ℕ) (bs : List (List ℕ)) → pairOpeningRefusal (balancesOf home) (balancesOf far) ≡ 0
     → blocksText (pairValidator capacity) figuresLine (opened (pairOpened (balancesOf home) (balancesOf far)) (statedCount far)) bs
-    ≡ blocksText pairChecker stateFigures (openedBy home far) bs
+    ≡ blocksText pairWordsChecker stateFigures (openedBy home far) bs
 opened-carried home far bs q =
     ap (λ (v : PairView). blocksText (pairValidator capacity) figuresLine (opened v (statedCount far)) bs)
     (sym (opened-view (balancesOf home) (balancesOf far) q))
-    ∙ sym (text-carried (openedBy home far) bs (opened-sound (balancesOf home) (balancesOf far) q))
+    ∙ sym (text-carried (openedBy home far) bs (opened-ready (balancesOf home) (balancesOf far) q .accepted))
 
 -- ## Chunks
 
@@ -64,8 +63,8 @@ chunk-last : (j : List ℕ) → (length (take chunkSize j) ≡ chunkSize → ⊥
 chunk-last j f = drop-of-length-le j {i = chunkSize} (omega (arith, length-take chunkSize j))
 
 -- as many chunks as reach beyond the greatest block number have the text of all blocks
-chunks-all : (n : ℕ) (p : Standing PairValidator) (j : List ℕ) → p .block ≤ suc maxBlock → suc maxBlock < p .block + n * 64
-    → blocksText pairChecker stateFigures p (blocksIn j) ≡ chunksText n p j
+chunks-all : (n : ℕ) (p : Standing (List ℕ)) (j : List ℕ) → p .block ≤ suc maxBlock → suc maxBlock < p .block + n * 64
+    → blocksText pairWordsChecker stateFigures p (blocksIn j) ≡ chunksText n p j
 unfolding chunksText
 chunks-all zero p j low beyond = absurd (omega arith)
 chunks-all (suc n) p j low beyond =
@@ -74,10 +73,10 @@ chunks-all (suc n) p j low beyond =
     ∙ ap (λ (t : List ℕ). chunkText p (take chunkSize j) ++ t)
     (go (eqb (length (take chunkSize j)) chunkSize) (next .going) refl refl (chunks-all n next (drop chunkSize j)))
   where
-    text : Standing PairValidator → List (List ℕ) → List ℕ
-    text q bs = blocksText pairChecker stateFigures q bs
+    text : Standing (List ℕ) → List (List ℕ) → List ℕ
+    text q bs = blocksText pairWordsChecker stateFigures q bs
 
-    next : Standing PairValidator
+    next : Standing (List ℕ)
     next = afterChunk p (take chunkSize j)
 
     -- after a full chunk that does not stop it the listing goes on; after any other nothing is left to list
@@ -91,11 +90,11 @@ chunks-all (suc n) p j low beyond =
         let k = w .number in
         let l = w .low (omega arith) in
         ih (omega arith) (omega arith)
-    go true false f g ih = text-stopped pairChecker stateFigures next (blocksIn (drop chunkSize j)) g
+    go true false f g ih = text-stopped pairWordsChecker stateFigures next (blocksIn (drop chunkSize j)) g
     go false on f g ih =
         ap (λ (b : List ℕ). text next (blocksIn b)) (chunk-last j (eqb-false _ _ f))
         ∙ ap (text next) (parts-empty 512)
-        ∙ text-none pairChecker stateFigures next
+        ∙ text-none pairWordsChecker stateFigures next
 
 -- the listing of every journal is the one in chunks
 pub listed-in-chunks : ListedInChunks

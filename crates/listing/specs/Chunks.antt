@@ -9,24 +9,23 @@ use lib.ListN.{length, take, drop}
 use Rattle.block_format.specs.Blocks.{balancesOf, recordsPerBlock, statedCount}
 use Rattle.lines.specs.Lines.{headerLine, lineRoom}
 use Rattle.listing.specs.Listing.{Standing, afterBlock, blocksIn, blocksText, figuresLine, listing, opened, openingText, whileGoing}
-use Rattle.pair_validator.specs.State.{openedState, pairChecker, viewOfState}
-use Rattle.pair_validator.specs.declared.PairValidator.{PairValidator}
+use Rattle.pair_core.specs.Layout.{pairOpenedWords, pairViewOf, pairWordsChecker}
 
 -- ## The program's state
 
--- the figures of the program's state are those of the rules' state
-abbrev pub stateFigures : PairValidator → List ℕ
-stateFigures s = figuresLine (viewOfState s)
+-- the figures of the program's state, which is in words, are those of the rules' state
+abbrev pub stateFigures : List ℕ → List ℕ
+stateFigures s = figuresLine (pairViewOf s)
 
 -- a standing, where the listing goes on
-abbrev pub ifGoing : Bool → Standing PairValidator → Standing PairValidator → Standing PairValidator
+abbrev pub ifGoing : Bool → Standing (List ℕ) → Standing (List ℕ) → Standing (List ℕ)
 ifGoing true p later = later
 ifGoing false p later = p
 
 -- where the listing stands after blocks, up to a bad one
-unfoldable pub afterBlocks : Standing PairValidator → List (List ℕ) → Standing PairValidator
+unfoldable pub afterBlocks : Standing (List ℕ) → List (List ℕ) → Standing (List ℕ)
 afterBlocks p [] = p
-afterBlocks p (b ∷ bs) = ifGoing (p .going) p (afterBlocks (afterBlock pairChecker p b) bs)
+afterBlocks p (b ∷ bs) = ifGoing (p .going) p (afterBlocks (afterBlock pairWordsChecker p b) bs)
 
 -- ## Chunks
 
@@ -47,15 +46,15 @@ abbrev pub mostChunks : ℕ
 mostChunks = 1024
 
 -- the text of a chunk
-abbrev pub chunkText : Standing PairValidator → List ℕ → List ℕ
-chunkText p chunk = blocksText pairChecker stateFigures p (blocksIn chunk)
+abbrev pub chunkText : Standing (List ℕ) → List ℕ → List ℕ
+chunkText p chunk = blocksText pairWordsChecker stateFigures p (blocksIn chunk)
 
 -- where the listing stands after it
-abbrev pub afterChunk : Standing PairValidator → List ℕ → Standing PairValidator
+abbrev pub afterChunk : Standing (List ℕ) → List ℕ → Standing (List ℕ)
 afterChunk p chunk = afterBlocks p (blocksIn chunk)
 
 -- the program's loop: at most n chunks of what is left, up to a bad block or to a chunk that is not full
-unfoldable pub chunksText : ℕ → Standing PairValidator → List ℕ → List ℕ
+unfoldable pub chunksText : ℕ → Standing (List ℕ) → List ℕ → List ℕ
 chunksText zero p j = []
 chunksText (suc n) p j =
     chunkText p (take chunkSize j)
@@ -66,8 +65,8 @@ chunksText (suc n) p j =
 -- ## The claim
 
 -- where the program's listing stands after an accepted opening of blocks 0 and 1
-abbrev pub openedBy : List ℕ → List ℕ → Standing PairValidator
-openedBy home far = opened (openedState (balancesOf home) (balancesOf far)) (statedCount far)
+abbrev pub openedBy : List ℕ → List ℕ → Standing (List ℕ)
+openedBy home far = opened (pairOpenedWords (balancesOf home) (balancesOf far)) (statedCount far)
 
 -- the listing of every journal is the header, the opening of its first 1,024 bytes, and the text of the program's chunks of the rest
 unfoldable pub ListedInChunks : Type 0

@@ -1,4 +1,3 @@
--- Laws of the first lines of a listing and of the columns after them. Assumes nothing.
-pub mod OpenColumns
+-- Laws of the first lines of a listing. Assumes nothing.
 pub mod OpeningText
 pub mod Halves

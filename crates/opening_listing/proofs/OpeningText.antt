@@ -1,10 +1,10 @@
 -- The text of the opening of blocks 0 and 1, by their refusals, and what the reader hands out of them. Assumes nothing.
-use Prim.Native.Nat.{_+_, _<_, _≤_, suc, zero, ℕ}
+use Prim.Native.Nat.{_<_, _≤_, suc, zero, ℕ}
 use mathlib.Core.Bool.{false, true}
-use mathlib.Core.List.{List, [], _++_, _∷_, append-nil}
+use mathlib.Core.List.{List, [], _++_, append-nil}
 use mathlib.Core.Path.{_∙_, _≡_, ap, ap₂, refl, subst, sym}
 use native.Mathlib.Omega.{arith}
-use lib.ListN.{getD, length, length-append, replicate, take}
+use lib.ListN.{length, length-append, replicate, take}
 use lib.Seq.{take-at}
 use borrow.Author.Tests.{lt-leb}
 use Rattle.answers.proofs.Answers.{tells}
@@ -21,11 +21,13 @@ use Rattle.lines.specs.Lines.{Put, faultLine, figuresText, headerLine, openLine
 use Rattle.listing.specs.Listing.{openingText, unlessFault}
 use Rattle.opening_listing.specs.Opened.{OpenedIn}
 use Rattle.opening_listing.specs.declared.Start.{Start}
+use Rattle.pair_core.specs.Layout.{pairOpenedWords}
+use Rattle.pair_rows.specs.Rows.{rowOf}
+use Rattle.pair_rows.specs.declared.Row.{Row}
 use Rattle.rules.proofs.Lists.{never-both-tests}
 use Rattle.rules.specs.Lists.{sum, total}
-use Rattle.rules.specs.PairValidator.{pairOpeningRefusal}
+use Rattle.rules.specs.PairValidator.{pairOpened, pairOpeningRefusal}
 use Rattle.rules.specs.Rules.{flight, inFlight}
-use Rattle.tables.specs.Columns.{padded}
 
 -- ## The text by the refusals
 
@@ -85,41 +87,36 @@ fault-leaves home far start n block t p q z g = (
 )
 
 -- what a listing leaves whose opening is accepted
-pub open-leaves : (home far : List ℕ) (start : Start) {d e f figures accounts balances : List ℕ} {o : ℕ}
+pub open-leaves : (home far : List ℕ) (row : Row) {d e f state : List ℕ} {o before end : ℕ}
     → blockRefusal home 0 0 ≡ 0
     → blockRefusal far 1 (statedCount home) ≡ 0
     → pairOpeningRefusal (balancesOf home) (balancesOf far) ≡ 0
     → Put d 0 headerLine e o
-    → Put e o (openLine (figuresText (getD figures 0 0) (getD figures 1 0) 0)) f (start .end)
-    → start .supply ≡ total (balancesOf home) + total (balancesOf far)
-    → start .before ≡ statedCount far
-    → start .going ≡ true
-    → figures ≡ total (balancesOf home) ∷ total (balancesOf far) ∷ 0 ∷ []
-    → accounts ≡ length (balancesOf home) ∷ length (balancesOf far) ∷ []
-    → balances ≡ padded (balancesOf home) ++ padded (balancesOf far)
-    → Put d 0 (headerLine ++ openingText home far []) f (start .end)
-    × ((start .going ≡ true → OpenedIn home far start figures accounts balances)
-    × ((start .going ≡ false → (rest : List ℕ) → openingText home far rest ≡ openingText home far [])
-    × (start .end ≤ 256)))
-open-leaves home far start {d} {e} {f} {figures} a b z p q supply before g fs accounts balances =
+    → Put e o (openLine (figuresText (row .home) (row .far) 0)) f end
+    → row ≡ rowOf 0 (pairOpened (balancesOf home) (balancesOf far))
+    → before ≡ statedCount far
+    → state ≡ pairOpenedWords (balancesOf home) (balancesOf far)
+    → Put d 0 (headerLine ++ openingText home far []) f end
+    × ((true ≡ true → OpenedIn home far (record { row = row; before = before; end = end; going = true }) state)
+    × ((true ≡ false → (rest : List ℕ) → openingText home far rest ≡ openingText home far [])
+    × (end ≤ 256)))
+open-leaves home far row {d} {e} {f} {state} {o} {before} {end} a b z p q r k w =
     let t = at-open home far a b z in
     let s = t [] ∙ append-nil _ in
-    let m = ap (λ (l : List ℕ). openLine (figuresText (getD l 0 0) (getD l 1 0) 0)) fs ∙ sym s in (
-      subst (λ (l : List ℕ). Put d 0 (headerLine ++ l) f (start .end)) m (put-put p q),
+    let m = ap (λ (x : Row). openLine (figuresText (x .home) (x .far) 0)) r ∙ sym s in (
+      subst (λ (l : List ℕ). Put d 0 (headerLine ++ l) f end) m (put-put p q),
       (
         λ h.
             record {
               continues = λ rest. t rest ∙ ap (λ (l : List ℕ). l ++ rest) (sym s);
               unrefused = z;
-              supply-is = supply;
-              before-is = before;
-              figures-are = fs;
-              accounts-are = accounts;
-              balances-are = balances;
+              row-is = r;
+              before-is = k;
+              state-is = w;
             },
         (
-          λ h. absurd (never-both-tests (sym g ∙ h)),
-          omega (arith, p .next, q .next, header-short, open-short (getD figures 0 0) (getD figures 1 0)),
+          λ h. absurd (never-both-tests h),
+          omega (arith, p .next, q .next, header-short, open-short (row .home) (row .far)),
         ),
       ),
     )

@@ -1,22 +1,18 @@
--- What the opening of a listing leaves in the lent columns. For inner functions only. Assumes nothing.
-use Prim.Native.Nat.{ℕ, _+_}
-use mathlib.Core.List.{List, [], _∷_, _++_}
+-- What the opening of a listing leaves: its row, and the state in words. For inner functions only. Assumes nothing.
+use Prim.Native.Nat.{ℕ}
+use mathlib.Core.List.{List, [], _++_}
 use mathlib.Core.Path.{_≡_}
-use lib.ListN.{length}
 use Rattle.block_format.specs.Blocks.{balancesOf, statedCount}
 use Rattle.listing.specs.Listing.{openingText}
 use Rattle.opening_listing.specs.declared.Start.{Start}
-use Rattle.rules.specs.Lists.{total}
-use Rattle.rules.specs.PairValidator.{pairOpeningRefusal}
-use Rattle.tables.specs.Columns.{padded}
+use Rattle.pair_core.specs.Layout.{pairOpenedWords}
+use Rattle.pair_rows.specs.Rows.{rowOf}
+use Rattle.rules.specs.PairValidator.{pairOpened, pairOpeningRefusal}
 
--- an accepted opening of blocks 0 and 1: the supply, the count of block 1, the totals with nothing in flight, the numbers of accounts
--- and the balances, home's first; the text goes on after the opening's
-pub record OpenedIn (home far : List ℕ) (start : Start) (figures accounts balances : List ℕ) : Type 0 where
+-- an accepted opening of blocks 0 and 1: its row, the count of block 1, and the words; the text goes on after the opening's
+pub record OpenedIn (home far : List ℕ) (start : Start) (state : List ℕ) : Type 0 where
   pub continues : (rest : List ℕ) → openingText home far rest ≡ openingText home far [] ++ rest
   pub unrefused : pairOpeningRefusal (balancesOf home) (balancesOf far) ≡ 0
-  pub supply-is : start .supply ≡ total (balancesOf home) + total (balancesOf far)
+  pub row-is : start .row ≡ rowOf 0 (pairOpened (balancesOf home) (balancesOf far))
   pub before-is : start .before ≡ statedCount far
-  pub figures-are : figures ≡ total (balancesOf home) ∷ total (balancesOf far) ∷ 0 ∷ []
-  pub accounts-are : accounts ≡ length (balancesOf home) ∷ length (balancesOf far) ∷ []
-  pub balances-are : balances ≡ padded (balancesOf home) ++ padded (balancesOf far)
+  pub state-is : state ≡ pairOpenedWords (balancesOf home) (balancesOf far)

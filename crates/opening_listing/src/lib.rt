@@ -1,32 +1,27 @@
 // The first lines of a listing, in a lent buffer: the header, and the opening of blocks 0 and 1 or the fault of one of them.
-ghost use Prim.Native.Nat.{ℕ, _+_, _*_, _≤_};
+ghost use Prim.Native.Nat.{ℕ, _≤_};
 ghost use mathlib.Core.Bool.{true, false};
-ghost use mathlib.Core.List.{List, [], _∷_, _++_};
+ghost use mathlib.Core.List.{List, [], _++_};
 ghost use mathlib.Core.Path.{_≡_};
 ghost use lib.ListN.{drop, length, replicate, take};
-ghost use Rattle.ledgers.specs.Limits.{accountLimit};
 ghost use Rattle.lines.specs.Lines.{Put, headerLine};
 ghost use Rattle.listing.specs.Listing.{openingText};
 ghost use Rattle.opening_listing.specs.Opened.{OpenedIn};
-ghost use Rattle.rules.specs.Lists.{total};
-ghost use Rattle.rules.specs.PairValidator.{pairOpeningRefusal};
-ghost use Rattle.tables.specs.Columns.{padded};
+ghost use Rattle.pair_core.specs.Layout.{pairWords};
 use answers::Answer;
 use block_format::BLOCK_SIZE;
-use entries::copy_numbers;
-use exact_sums::Wide;
-use exact_sums::add_balances;
 use inputs::part_end;
 use journal_reader::opening_balances;
-use ledgers::Ledger;
 use lines::put_fault;
 use lines::put_header;
 use lines::put_open;
-use openings::pair_opening;
+use pair_core::WORDS;
+use pair_rows::Row;
+use pair_rows::first_row;
 
-// What an opening leaves: the supply, the count of block 1, the end of the text, and whether the opening was accepted.
+// What an opening leaves: its row, the count of block 1, the end of the text, and whether the opening was accepted.
 pub struct Start {
-    pub supply: u64,
+    pub row: Row,
     pub before: u64,
     pub end: usize,
     pub going: bool,
@@ -37,52 +32,29 @@ fn stopped(end: usize) -> Start
     ensures { λ r. ⌜ (r .end ≡ end) × (r .going ≡ false) ⌝ }
 {
     Start {
-        supply: 0,
+        row: Row {
+            refusal: 0,
+            home: 0,
+            far: 0,
+            flight: 0,
+        },
         before: 0,
         end,
         going: false,
     }
 }
 
-// Both openings in the columns, and the totals.
-fn open_columns<'a>(
-    homes: &'a [u64],
-    fars: &'a [u64],
-    supply: u64,
-    figures: &'a mut [u64],
-    accounts: &'a mut [usize],
-    balances: &'a mut [u64],
-)
-    requires { ⌜ (pairOpeningRefusal (now homes) (now fars) ≡ 0) × (supply ≡ total (now homes) + total (now fars))
-        × (now figures ≡ replicate 3 0) × (now accounts ≡ replicate 2 0) × (now balances ≡ replicate (2 * accountLimit) 0) ⌝ }
-    ensures figures { λ _. ⌜ now (figures .exit) ≡ total (now (homes .entry)) ∷ total (now (fars .entry)) ∷ 0 ∷ [] ⌝ }
-    ensures accounts { λ _. ⌜ now (accounts .exit) ≡ length (now (homes .entry)) ∷ length (now (fars .entry)) ∷ [] ⌝ }
-    ensures balances { λ _. ⌜ now (balances .exit) ≡ padded (now (homes .entry)) ++ padded (now (fars .entry)) ⌝ }
-{
-    let home = add_balances(homes, 0, homes.len(), Wide { high: 0, low: 0 });
-    figures[0] = home.low;
-    figures[1] = supply - home.low;
-    accounts[0] = homes.len();
-    accounts[1] = fars.len();
-    copy_numbers(homes, 0, balances);
-    copy_numbers(fars, Ledger::ACCOUNTS, balances);
-}
-
 // The header line, and the line of the opening of blocks 0 and 1 or the fault of one of them.
-fn list_opening<'a>(
+fn list_opening<'a, 'b, 'c>(
     home: &'a [u8],
     far: &'a [u8],
-    out: &'a mut [u8],
-    figures: &'a mut [u64],
-    accounts: &'a mut [usize],
-    balances: &'a mut [u64],
+    out: &'b mut [u8],
+    state: &'c mut [u64; WORDS],
 ) -> Start
-    requires { ⌜ (256 ≤ length (now out)) × (now figures ≡ replicate 3 0) × (now accounts ≡ replicate 2 0)
-        × (now balances ≡ replicate (2 * accountLimit) 0) ⌝ }
+    requires { ⌜ (256 ≤ length (now out)) × (now state ≡ replicate pairWords 0) ⌝ }
     ensures puts { λ r. ⌜ Put (now (out .entry)) 0 (headerLine ++ openingText (now (home .entry)) (now (far .entry)) [])
         (now (out .exit)) (r .end) ⌝ }
-    ensures opens { λ r. ⌜ (r .going ≡ true → OpenedIn (now (home .entry)) (now (far .entry)) r (now (figures .exit))
-        (now (accounts .exit)) (now (balances .exit))) ⌝ }
+    ensures opens { λ r. ⌜ (r .going ≡ true → OpenedIn (now (home .entry)) (now (far .entry)) r (now (state .exit))) ⌝ }
     ensures stops { λ r. ⌜ (r .going ≡ false → (rest : List ℕ)
         → openingText (now (home .entry)) (now (far .entry)) rest ≡ openingText (now (home .entry)) (now (far .entry)) []) ⌝ }
     ensures fits { λ r. ⌜ r .end ≤ 256 ⌝ }
@@ -102,21 +74,13 @@ fn list_opening<'a>(
     let fars = second.balances;
     let n = first.count as usize;
     let m = second.count as usize;
-    let opening = pair_opening(&homes[..n], &fars[..m]);
-    if opening.refusal != 0 {
-        return stopped(put_fault(out, a, opening.refusal as u64, 1));
+    let row = first_row(&homes[..n], &fars[..m], state);
+    if row.refusal != 0 {
+        return stopped(put_fault(out, a, row.refusal as u64, 1));
     }
-    open_columns(
-        &homes[..n],
-        &fars[..m],
-        opening.supply,
-        figures,
-        accounts,
-        balances,
-    );
-    let end = put_open(out, a, figures[0], figures[1]);
+    let end = put_open(out, a, row.home, row.far);
     Start {
-        supply: opening.supply,
+        row,
         before: second.count,
         end,
         going: true,
@@ -124,19 +88,16 @@ fn list_opening<'a>(
 }
 
 // The same of a journal's first bytes, which are blocks 0 and 1 or what there is of them.
-pub fn list_start<'a>(
+pub fn list_start<'a, 'b, 'c>(
     bytes: &'a [u8],
-    out: &'a mut [u8],
-    figures: &'a mut [u64],
-    accounts: &'a mut [usize],
-    balances: &'a mut [u64],
+    out: &'b mut [u8],
+    state: &'c mut [u64; WORDS],
 ) -> Start
-    requires { ⌜ (256 ≤ length (now out)) × (now figures ≡ replicate 3 0) × (now accounts ≡ replicate 2 0)
-        × (now balances ≡ replicate (2 * accountLimit) 0) ⌝ }
+    requires { ⌜ (256 ≤ length (now out)) × (now state ≡ replicate pairWords 0) ⌝ }
     ensures puts { λ r. ⌜ Put (now (out .entry)) 0 (headerLine ++ openingText (take 512 (now (bytes .entry)))
         (take 512 (drop 512 (now (bytes .entry)))) []) (now (out .exit)) (r .end) ⌝ }
     ensures opens { λ r. ⌜ (r .going ≡ true → OpenedIn (take 512 (now (bytes .entry))) (take 512 (drop 512 (now (bytes .entry)))) r
-        (now (figures .exit)) (now (accounts .exit)) (now (balances .exit))) ⌝ }
+        (now (state .exit))) ⌝ }
     ensures stops { λ r. ⌜ (r .going ≡ false → (rest : List ℕ)
         → openingText (take 512 (now (bytes .entry))) (take 512 (drop 512 (now (bytes .entry)))) rest
         ≡ openingText (take 512 (now (bytes .entry))) (take 512 (drop 512 (now (bytes .entry)))) []) ⌝ }
@@ -145,12 +106,5 @@ pub fn list_start<'a>(
     let n = bytes.len();
     let middle = part_end(BLOCK_SIZE, 0, n);
     let end = part_end(BLOCK_SIZE, middle, n);
-    list_opening(
-        &bytes[..middle],
-        &bytes[middle..end],
-        out,
-        figures,
-        accounts,
-        balances,
-    )
+    list_opening(&bytes[..middle], &bytes[middle..end], out, state)
 }

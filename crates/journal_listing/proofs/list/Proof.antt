@@ -1,14 +1,14 @@
 -- `journal_listing::list` meets its contract. Assumes nothing.
 use Prim.Native.Nat.{ℕ}
-use mathlib.Core.Path.{_∙_, _≡_, refl, sym}
-use lib.Dec.{lit≤}
-use lib.ListN.{length, length-replicate, take}
-use lib.Seq.{length-take-le}
-use borrow.Author.Needs.{needs}
-use borrow.Author.Tests.{not-false, not-true}
 use Rattle.journal_listing.proofs.Begun.{Begun, listed-all, listed-alone}
 use Rattle.journal_listing.proofs.Started.{fits-as, long-as, room-in, room-kept, started}
 use Rattle.rules.proofs.Lists.{never-both-tests}
+use borrow.Author.Needs.{needs}
+use borrow.Author.Tests.{not-false, not-true}
+use lib.Dec.{lit≤}
+use lib.ListN.{length, length-replicate, take}
+use lib.Seq.{length-take-le}
+use mathlib.Core.Path.{_∙_, _≡_, refl, sym}
 use Rattle.journal_listing.proofs.list.Statement.{statement}
 use Rattle.journal_listing.proofs.list.Tie as tie
 
@@ -16,7 +16,7 @@ slice-aggregate-read-full : tie.Need-slice-aggregate-read-full
 slice-aggregate-read-full c = sym (length-replicate {A = ℕ} 1024 0)
 
 read-full-requires : tie.Need-read-full-requires
-read-full-requires c κs = tt
+read-full-requires c κs = search needs
 
 array-share-prefix-opening : tie.Need-array-share-prefix-opening
 array-share-prefix-opening c = search needs
@@ -27,31 +27,19 @@ slice-aggregate-list-start c = search needs
 slice-aggregate-list-start-2 : tie.Need-slice-aggregate-list-start-2
 slice-aggregate-list-start-2 c = sym (length-replicate {A = ℕ} 114688 0)
 
-slice-aggregate-list-start-3 : tie.Need-slice-aggregate-list-start-3
-slice-aggregate-list-start-3 c = sym (length-replicate {A = ℕ} 3 0)
-
-slice-aggregate-list-start-4 : tie.Need-slice-aggregate-list-start-4
-slice-aggregate-list-start-4 c = sym (length-replicate {A = ℕ} 2 0)
-
-slice-aggregate-list-start-5 : tie.Need-slice-aggregate-list-start-5
-slice-aggregate-list-start-5 c = sym (length-replicate {A = ℕ} 112 0)
-
 list-start-requires : tie.Need-list-start-requires
-list-start-requires c κs =
-    (room-in 114688 256 (lit≤ tt), refl, refl, refl)
+list-start-requires c κs = (room-in 114688 256 (lit≤ tt), refl)
 
 -- the room for a chunk's lines is as long as before
 room-at : (c : tie.After-list-start) → length (c .list-start .last .1 .0) ≡ 114688
 room-at c = long-as 114688 (c .list-start .last .1 .0) (c .list-start .kept .1 .0)
 
 -- what the listing of the opening leaves
-begun-at : (c : tie.After-list-start) → Begun (c .before .before .before .before .before .before .before .read-full .result)
-    (take (c .before .before .before .before .before .before .before .read-full .result) (c .before .before .before .before .before .before
-    .before .read-full .last .1 .0))
-    (c .list-start .last .1 .0) (c .list-start .result) (c .list-start .last .1 .1 .0) (c .list-start .last .1 .1 .1 .0) (c .list-start
-    .last .1 .1 .1 .1 .0)
+begun-at : (c : tie.After-list-start) → Begun (c .before .before .before .before .before .read-full .result) (take (c .before .before
+    .before .before .before .read-full .result) (c .before .before .before .before .before .read-full .last .1 .0))
+    (c .list-start .last .1 .0) (c .list-start .result) (c .list-start .last .1 .1 .0)
 begun-at c =
-    let f = c .before .before .before .before .before .before .before .read-full in
+    let f = c .before .before .before .before .before .read-full in
     let r = c .list-start in
     record {
       long = sym (f .ensures .1);
@@ -63,60 +51,45 @@ begun-at c =
     }
 
 array-share-prefix-out : tie.Need-array-share-prefix-out
-array-share-prefix-out c = begun-at (c .before .before .before .before) .fits
+array-share-prefix-out c = begun-at (c .before) .fits
 
 slice-aggregate-write-all : tie.Need-slice-aggregate-write-all
-slice-aggregate-write-all c = sym (length-take-le _ _ (begun-at (c .before .before .before .before .before) .fits))
+slice-aggregate-write-all c = sym (length-take-le _ _ (begun-at (c .before .before) .fits))
 
 write-all-requires : tie.Need-write-all-requires
-write-all-requires c κs = tt
+write-all-requires c κs = search needs
 
 opening-alone-requires : tie.Need-opening-alone-requires
-opening-alone-requires c κs = tt
+opening-alone-requires c κs = search needs
 
 returns : tie.Need-returns
 returns c =
-    let o = c .before .before .before .before .before .before .before .before in
-    listed-alone (begun-at o) (c .before .before .write-all .result) (c .before .opening-alone .ensures)
+    listed-alone (begun-at (c .before .before .before .before .before)) (c .before .before .write-all .result) (c .before
+    .opening-alone .ensures)
     (λ w g. never-both-tests (sym w ∙ not-true _ (c .if1 .taken)))
 
 returns-2 : tie.Need-returns-2
 returns-2 c =
-    let o = c .before .before .before .before .before .before .before .before .before in
-    listed-alone (begun-at o) (c .before .before .before .write-all .result) (c .before .before .opening-alone .ensures)
+    listed-alone (begun-at (c .before .before .before .before .before .before)) (c .before .before .before .write-all .result) (c
+    .before .before .opening-alone .ensures)
     (λ w g. never-both-tests (sym g ∙ not-true _ (c .if2 .taken)))
 
 slice-aggregate-list-opened : tie.Need-slice-aggregate-list-opened
-slice-aggregate-list-opened c = sym (room-at (c .before .before .before .before .before .before .before .before .before .before))
-
-slice-aggregate-list-opened-2 : tie.Need-slice-aggregate-list-opened-2
-slice-aggregate-list-opened-2 c =
-    let o = c .before .before .before .before .before .before .before .before .before .before .before in
-    sym (o .list-start .kept .1 .1 .0 ∙ length-replicate {A = ℕ} 3 0)
-
-slice-aggregate-list-opened-3 : tie.Need-slice-aggregate-list-opened-3
-slice-aggregate-list-opened-3 c =
-    let o = c .before .before .before .before .before .before .before .before .before .before .before .before in
-    sym (o .list-start .kept .1 .1 .1 .0 ∙ length-replicate {A = ℕ} 2 0)
-
-slice-aggregate-list-opened-4 : tie.Need-slice-aggregate-list-opened-4
-slice-aggregate-list-opened-4 c =
-    let o = c .before .before .before .before .before .before .before .before .before .before .before .before .before in
-    sym (o .list-start .kept .1 .1 .1 .1 .0 ∙ length-replicate {A = ℕ} 112 0)
+slice-aggregate-list-opened c = sym (room-at (c .before .before .before .before .before .before .before))
 
 list-opened-requires : tie.Need-list-opened-requires
-list-opened-requires c κs =
-    let c4 = c .before .before .before .before in
-    let o = c4 .before .before .before .before .before .before .before .before .before in
-    (room-at o, started _ _ _ _ _ _ (begun-at o .opens (not-false _ (c4 .if2 .left))))
+list-opened-requires c κs = (
+  room-at (c .before .before .before .before .before .before .before .before),
+  started _ _ _ _ (begun-at (c
+      .before .before .before .before .before .before .before .before) .opens (not-false _ (c .before .before .if2 .left))),
+)
 
 returns-3 : tie.Need-returns-3
 returns-3 c =
-    let c3 = c .before .before .before in
-    let c8 = c3 .before .before .before .before .before in
-    let o = c8 .before .before .before .before .before .before .before .before .before in
-    listed-all (begun-at o) (c8 .before .before .before .write-all .result) (not-false _ (c8 .before .if1 .left))
-    (not-false _ (c8 .if2 .left)) (c3 .list-opened .ensures)
+    listed-all (begun-at (c .before .before .before .before .before .before .before .before .before .before)) (c .before .before
+    .before .before .before .before .before .write-all .result) (not-false _ (c .before .before .before .before .before .if1 .left))
+    (not-false _ (c .before .before .before .before .if2 .left))
+    (c .before .list-opened .ensures)
 
 pub list-spec : {M : Type 1} → statement M
 list-spec =
@@ -127,9 +100,6 @@ list-spec =
     array-share-prefix-opening
     slice-aggregate-list-start
     slice-aggregate-list-start-2
-    slice-aggregate-list-start-3
-    slice-aggregate-list-start-4
-    slice-aggregate-list-start-5
     list-start-requires
     array-share-prefix-out
     slice-aggregate-write-all
@@ -138,8 +108,5 @@ list-spec =
     returns
     returns-2
     slice-aggregate-list-opened
-    slice-aggregate-list-opened-2
-    slice-aggregate-list-opened-3
-    slice-aggregate-list-opened-4
     list-opened-requires
     returns-3)

@@ -1,18 +1,18 @@
 -- `journal_listing::no_turn` meets its contract. Assumes nothing.
-use mathlib.Core.Bool.{true}
-use mathlib.Core.Path.{ap}
-use borrow.Author.Needs.{needs}
 use Rattle.block_listing.specs.declared.Run.{Run}
 use Rattle.journal_listing.specs.declared.TurnResult.{TurnResult}
+use borrow.Author.Needs.{needs}
+use mathlib.Core.Bool.{true}
+use mathlib.Core.Path.{ap}
 use Rattle.journal_listing.proofs.no_turn.Statement.{statement}
 use Rattle.journal_listing.proofs.no_turn.Tie as tie
+
+first-run-requires : tie.Need-first-run-requires
+first-run-requires c κs = search needs
 
 -- the turn before the first, with any run
 abbrev with-run : Run → TurnResult
 with-run run = record { run = run; read = 0; text = 0; written = true }
-
-first-run-requires : tie.Need-first-run-requires
-first-run-requires c κs = search needs
 
 returns : tie.Need-returns
 returns c = ap with-run (c .first-run .ensures)

@@ -1,8 +1,8 @@
 -- `journal_listing::opening_alone` meets its contract. Assumes nothing.
-use mathlib.Core.Path.{ap}
-use borrow.Author.Needs.{needs}
 use Rattle.journal_listing.specs.declared.ListResult.{ListResult}
 use Rattle.journal_listing.specs.declared.TurnResult.{TurnResult}
+use borrow.Author.Needs.{needs}
+use mathlib.Core.Path.{ap}
 use Rattle.journal_listing.proofs.opening_alone.Statement.{statement}
 use Rattle.journal_listing.proofs.opening_alone.Tie as tie
 

@@ -1,11 +1,11 @@
 -- `opening_listing::list_start` meets its contract. Assumes nothing.
 use Prim.Native.Nat.{_≤_, _-_}
-use mathlib.Core.Path.{_≡_, sym}
-use native.Mathlib.Omega.{arith}
+use Rattle.opening_listing.proofs.Halves.{first-half, part-within, second-half}
+use borrow.Author.Needs.{needs}
 use lib.ListN.{drop, length, take}
 use lib.Seq.{length-take-le}
-use borrow.Author.Needs.{needs}
-use Rattle.opening_listing.proofs.Halves.{first-half, part-within, second-half}
+use mathlib.Core.Path.{_≡_, sym}
+use native.Mathlib.Omega.{arith}
 use Rattle.opening_listing.proofs.list_start.Statement.{statement}
 use Rattle.opening_listing.proofs.list_start.Tie as tie
 
@@ -13,17 +13,16 @@ part-end-requires : tie.Need-part-end-requires
 part-end-requires c κs = search needs
 
 -- block 0 ends within the bytes
-middle-at : (c : tie.After-part-end) → c .part-end .result ≤ length (c .before .before .before .before .before .before .args .bytes .now)
-middle-at c =
-    let b = c .before .before .before .before .before .before .args .bytes .now in
-    rw (c .part-end .ensures) (part-within 512 0 (length b) (omega arith) .1)
+middle-at : (c : tie.After-part-end) → c .part-end .result ≤ length (c .before .before .before .args .bytes .now)
+middle-at c = rw (c .part-end .ensures) (part-within 512 0 (length (c .before .before .before .args .bytes .now)) (omega arith) .1)
 
 part-end-requires-2 : tie.Need-part-end-requires-2
 part-end-requires-2 c κs = middle-at c
 
 -- block 1 ends after it and within the bytes
-end-at : (c : tie.After-part-end2) → (c .before .part-end .result ≤ c .part-end2 .result)
-    × (c .part-end2 .result ≤ length (c .before .before .before .before .before .before .before .args .bytes .now))
+end-at : (c : tie.After-part-end2)
+    → (c .before .part-end .result ≤ c .part-end2 .result) × (c .part-end2 .result ≤ length (c .before .before .before .before .args
+    .bytes .now))
 end-at c = rw (c .part-end2 .ensures) (part-within 512 _ _ (middle-at (c .before)))
 
 slice-aggregate-list-opening : tie.Need-slice-aggregate-list-opening
@@ -44,25 +43,15 @@ list-opening-requires c κs = search needs
 same-length : tie.Need-same-length
 same-length c = search needs
 
-same-length-2 : tie.Need-same-length-2
-same-length-2 c = search needs
-
-same-length-3 : tie.Need-same-length-3
-same-length-3 c = search needs
-
-same-length-4 : tie.Need-same-length-4
-same-length-4 c = search needs
-
 returns : tie.Need-returns
 returns c =
-    let o = c .before .before .before .before .before .before .before .before in
-    let e = o .before .before .before .before .before .before .before in
-    let m = e .before in
-    let b = m .before .before .before .before .before .before .args .bytes .now in
+    let m = c .before .before .before .before .before .before .before .before in
+    let b = c .before .before .before .before .before .before .before .before .before .before .before .args .bytes .now in
     let p : take (m .part-end .result) b ≡ take 512 b = first-half b _ (m .part-end .ensures) in
-    let q : take (e .part-end2 .result - m .part-end .result) (drop (m .part-end .result) b) ≡ take 512 (drop 512 b) =
-    second-half b _ _ (m .part-end .ensures) (e .part-end2 .ensures) in
-    rw (p, q) at (o .list-opening .ensures)
+    let q : take (c .before .before .before .before .before .before .before .part-end2 .result - m .part-end .result) (drop (m
+    .part-end .result) b) ≡ take 512 (drop 512 b) =
+    second-half b _ _ (m .part-end .ensures) (c .before .before .before .before .before .before .before .part-end2 .ensures) in
+    rw (p, q) at (c .before .before .list-opening .ensures)
 
 pub list-start-spec : {M : Type 1} → statement M
 list-start-spec =
@@ -76,7 +65,4 @@ list-start-spec =
     part-list-opening-end
     list-opening-requires
     same-length
-    same-length-2
-    same-length-3
-    same-length-4
     returns)

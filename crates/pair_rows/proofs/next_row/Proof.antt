@@ -1,0 +1,99 @@
+-- `pair_rows::next_row` meets its contract. Assumes nothing.
+use Rattle.entries.specs.Entries.{givenBy, takenBy}
+use Rattle.ledgers.specs.Ledgers.{ledgerOf}
+use Rattle.pair_core.specs.Layout.{pairWordsChecker, supplyOf}
+use Rattle.pair_rows.proofs.Rows.{RowMoves, read-or-refused, row-passed, row-refused, row-tells, rowAfter}
+use borrow.Author.Needs.{needs}
+use mathlib.Core.Path.{_∙_, _≡_, sym}
+use Rattle.pair_rows.proofs.next_row.Statement.{statement}
+use Rattle.pair_rows.proofs.next_row.Tie as tie
+
+element-copy-out-supply : tie.Need-element-copy-out-supply
+element-copy-out-supply c = search needs
+
+step-requires : tie.Need-step-requires
+step-requires c κs = search needs
+
+returns : tie.Need-returns
+returns c =
+    let o = c .before .before .before .before .before .before in
+    let e = c .before .step .ensures in
+    row-tells (o .args .state .now) (o .args .bytes .now)
+    (row-refused (o .args .state .now) (o .args .index .now) (o .args .bytes .now) (o .args .last) (o .pre) _ (e .0) (c .if1 .taken))
+    (e .1 .0) (e .1 .1)
+
+read-requires : tie.Need-read-requires
+read-requires c κs = search needs
+
+enum-known-r : tie.Need-enum-known-r
+enum-known-r c = search needs
+
+enum-told : tie.Need-enum-told
+enum-told c = search needs
+
+-- the record passes
+passes-at : (c : tie.Else1) → 0 ≡ pairWordsChecker .judge (c .before .before .before .before .before .before .args .state .now) (c
+    .before .before .before .before .before .before .args .bytes .now)
+passes-at c = sym (c .if1 .left) ∙ c .before .step .ensures .0
+
+returns-2 : tie.Need-returns-2
+returns-2 c =
+    let o = c .before .before .before .before .before .before .before .before .before in
+    read-or-refused (o .args .state .now) (o .args .index .now) (o .args .bytes .now) (o .args .last) (o .pre)
+    (sym (c .before .before .read .ensures) ∙ c .enum-told .given .1) (passes-at (c .before .before .before))
+
+ledger-requires : tie.Need-ledger-requires
+ledger-requires c κs = search needs
+
+taken-by-requires : tie.Need-taken-by-requires
+taken-by-requires c κs = search needs
+
+given-by-requires : tie.Need-given-by-requires
+given-by-requires c κs = search needs
+
+-- the next row by what it takes and gives
+moves-at : (c : tie.After-known-told) → RowMoves (supplyOf (c .before .before .before .before .before .before .before .before .before
+    .before .args .state .now)) (c .before .before .before .before .before .before .before .before .before .before .args .last)
+    (ledgerOf (c .before .r .given .0 .0 .kind)) (takenBy (c .before .r .given .0 .0 .kind) (c .before .r .given .0 .0 .amount))
+    (givenBy (c .before .r .given .0 .0 .kind) (c .before .r .given .0 .0 .amount)) (rowAfter (c .before .before .before .before
+    .before .before .before .before .before .before .args .state .now) (c .before .before .before .before .before .before .before
+    .before .before .before .args .bytes .now))
+moves-at c =
+    let o = c .before .before .before .before .before .before .before .before .before .before in
+    row-passed (o .args .state .now) (o .args .index .now) (o .args .bytes .now) (o .args .last) (o .pre) (c .before .r .given .0 .0)
+    (sym (c .before .before .before .read .ensures) ∙ c .before .r .given .1) (passes-at (c .before .before .before .before))
+
+moved-row-requires : tie.Need-moved-row-requires
+moved-row-requires c κs =
+    let m = moves-at (c .before .before .before) in
+    rw (c .given-by .ensures, c .before .taken-by .ensures, c .before .before .ledger .ensures) (m .pays, m .fits)
+
+returns-3 : tie.Need-returns-3
+returns-3 c =
+    let o = c .before .before .before .before .before .before .before .before .before .before .before .before .before .before in
+    let e = c .before .before .before .before .before .before .before .before .before .step .ensures in
+    row-tells (o .args .state .now) (o .args .bytes .now)
+    (c .moved-row .ensures ∙ rw (
+      c .before .given-by .ensures,
+      c .before .before .taken-by .ensures,
+      c .before .before .before .ledger
+          .ensures,
+    ) (moves-at (c .before .before .before .before) .moves))
+    (e .1 .0) (e .1 .1)
+
+pub next-row-spec : {M : Type 1} → statement M
+next-row-spec =
+    tie.close
+    (tie.spec
+    element-copy-out-supply
+    step-requires
+    returns
+    read-requires
+    enum-known-r
+    enum-told
+    returns-2
+    ledger-requires
+    taken-by-requires
+    given-by-requires
+    moved-row-requires
+    returns-3)

@@ -1,0 +1,3 @@
+-- The rows of a run of the pair validator. Assumes nothing.
+
+pub mod Rows

@@ -1,3 +1,0 @@
--- The pair validator's step on lent columns. Assumes nothing.
-
-pub mod Steps
