@@ -36,13 +36,13 @@ use Rattle.records.specs.declared.Record.{Record}
 
 -- ## Versions
 
--- 0.2.0: major times 10,000, minor times 100 and patch
+-- 0.3.0: major times 10,000, minor times 100 and patch
 abbrev pub libraryVersion : ℕ
-libraryVersion = 200
+libraryVersion = 300
 
 -- the layout of both states
 abbrev pub stateVersion : ℕ
-stateVersion = 1
+stateVersion = 2
 
 -- ## Answers
 

@@ -6,17 +6,17 @@ ghost use mathlib.Core.Path.{_≡_};
 ghost use lib.ListN.{drop, length, take};
 ghost use Rattle.answers.specs.Answers.{answer, unlessRefused};
 ghost use Rattle.home_figures.specs.Figures.{homeFiguresOf, homeBalanceOf, homePlacesOf};
-ghost use Rattle.home_tables.specs.Tables.{acceptsHome};
-ghost use Rattle.home_validator.specs.State.{homeTablesOf, homeChecker, homeOpenedState, homeZeroState};
+ghost use Rattle.home_core.specs.Layout.{acceptsHome, homeWordsChecker};
+ghost use Rattle.home_validator.specs.State.{homeChecker, homeOpenedState, homeZeroState};
 ghost use Rattle.block_checks.specs.Checked.{blockRefusal};
 ghost use Rattle.journal_reader.specs.Judged.{recordRefusal, partOf, countOf, openingOf};
 ghost use Rattle.journal_writer.specs.Written.{writeRefusal, written};
 ghost use Rattle.moatbetony.specs.Told.{libraryVersion, stateVersion, told, pairTold, pairFiguresTold, homeTold};
 ghost use Rattle.moatbetony.specs.Told.{homeFiguresTold, balanceTold, recordTold, encodedTold, partTold};
 ghost use Rattle.moatbetony.specs.Told.{countTold, balancesTold, pairPlacesTold, homePlacesTold};
-ghost use Rattle.pair_figures.specs.Figures.{figuresOf, balanceOf, placesOf};
-ghost use Rattle.pair_tables.specs.Tables.{accepts};
-ghost use Rattle.pair_validator.specs.State.{tablesOf, pairChecker, openedState, zeroState};
+ghost use Rattle.pair_core.specs.Layout.{acceptsPair, pairWordsChecker};
+ghost use Rattle.pair_figures.specs.Figures.{pairBalanceOf, pairFiguresOf, pairPlacesOf};
+ghost use Rattle.pair_validator.specs.State.{pairChecker, pairOpenedState, pairZeroState};
 ghost use Rattle.record_fields.specs.Fields.{fieldBytes};
 ghost use Rattle.records.specs.Records.{reading};
 ghost use Rattle.records.specs.declared.Reading.the-variants.{Read};
@@ -40,7 +40,7 @@ use records::verdict_byte;
 pub extern "C" fn moatbetony_version() -> u32
     ensures { λ r. ⌜ r ≡ libraryVersion ⌝ }
 {
-    200
+    300
 }
 
 // The version of the layout of both states. A stored state is taken up only under the version that it was stored with.
@@ -48,7 +48,7 @@ pub extern "C" fn moatbetony_version() -> u32
 pub extern "C" fn moatbetony_state_version() -> u32
     ensures { λ r. ⌜ r ≡ stateVersion ⌝ }
 {
-    1 // of the states
+    2 // of the states
 }
 
 // ## Answers
@@ -120,8 +120,8 @@ pub extern "C" fn moatbetony_pair_open<'a>(
 ) -> PairTold
     ensures { λ r. ⌜ r ≡ pairTold (answer (pairOpeningRefusal (now («home_balances» .entry)) (now («far_balances» .entry))) 0)
         (unlessRefused (pairOpeningRefusal (now («home_balances» .entry)) (now («far_balances» .entry)))
-        (openedState (now («home_balances» .entry)) (now («far_balances» .entry)))
-        zeroState) ⌝ }
+        (pairOpenedState (now («home_balances» .entry)) (now («far_balances» .entry)))
+        pairZeroState) ⌝ }
 {
     let o = PairValidator::open(home_balances, far_balances);
     let a = o.answer;
@@ -134,38 +134,55 @@ pub extern "C" fn moatbetony_pair_open<'a>(
 
 // A call with one record.
 #[no_mangle]
-pub extern "C" fn moatbetony_pair_check_record(state: PairValidator, bytes: &[u8]) -> PairTold
+pub extern "C" fn moatbetony_pair_check_record(mut state: PairValidator, bytes: &[u8]) -> PairTold
     ensures { λ r. ⌜ r ≡ pairTold (call pairChecker state (one (now (bytes .entry))) .answer)
         (call pairChecker state (one (now (bytes .entry))) .state) ⌝ }
 {
-    let o = state.check_record(bytes);
-    let record_answer = o.answer;
-    let pair_next = o.state;
+    let answer = pair_core::take(&mut state.words, bytes);
     PairTold {
-        answer: tell(record_answer),
-        state: pair_next,
+        answer: tell(answer),
+        state, // after the record of the pair validator
     }
 }
 
 // A call with a list.
 #[no_mangle]
-pub extern "C" fn moatbetony_pair_check_list(state: PairValidator, bytes: &[u8]) -> PairTold
+pub extern "C" fn moatbetony_pair_check_list(mut state: PairValidator, bytes: &[u8]) -> PairTold
     ensures { λ r. ⌜ r ≡ pairTold (call pairChecker state (list (now (bytes .entry))) .answer)
         (call pairChecker state (list (now (bytes .entry))) .state) ⌝ }
 {
-    let o = state.check_list(bytes);
-    let list_answer = o.answer;
-    let pair_last = o.state;
+    let answer = pair_core::take_list(&mut state.words, bytes);
     PairTold {
-        answer: tell(list_answer),
-        state: pair_last,
+        answer: tell(answer),
+        state, // after the list of the pair validator
     }
+}
+
+// A call with one record, on a state lent. A refusal leaves every word as it was.
+#[no_mangle]
+pub extern "C" fn moatbetony_pair_take(state: &mut [u64; pair_core::WORDS], bytes: &[u8]) -> Told
+    ensures answers { λ r. ⌜ r ≡ told (call pairWordsChecker (now (state .entry)) (one (now (bytes .entry))) .answer) ⌝ }
+    ensures leaves { λ _. ⌜ now (state .exit) ≡ call pairWordsChecker (now (state .entry)) (one (now (bytes .entry))) .state ⌝ }
+{
+    tell(pair_core::take(state, bytes))
+}
+
+// A call with a list, on a state lent. A refusal leaves every word as it was.
+#[no_mangle]
+pub extern "C" fn moatbetony_pair_take_list(
+    state: &mut [u64; pair_core::WORDS],
+    bytes: &[u8],
+) -> Told
+    ensures answers { λ r. ⌜ r ≡ told (call pairWordsChecker (now (state .entry)) (list (now (bytes .entry))) .answer) ⌝ }
+    ensures leaves { λ _. ⌜ now (state .exit) ≡ call pairWordsChecker (now (state .entry)) (list (now (bytes .entry))) .state ⌝ }
+{
+    tell(pair_core::take_list(state, bytes))
 }
 
 // The figures of a state.
 #[no_mangle]
 pub extern "C" fn moatbetony_pair_figures(state: PairValidator) -> PairFiguresTold
-    ensures { λ r. ⌜ r ≡ pairFiguresTold (figuresOf (accepts (tablesOf state)) (tablesOf state)) ⌝ }
+    ensures { λ r. ⌜ r ≡ pairFiguresTold (pairFiguresOf (acceptsPair (state .words)) (state .words)) ⌝ }
 {
     let f = pair_figures::figures(state);
     let a = f.answer;
@@ -184,7 +201,7 @@ pub extern "C" fn moatbetony_pair_balance(
     ledger: u8,
     account: u16,
 ) -> BalanceTold
-    ensures { λ r. ⌜ r ≡ balanceTold (balanceOf (accepts (tablesOf state)) (tablesOf state) ledger account) ⌝ }
+    ensures { λ r. ⌜ r ≡ balanceTold (pairBalanceOf (acceptsPair (state .words)) (state .words) ledger account) ⌝ }
 {
     let b = pair_figures::balance(state, ledger, account);
     let a = b.answer;
@@ -197,7 +214,7 @@ pub extern "C" fn moatbetony_pair_balance(
 // The places left on both ledgers.
 #[no_mangle]
 pub extern "C" fn moatbetony_pair_places_left(state: PairValidator) -> PairPlacesTold
-    ensures { λ r. ⌜ r ≡ pairPlacesTold (placesOf (accepts (tablesOf state)) (tablesOf state)) ⌝ }
+    ensures { λ r. ⌜ r ≡ pairPlacesTold (pairPlacesOf (acceptsPair (state .words)) (state .words)) ⌝ }
 {
     let both = pair_figures::places_left(state);
     let a = both.answer;
@@ -254,38 +271,55 @@ pub extern "C" fn moatbetony_home_open(
 
 // A call with one record.
 #[no_mangle]
-pub extern "C" fn moatbetony_home_check_record(state: HomeValidator, bytes: &[u8]) -> HomeTold
+pub extern "C" fn moatbetony_home_check_record(mut state: HomeValidator, bytes: &[u8]) -> HomeTold
     ensures { λ r. ⌜ r ≡ homeTold (call homeChecker state (one (now (bytes .entry))) .answer)
         (call homeChecker state (one (now (bytes .entry))) .state) ⌝ }
 {
-    let o = state.check_record(bytes);
-    let home_record_answer = o.answer;
-    let home_next = o.state;
+    let answer = home_core::take(&mut state.words, bytes);
     HomeTold {
-        answer: tell(home_record_answer),
-        state: home_next,
+        answer: tell(answer),
+        state, // after the record of the home validator
     }
 }
 
 // A call with a list.
 #[no_mangle]
-pub extern "C" fn moatbetony_home_check_list(state: HomeValidator, bytes: &[u8]) -> HomeTold
+pub extern "C" fn moatbetony_home_check_list(mut state: HomeValidator, bytes: &[u8]) -> HomeTold
     ensures { λ r. ⌜ r ≡ homeTold (call homeChecker state (list (now (bytes .entry))) .answer)
         (call homeChecker state (list (now (bytes .entry))) .state) ⌝ }
 {
-    let o = state.check_list(bytes);
-    let home_list_answer = o.answer;
-    let home_last = o.state;
+    let answer = home_core::take_list(&mut state.words, bytes);
     HomeTold {
-        answer: tell(home_list_answer),
-        state: home_last,
+        answer: tell(answer),
+        state, // after the list of the home validator
     }
+}
+
+// A call with one record, on a state lent. A refusal leaves every word as it was.
+#[no_mangle]
+pub extern "C" fn moatbetony_home_take(state: &mut [u64; home_core::WORDS], bytes: &[u8]) -> Told
+    ensures answers { λ r. ⌜ r ≡ told (call homeWordsChecker (now (state .entry)) (one (now (bytes .entry))) .answer) ⌝ }
+    ensures leaves { λ _. ⌜ now (state .exit) ≡ call homeWordsChecker (now (state .entry)) (one (now (bytes .entry))) .state ⌝ }
+{
+    tell(home_core::take(state, bytes))
+}
+
+// A call with a list, on a state lent. A refusal leaves every word as it was.
+#[no_mangle]
+pub extern "C" fn moatbetony_home_take_list(
+    state: &mut [u64; home_core::WORDS],
+    bytes: &[u8],
+) -> Told
+    ensures answers { λ r. ⌜ r ≡ told (call homeWordsChecker (now (state .entry)) (list (now (bytes .entry))) .answer) ⌝ }
+    ensures leaves { λ _. ⌜ now (state .exit) ≡ call homeWordsChecker (now (state .entry)) (list (now (bytes .entry))) .state ⌝ }
+{
+    tell(home_core::take_list(state, bytes))
 }
 
 // The figures of a state.
 #[no_mangle]
 pub extern "C" fn moatbetony_home_figures(state: HomeValidator) -> HomeFiguresTold
-    ensures { λ r. ⌜ r ≡ homeFiguresTold (homeFiguresOf (acceptsHome (homeTablesOf state)) (homeTablesOf state)) ⌝ }
+    ensures { λ r. ⌜ r ≡ homeFiguresTold (homeFiguresOf (acceptsHome (state .words)) (state .words)) ⌝ }
 {
     let h = home_figures::figures(state);
     let a = h.answer;
@@ -299,7 +333,7 @@ pub extern "C" fn moatbetony_home_figures(state: HomeValidator) -> HomeFiguresTo
 // The balance of a home account.
 #[no_mangle]
 pub extern "C" fn moatbetony_home_balance(state: HomeValidator, account: u16) -> BalanceTold
-    ensures { λ r. ⌜ r ≡ balanceTold (homeBalanceOf (acceptsHome (homeTablesOf state)) (homeTablesOf state) account) ⌝ }
+    ensures { λ r. ⌜ r ≡ balanceTold (homeBalanceOf (acceptsHome (state .words)) (state .words) account) ⌝ }
 {
     let held = home_figures::balance(state, account);
     let a = held.answer;
@@ -312,7 +346,7 @@ pub extern "C" fn moatbetony_home_balance(state: HomeValidator, account: u16) ->
 // The places left on the home ledger.
 #[no_mangle]
 pub extern "C" fn moatbetony_home_places_left(state: HomeValidator) -> HomePlacesTold
-    ensures { λ r. ⌜ r ≡ homePlacesTold (homePlacesOf (acceptsHome (homeTablesOf state)) (homeTablesOf state)) ⌝ }
+    ensures { λ r. ⌜ r ≡ homePlacesTold (homePlacesOf (acceptsHome (state .words)) (state .words)) ⌝ }
 {
     let left = home_figures::places_left(state);
     let a = left.answer;
