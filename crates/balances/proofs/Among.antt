@@ -1,14 +1,14 @@
 -- The balance at a place of the balances is the one among the ledger's. Assumes nothing.
 use Prim.Native.Nat.{_+_, _<_, _≤_, ℕ}
 use mathlib.Core.List.{List}
-use mathlib.Core.Path.{_∙_, _≡_, sym}
+use mathlib.Core.Path.{_≡_}
 use native.Mathlib.Omega.{arith}
 use lib.Dec.{ltb}
 use lib.ListN.{drop, getD, length, length-drop, length-take, take}
 use lib.Seq.{getD-drop, getD-take}
 use borrow.Author.Tests.{le-ltb, lt-ltb}
 use Rattle.answers.specs.declared.Answer.the-variants.{Passed}
-use Rattle.balances.specs.Balances.{balanceAmong, balanceRefused, ifOpen}
+use Rattle.balances.specs.Balances.{balanceAmong, balanceRefused}
 use Rattle.balances.specs.declared.Balance.{Balance}
 
 module _ (xs : List ℕ) (from n a : ℕ) (fits : from + n ≤ length xs) where

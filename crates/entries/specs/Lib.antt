@@ -1,3 +1,3 @@
--- What judging a record finds and what a passed one writes. Assumes nothing.
+-- What a passed record takes and gives. Assumes nothing.
 
 pub mod Entries

@@ -1,14 +1,13 @@
-// What judging a record finds and what a passed one writes, and small functions on accounts and balances.
-ghost use Prim.Native.Nat.{_+_, _^_, _≤_};
+// What a record of a kind takes and gives, and small functions on accounts and balances.
+ghost use Prim.Native.Nat.{_+_, _≤_};
 ghost use mathlib.Core.Path.{_≡_};
 ghost use mathlib.Core.List.{_++_};
 ghost use lib.ListN.{length, take, drop};
-ghost use Rattle.entries.specs.Entries.{entryOf, givenBy, noRecord, takenBy};
+ghost use Rattle.entries.specs.Entries.{givenBy, takenBy};
 ghost use Rattle.rules.specs.PairValidator.{countAllowed};
 ghost use Rattle.rules.specs.Rules.{isReceiving};
 use ledgers::Kind;
 use ledgers::Ledger;
-use records::Record;
 
 // An account's number as an index.
 pub fn as_index(x: u16) -> usize
@@ -47,55 +46,6 @@ pub fn given_by(k: Kind, amount: u64) -> u64
         Kind::Local(_) => amount, // to its receiver
         Kind::Sending(_) => 0,
         Kind::Receiving(_) => amount,
-    }
-}
-
-// What was found of the bytes of a record: the refusal, or 0 and the record.
-pub struct Judgement {
-    pub refusal: u32,
-    pub read: Record,
-}
-
-// A refusal of bytes, whose record is not looked at.
-pub fn refused(refusal: u32) -> Judgement
-    ensures { λ j. ⌜ j ≡ noRecord refusal ⌝ }
-{
-    Judgement {
-        refusal,
-        read: Record {
-            kind: Kind::Local(Ledger::Home),
-            sender: 0,
-            receiver: 0,
-            number: 0,
-            amount: 0,
-            verified: false,
-        },
-    }
-}
-
-// What a passed record writes: its bytes for kind and ledger, the places of its accounts, and what it takes and gives there.
-pub struct Entry {
-    pub kind: u8,
-    pub ledger: u8,
-    pub from: usize,
-    pub to: usize,
-    pub taken: u64,
-    pub given: u64,
-}
-
-// What it writes on the ledger whose accounts stand from a place on.
-pub fn entry_of(r: Record, base: usize) -> Entry
-    requires { ⌜ base ≤ 2 ^ 32 ⌝ }
-    ensures { λ e. ⌜ e ≡ entryOf r base ⌝ }
-{
-    let kind = r.kind;
-    Entry {
-        kind: kind.byte(),
-        ledger: kind.ledger().byte(),
-        from: base + as_index(r.sender),
-        to: base + as_index(r.receiver),
-        taken: taken_by(kind, r.amount),
-        given: given_by(kind, r.amount),
     }
 }
 

@@ -24,7 +24,7 @@ unfolding wide
 same-wide v w a b = rw (a, b)
 
 -- limbs of zero are zero
-pub wide-zero : wide (record { high = 0; low = 0 }) ≡ 0
+wide-zero : wide (record { high = 0; low = 0 }) ≡ 0
 unfolding wide
 wide-zero = refl
 

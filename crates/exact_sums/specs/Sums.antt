@@ -1,10 +1,6 @@
 -- Sums that may pass 64 bits, in two limbs. Assumes nothing.
 use Prim.Native.Nat.{ℕ, _+_, _*_, _^_, _<_, _≤_}
-use mathlib.Core.Bool.{cond}
-use mathlib.Core.List.{List}
 use mathlib.Core.Path.{_≡_}
-use lib.Dec.{eqb}
-use lib.ListN.{getD}
 use Rattle.exact_sums.specs.declared.Wide.{Wide}
 
 -- the number that two limbs stand for
@@ -16,7 +12,3 @@ pub record Added (v : Wide) (x n : ℕ) (w : Wide) : Type 0 where
   pub value : wide w ≡ wide v + x
   pub low-fits : w .low < 2 ^ 63
   pub high-most : w .high ≤ v .high + n
-
--- the amount at place i where its kind is a given byte
-abbrev pub flowAt : ℕ → List ℕ → List ℕ → ℕ → ℕ
-flowAt kind kinds amounts i = cond (eqb (getD kinds i 0) kind) (getD amounts i 0) 0

@@ -2,12 +2,9 @@
 // `from` on.
 ghost use Prim.Native.Nat.{ℕ, _+_, _*_, _^_, _<_, _≤_};
 ghost use mathlib.Core.Path.{_≡_};
-ghost use mathlib.Core.Bool.{cond};
-ghost use lib.Dec.{eqb};
 ghost use lib.ListN.{length, getD};
-ghost use Rattle.exact_sums.specs.Sums.{Added, flowAt, wide};
+ghost use Rattle.exact_sums.specs.Sums.{Added, wide};
 ghost use Rattle.tables.specs.Places.{sumAt};
-use ledgers::Kind;
 use records::Record;
 
 // 2^32: the halves of a number are its quotient and its remainder by it.
@@ -69,60 +66,10 @@ impl Wide {
     }
 }
 
-// The amount, where the kind is the one that is wanted.
-fn counted(kind: u8, wanted: u8, amount: u64) -> u64
-    ensures { λ r. ⌜ r ≡ cond (eqb kind wanted) amount 0 ⌝ }
-{
-    if kind == wanted {
-        return amount;
-    }
-    0
-}
-
 // What was sent and what was received.
 pub struct Flows {
     pub sent: Wide,
     pub received: Wide,
-}
-
-// The amounts of sendings and of receivings added.
-pub fn add_flows<'a>(
-    kinds: &'a [u8],
-    amounts: &'a [u64],
-    from: usize,
-    n: usize,
-    sent: Wide,
-    received: Wide,
-) -> Flows
-    requires { ⌜ (from + n ≤ length (now kinds)) × (from + n ≤ length (now amounts)) × (sent .low < 2 ^ 63)
-        × (sent .high + 2 * n < 65535) × (received .low < 2 ^ 63) × (received .high + 2 * n < 65535) ⌝ }
-    ensures sent { λ w. ⌜ Added sent (sumAt (flowAt 2 (now (kinds .entry)) (now (amounts .entry))) from n) (2 * n) (w .sent) ⌝ }
-    ensures received { λ w. ⌜ Added received (sumAt (flowAt 3 (now (kinds .entry)) (now (amounts .entry))) from n) (2 * n)
-        (w .received) ⌝ }
-{
-    let mut sent_high: u64 = 0;
-    let mut sent_low: u64 = 0;
-    let mut received_high: u64 = 0;
-    let mut received_low: u64 = 0;
-    let end = from + n;
-    let mut i = from;
-    while i < end {
-        let kind = kinds[i];
-        let a = amounts[i];
-        let x = counted(kind, Kind::SENDING, a);
-        let y = counted(kind, Kind::RECEIVING, a);
-        sent_high += x / HALF;
-        sent_low += x % HALF;
-        received_high += y / HALF;
-        received_low += y % HALF;
-        i += 1;
-    }
-    let all_sent = sent.add_halves(sent_high, sent_low);
-    let all_received = received.add_halves(received_high, received_low);
-    Flows {
-        sent: all_sent,
-        received: all_received,
-    }
 }
 
 // The balances added.

@@ -1,6 +1,6 @@
 -- The records of a call's bytes: what a call with one record, and a loop over those of a list, cite. Assumes nothing.
 use Prim.Native.Nat.{_+_, _-_, _<_, _≤_, suc, zero, ℕ}
-use mathlib.Core.Bool.{Bool, cond, false, not, true}
+use mathlib.Core.Bool.{Bool, false, not, true}
 use mathlib.Core.List.{List, [], _∷_}
 use mathlib.Core.Path.{_∙_, _≡_, ap, refl, sym}
 use native.Mathlib.Numerals.{add-one}
@@ -13,7 +13,7 @@ use Rattle.answers.specs.Answers.{answer, refuse, unlessRefused}
 use Rattle.answers.specs.declared.Answer.the-variants.{Passed, Refused}
 use Rattle.inputs.specs.Inputs.{partEnd}
 use Rattle.rules.proofs.ListCalls.{cut-first, list-end, list-passed, list-refused}
-use Rattle.rules.specs.Calls.{Call, Checker, Result, call, callList, callOne, list, one, recordsIn}
+use Rattle.rules.specs.Calls.{Call, Checker, call, callList, callOne, list, one, recordsIn}
 use Rattle.rules.specs.Lists.{cut}
 
 -- ## A call with one record
@@ -34,22 +34,6 @@ call-one c s b = go (c .accepts s) refl
         ≡ record { answer = answer (refusalOfOne c s b) 0; state = unlessRefused (refusalOfOne c s b) (c .after s b) s }
     go true q = rw q
     go false q = rw q
-
--- a refusal
-pub one-refused : {S : Type 0} (c : Checker S) (s : S) (b : List ℕ) (n : ℕ) → refusalOfOne c s b ≡ n → (n ≡ 0 → ⊥)
-    → call c s (one b) ≡ record { answer = Refused n 0; state = s }
-one-refused c s b zero q z = absurd (z refl)
-one-refused c s b (suc n) q z = call-one c s b ∙ rw q
-
--- a pass
-pub one-passed : {S : Type 0} (c : Checker S) (s : S) (b : List ℕ) → refusalOfOne c s b ≡ 0
-    → call c s (one b) ≡ record { answer = Passed; state = c .after s b }
-one-passed c s b q = call-one c s b ∙ rw q
-
--- where there is no refusal the state is accepted and the record is judged to pass
-pub one-accepted : (t : Bool) (n : ℕ) → refuse (not t) 3 n ≡ 0 → (t ≡ true) × (n ≡ 0)
-one-accepted true n q = (refl, q)
-one-accepted false n q = absurd (omega (arith, q))
 
 -- ## Parts of bytes
 

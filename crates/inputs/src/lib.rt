@@ -1,5 +1,5 @@
 // Where the parts of bytes stand, as the records of a list and the blocks of a journal.
-ghost use Prim.Native.Nat.{_≤_, _<_};
+ghost use Prim.Native.Nat.{_≤_};
 ghost use mathlib.Core.Path.{_≡_};
 ghost use Rattle.inputs.specs.Inputs.{partEnd};
 

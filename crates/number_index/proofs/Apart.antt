@@ -1,18 +1,15 @@
 -- Laws of numbers that are apart, one more at a time. Assumes nothing.
-use Prim.Native.Nat.{_%_, _+_, _-_, _<_, _≤_, suc, zero, ℕ}
+use Prim.Native.Nat.{_%_, _+_, _<_, _≤_, suc, zero, ℕ}
 use mathlib.Core.Bool.{Bool, _||_, false, true}
-use mathlib.Core.List.{List}
 use mathlib.Core.Logic.{⊎-elim}
 use mathlib.Core.Path.{_∙_, _≡_, ap, refl, sym}
 use native.Mathlib.Nat.{eq-or-lt-of-le}
 use native.Mathlib.Omega.{arith}
 use lib.Dec.{eqb}
-use lib.ListN.{getD}
 use borrow.Author.Tests.{eq-eqb, eqb-true}
-use Rattle.number_index.specs.Index.{Chains, Indexed, chainCount, valueFrom}
+use Rattle.number_index.specs.Index.{Chains, chainCount}
 use Rattle.rules.proofs.Lists.{never-both-tests}
-use Rattle.tables.proofs.Places.{any-from, any-some, apart-all, apart-not}
-use Rattle.tables.specs.Columns.{usedAt}
+use Rattle.tables.proofs.Places.{any-some, apart-all, apart-not}
 use Rattle.tables.specs.Places.{anyAt, apartAt}
 
 -- no two of the first n values are the same
@@ -20,7 +17,7 @@ abbrev pub Apart : (ℕ → ℕ) → ℕ → Type 0
 Apart f n = (j k : ℕ) → j < k → k < n → f j ≡ f k → ⊥
 
 -- a test that holds at one of the places has a place where it holds
-pub any-found : {C : Type 0} (p : ℕ → Bool) (i n : ℕ)
+any-found : {C : Type 0} (p : ℕ → Bool) (i n : ℕ)
     → anyAt p i n ≡ true
     → ((j : ℕ) → i ≤ j → j < i + n → p j ≡ true → C)
     → C
@@ -34,7 +31,7 @@ any-found {C} p i (suc n) h k =
     by false s q g r = r g
 
 -- one that holds at none does not hold at any of them
-pub any-not : (p : ℕ → Bool) (i n j : ℕ) → anyAt p i n ≡ false → i ≤ j → j < i + n → p j ≡ true → ⊥
+any-not : (p : ℕ → Bool) (i n j : ℕ) → anyAt p i n ≡ false → i ≤ j → j < i + n → p j ≡ true → ⊥
 any-not p i n j h a b e = never-both-tests (sym (any-some p i n j a b e) ∙ h)
 
 -- one value more
@@ -67,28 +64,3 @@ module _ (f : ℕ → ℕ) (i : ℕ) where
       let r : f j % chainCount ≡ h = ap (λ (y : ℕ). y % chainCount) (sym e) ∙ sym q in
       let u : j + 1 ≤ heads h = rw r at (c .head-low j p) in
       omega (arith, u, z)
-
--- the same of numbers from a place on
-module _ (numbers : List ℕ) (from i : ℕ) where
-  -- the number at place i
-  abbrev x : ℕ
-  x = valueFrom numbers from i
-
-  -- those before it, counted from the place
-  before-it : anyAt (λ (j : ℕ). eqb x (valueFrom numbers from j)) 0 i ≡ anyAt (usedAt x numbers) from i
-  before-it =
-      let y : from + 0 ≡ from = omega arith in
-      rw y at (any-from (usedAt x numbers) from 0 i)
-
-  -- it is one of those before
-  pub used-twice : (n : ℕ) → i < n → anyAt (usedAt x numbers) from i ≡ true → apartAt (valueFrom numbers from) 0 n ≡ false
-  used-twice n b h = value-twice (valueFrom numbers from) i n b (before-it ∙ h)
-
-  -- it is none of those before
-  pub used-not : anyAt (usedAt x numbers) from i ≡ false → (j : ℕ) → j < i → x ≡ valueFrom numbers from j → ⊥
-  used-not h = value-fresh (valueFrom numbers from) i (before-it ∙ h)
-
-  -- nor where its chain is empty
-  pub used-no-chain : (heads nexts : List ℕ) (base h : ℕ) → Indexed numbers heads nexts base from i → h ≡ x % chainCount
-      → getD heads (base + h) 0 ≡ 0 → (j : ℕ) → j < i → x ≡ valueFrom numbers from j → ⊥
-  used-no-chain heads nexts base h = value-new (valueFrom numbers from) i (valueFrom heads base) (valueFrom nexts from) h

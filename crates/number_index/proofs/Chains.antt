@@ -12,7 +12,7 @@ use Rattle.number_index.specs.Index.{Chains, chainCount}
 -- ## Numbers that are the same or not
 
 -- two numbers are the same, or not
-pub same-or-not : (a b : ℕ) → (a ≡ b) ⊎ (a ≡ b → ⊥)
+same-or-not : (a b : ℕ) → (a ≡ b) ⊎ (a ≡ b → ⊥)
 same-or-not a b = by (eqb a b) refl
   where
     by : (t : Bool) → eqb a b ≡ t → (a ≡ b) ⊎ (a ≡ b → ⊥)

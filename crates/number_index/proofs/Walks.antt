@@ -1,20 +1,13 @@
 -- Laws of walks down the chain of a number, to a place where a test holds. Assumes nothing.
 use Prim.Native.Nat.{_%_, _+_, _-_, _<_, _≤_, ℕ}
 use mathlib.Core.Bool.{Bool, false, true}
-use mathlib.Core.List.{List}
 use mathlib.Core.Path.{_∙_, _≡_, ap, refl, sym}
 use native.Mathlib.Omega.{arith}
-use lib.ListN.{getD}
-use borrow.Author.Tests.{eqb-true}
 use Rattle.number_index.proofs.Chains.{less, low-bits-most}
-use Rattle.number_index.specs.Index.{Chains, Indexed, chainCount, valueFrom}
+use Rattle.number_index.specs.Index.{Chains, chainCount}
 use Rattle.rules.proofs.Lists.{never-both-tests}
-use Rattle.tables.proofs.Places.{any-from, any-none, any-some}
-use Rattle.tables.specs.Columns.{sendsAt, usedAt}
+use Rattle.tables.proofs.Places.{any-none, any-some}
 use Rattle.tables.specs.Places.{anyAt}
-use Rattle.wire.proofs.Lists.{every-first}
-
--- ## Over any values and chains
 
 -- a walk at place `at` less one: each of the n places where a test holds is still to come
 pub record WalkOver (f : ℕ → ℕ) (n : ℕ) (p : ℕ → Bool) (x at : ℕ) : Type 0 where
@@ -71,60 +64,3 @@ module _ (f heads nexts : ℕ → ℕ) (n : ℕ) (c : Chains f heads nexts n) (p
         none : (j : ℕ) → j < n → (t : Bool) → p j ≡ t → p j ≡ false
         none j a false q = q
         none j a true q = absurd (omega (arith, w .low j a q))
-
--- ## Over numbers beside their index
-
--- a walk for x among the n numbers from another on
-abbrev pub Walk : List ℕ → ℕ → ℕ → (ℕ → Bool) → ℕ → ℕ → Type 0
-Walk numbers from n p x at = WalkOver (valueFrom numbers from) n (λ (j : ℕ). p (from + j)) x at
-
--- the test holds only at places whose number is x
-module _ (numbers heads nexts : List ℕ) (base from n : ℕ) (c : Indexed numbers heads nexts base from n) (p : ℕ → Bool) (x : ℕ)
-    (only : (i : ℕ) → p i ≡ true → x ≡ getD numbers i 0) where
-  -- a walk starts at the head of the chain
-  pub walk-first : (at h : ℕ) → h ≡ x % chainCount → at ≡ getD heads (base + h) 0 → Walk numbers from n p x at
-  walk-first =
-      over-first (valueFrom numbers from) (valueFrom heads base) (valueFrom nexts from) n c (λ (j : ℕ). p (from + j)) x
-      (λ j t. only (from + j) t)
-
-  module _ (at : ℕ) (w : Walk numbers from n p x at) where
-    -- its place as the code has it
-    place : (i : ℕ) → 0 < at → i ≡ from + at - 1 → i ≡ from + (at - 1)
-    place i z q = omega arith
-
-    -- it goes on where the test does not hold
-    pub walk-next : (i to : ℕ) → 0 < at → i ≡ from + at - 1 → p i ≡ false → to ≡ getD nexts i 0 → Walk numbers from n p x to
-    walk-next i to z q out e =
-        let y = place i z q in
-        over-next (valueFrom numbers from) (valueFrom heads base) (valueFrom nexts from) n c (λ (j : ℕ). p (from + j)) x
-        (λ j t. only (from + j) t) at w to z (rw y at out) (rw y at e)
-
-    -- to a lower place
-    pub walk-lower : (i to : ℕ) → 0 < at → i ≡ from + at - 1 → to ≡ getD nexts i 0 → to < at
-    walk-lower i to z q e =
-        let y = place i z q in
-        over-lower (valueFrom numbers from) (valueFrom heads base) (valueFrom nexts from) n c (λ (j : ℕ). p (from + j)) x
-        (λ j t. only (from + j) t) at w to z (rw y at e)
-
-    -- it finds the place
-    pub walk-found : (i : ℕ) → 0 < at → i ≡ from + at - 1 → p i ≡ true → anyAt p from n ≡ true
-    walk-found i z q e = any-some p from n i (omega arith) (omega (arith, w .most)) e
-
-    -- at its end there is none
-    pub walk-end : at ≡ 0 → anyAt p from n ≡ false
-    walk-end z =
-        let y : from + 0 ≡ from = omega arith in
-        rw y at (sym (any-from p from 0 n) ∙ over-end (valueFrom numbers from) (valueFrom heads base) (valueFrom nexts from) n c
-        (λ (j : ℕ). p (from + j)) x (λ j t. only (from + j) t) at w z)
-
--- a place with a number has the number
-pub used-number : (x : ℕ) (numbers : List ℕ) (i : ℕ) → usedAt x numbers i ≡ true → x ≡ getD numbers i 0
-used-number x numbers i h = eqb-true x (getD numbers i 0) h
-
--- a place with the sending of a number has the number
-pub sends-number : (kinds senders receivers numbers amounts : List ℕ) (number sender receiver amount i : ℕ)
-    → sendsAt kinds senders receivers numbers amounts number sender receiver amount i ≡ true
-    → number ≡ getD numbers i 0
-unfolding sendsAt
-sends-number kinds senders receivers numbers amounts number sender receiver amount i h =
-    eqb-true number (getD numbers i 0) (every-first _ _ h .0)

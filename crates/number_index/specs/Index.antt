@@ -1,22 +1,14 @@
--- An index of a ledger's numbers, beside the columns: chains of places by the low bits of their numbers. Of each value of the low bits
+-- An index of a ledger's numbers, beside its table: chains of places by the low bits of their numbers. Of each value of the low bits
 -- it has the last place, and of each place the one before it with the same low bits. A place is kept as itself plus one; 0 ends a
 -- chain. Assumes nothing.
 use Prim.Native.Nat.{ℕ, _+_, _-_, _%_, _<_, _≤_}
 use mathlib.Core.Path.{_≡_}
-use mathlib.Core.Bool.{Bool, not, _||_}
 use mathlib.Core.List.{List}
-use lib.Dec.{eqb}
 use lib.ListN.{length, getD}
-use Rattle.tables.specs.Columns.{sendsAt}
-use Rattle.tables.specs.Places.{anyAt}
 
 -- the number of chains
 abbrev pub chainCount : ℕ
 chainCount = 4096
-
--- the value at a place counted from another one
-abbrev pub valueFrom : List ℕ → ℕ → ℕ → ℕ
-valueFrom numbers from j = getD numbers (from + j) 0
 
 -- heads and nexts are the chains of the first n places
 pub record Chains (f heads nexts : ℕ → ℕ) (n : ℕ) : Type 0 where
@@ -27,20 +19,8 @@ pub record Chains (f heads nexts : ℕ → ℕ) (n : ℕ) : Type 0 where
   pub next-most : (k : ℕ) → k < n → nexts k ≤ k
   pub next-is : (k : ℕ) → k < n → 0 < nexts k → f (nexts k - 1) % chainCount ≡ f k % chainCount
 
--- the index of the n numbers from a place on, with its heads from place `base` on
-abbrev pub Indexed : List ℕ → List ℕ → List ℕ → ℕ → ℕ → ℕ → Type 0
-Indexed numbers heads nexts base from n = Chains (valueFrom numbers from) (valueFrom heads base) (valueFrom nexts from) n
-
 -- ys are xs but for the places from a up to b
 pub record Kept (a b : ℕ) (xs ys : List ℕ) : Type 0 where
   pub long : length ys ≡ length xs
   pub before : (k : ℕ) → k < a → getD ys k 0 ≡ getD xs k 0
   pub after : (k : ℕ) → b ≤ k → getD ys k 0 ≡ getD xs k 0
-
--- place i has no receiving, or its sending is at one of the n places from another on
-abbrev pub backedAt : List ℕ → List ℕ → List ℕ → List ℕ → List ℕ → ℕ → ℕ → ℕ → Bool
-backedAt kinds senders receivers numbers amounts from n i =
-    not (eqb (getD kinds i 0) 3)
-    || anyAt
-    (sendsAt kinds senders receivers numbers amounts (getD numbers i 0) (getD senders i 0) (getD receivers i 0) (getD amounts i 0))
-    from n

@@ -1,5 +1,5 @@
 // Judging an opening: 1 and 2, or the supply.
-ghost use Prim.Native.Nat.{ℕ, _+_};
+ghost use Prim.Native.Nat.{_+_};
 ghost use mathlib.Core.Path.{_≡_};
 ghost use Rattle.rules.specs.HomeValidator.{homeOpeningRefusal};
 ghost use Rattle.rules.specs.Lists.{total};

@@ -1,17 +1,15 @@
--- A passed record in its table and in the balances: what changes, and what stays. Assumes nothing.
+-- A passed record in the balances: what changes, and what stays. Assumes nothing.
 use Prim.Native.Nat.{_+_, _-_, _<_, _≤_, suc, zero, ℕ}
 use mathlib.Core.Bool.{Bool, cond, false, true}
-use mathlib.Core.List.{List, [], _++_, _∷_}
+use mathlib.Core.List.{List, _∷_}
 use mathlib.Core.Logic.{_⊎_, ⊎-elim}
 use mathlib.Core.Path.{_∙_, _≡_, ap, refl, sym}
-use native.Mathlib.Nat.{eq-or-lt-of-le}
-use native.Mathlib.Numerals.{add-one}
 use native.Mathlib.Omega.{arith}
 use lib.Dec.{eqb, ltb}
 use lib.ListN.{List·getD-eq-default, drop, getD, length, length-set, length-take, set, take}
 use lib.Seq.{drop-cons, drop-set-add, getD-drop, getD-set-other, getD-set-same, getD-take, set-getD, take-set-lt}
-use borrow.Author.Tests.{eqb-false, eqb-true, le-leb, lt-ltb, ltb-false, ltb-true}
-use Rattle.ledgers.specs.Ledgers.{counterpart, kindAt, kindByte, ledgerAt, ledgerByte, ledgerOf}
+use borrow.Author.Tests.{eqb-false, eqb-true, ltb-false, ltb-true}
+use Rattle.ledgers.specs.Ledgers.{counterpart, ledgerByte}
 use Rattle.ledgers.specs.declared.Kind.{Kind}
 use Rattle.ledgers.specs.declared.Kind.the-variants.{Local, Receiving, Sending}
 use Rattle.ledgers.specs.declared.Ledger.{Ledger}
@@ -19,151 +17,18 @@ use Rattle.ledgers.specs.declared.Ledger.the-variants.{Far, Home}
 use Rattle.records.specs.declared.Record.{Record}
 use Rattle.rules.specs.Lists.{lowered, raised}
 use Rattle.rules.specs.Rules.{moved}
-use Rattle.tables.proofs.Places.{all-each, all-ext, all-of, list-ext, list-snoc}
-use Rattle.tables.specs.Columns.{Columns, balanceAt, formedRow, formedRows, movedAt, placed, row, rows, withRow}
+use Rattle.tables.proofs.Places.{all-ext, list-ext}
+use Rattle.tables.specs.Columns.{balanceAt, movedAt, placed, zerosAt}
 use Rattle.entries.specs.Entries.{givenBy, takenBy}
-use Rattle.tables.specs.Columns.{zerosAt}
 use Rattle.tables.specs.Places.{listAt}
-use Rattle.wire.proofs.Lists.{every-both, every-none}
 
--- ## The record's row
-
--- a kind, from its bytes
-kind-bytes : (k : Kind) → kindAt (kindByte k) (ledgerAt (ledgerByte (ledgerOf k))) ≡ k
-kind-bytes (Local Home) = refl
-kind-bytes (Local Far) = refl
-kind-bytes (Sending Home) = refl
-kind-bytes (Sending Far) = refl
-kind-bytes (Receiving Home) = refl
-kind-bytes (Receiving Far) = refl
-
--- a kind's byte is 1 to 3
-kind-some : (k : Kind) → (0 < kindByte k) × (kindByte k ≤ 3)
-kind-some (Local l) = (omega arith, omega arith)
-kind-some (Sending l) = (omega arith, omega arith)
-kind-some (Receiving l) = (omega arith, omega arith)
-
--- a ledger's byte is 0 or 1
-pub ledger-two : (l : Ledger) → ledgerByte l < 2
-ledger-two Home = omega arith
-ledger-two Far = omega arith
-
--- a ledger and the other one
+-- the bytes of a ledger and of the other one
 pub ledger-other : (l : Ledger) → ledgerByte l + ledgerByte (counterpart l) ≡ 1
 ledger-other Home = refl
 ledger-other Far = refl
 
--- place i is within each column
-pub record Within (t : Columns) (i : ℕ) : Type 0 where
-  pub kinds-has : i < length (t .kinds)
-  pub ledgers-has : i < length (t .ledgers)
-  pub senders-has : i < length (t .senders)
-  pub receivers-has : i < length (t .receivers)
-  pub numbers-has : i < length (t .numbers)
-  pub amounts-has : i < length (t .amounts)
-  pub verdicts-has : i < length (t .verdicts)
-
-module _ (t : Columns) (at : ℕ) (r : Record) where
-  -- another place has its record still
-  pub row-other : (i : ℕ) → (i ≡ at → ⊥) → row (withRow t at r) i ≡ row t i
-  unfolding withRow
-  row-other i h =
-      rw (
-        getD-set-other (t .kinds) at i (kindByte (r .kind)) 0 h,
-        getD-set-other (t .ledgers) at i (ledgerByte (ledgerOf (r .kind))) 0 h,
-        getD-set-other (t .senders) at i (r .sender) 0 h,
-        getD-set-other (t .receivers) at i (r .receiver) 0 h,
-        getD-set-other (t .numbers) at i (r .number) 0 h,
-        getD-set-other (t .amounts) at i (r .amount) 0 h,
-        getD-set-other (t .verdicts) at i 1 0 h,
-      )
-
-  -- its bytes too
-  formed-other : (i : ℕ) → (i ≡ at → ⊥) → formedRow (withRow t at r) i ≡ formedRow t i
-  unfolding withRow formedRow
-  formed-other i h =
-      rw (
-        getD-set-other (t .kinds) at i (kindByte (r .kind)) 0 h,
-        getD-set-other (t .ledgers) at i (ledgerByte (ledgerOf (r .kind))) 0 h,
-        getD-set-other (t .verdicts) at i 1 0 h,
-      )
-
-  module _ (w : Within t at) where
-    -- the place has the record
-    pub row-at : r .verified ≡ true → row (withRow t at r) at ≡ r
-    unfolding withRow
-    row-at v =
-        rw (
-          getD-set-same (t .kinds) at (kindByte (r .kind)) 0 (w .kinds-has),
-          getD-set-same (t .ledgers) at (ledgerByte (ledgerOf (r .kind))) 0 (w .ledgers-has),
-          getD-set-same (t .senders) at (r .sender) 0 (w .senders-has),
-          getD-set-same (t .receivers) at (r .receiver) 0 (w .receivers-has),
-          getD-set-same (t .numbers) at (r .number) 0 (w .numbers-has),
-          getD-set-same (t .amounts) at (r .amount) 0 (w .amounts-has),
-          getD-set-same (t .verdicts) at 1 0 (w .verdicts-has),
-          kind-bytes (r .kind),
-        )
-        (λ i. record {
-          kind = r .kind;
-          sender = r .sender;
-          receiver = r .receiver;
-          number = r .number;
-          amount = r .amount;
-          verified = sym v i;
-        })
-
-    -- its bytes are a record's
-    formed-at : formedRow (withRow t at r) at ≡ true
-    unfolding withRow formedRow
-    formed-at =
-        let k = kind-some (r .kind) in
-        rw (
-          getD-set-same (t .kinds) at (kindByte (r .kind)) 0 (w .kinds-has),
-          getD-set-same (t .ledgers) at (ledgerByte (ledgerOf (r .kind))) 0 (w .ledgers-has),
-          getD-set-same (t .verdicts) at 1 0 (w .verdicts-has),
-        )
-        (every-both _ _ (lt-ltb 0 (kindByte (r .kind)) (k .0))
-        (every-both _ _ (le-leb (kindByte (r .kind)) 3 (k .1))
-        (every-both _ _ (le-leb (ledgerByte (ledgerOf (r .kind))) 1 (omega (arith, ledger-two (ledgerOf (r .kind)))))
-        (every-both _ _ (le-leb 1 1 (omega arith))
-        every-none))))
-
-  -- the records of a table without the place stay
-  pub rows-kept : (from n : ℕ) → ((i : ℕ) → from ≤ i → i < from + n → i ≡ at → ⊥) → rows (withRow t at r) from n ≡ rows t from n
-  unfolding rows
-  rows-kept from n h = list-ext (row (withRow t at r)) (row t) from n (λ i a b. row-other i (h i a b))
-
-  -- their bytes too
-  pub formed-kept : (from n : ℕ) → ((i : ℕ) → from ≤ i → i < from + n → i ≡ at → ⊥)
-      → formedRows (withRow t at r) from n ≡ formedRows t from n
-  unfolding formedRows
-  formed-kept from n h = all-ext (formedRow (withRow t at r)) (formedRow t) from n (λ i a b. formed-other i (h i a b))
-
-module _ (t : Columns) (from n : ℕ) (r : Record) (w : Within t (from + n)) where
-  -- the record at the next place of its table is held after all others
-  pub rows-held : r .verified ≡ true → rows (withRow t (from + n) r) from (n + 1) ≡ rows t from n ++ r ∷ []
-  unfolding rows
-  rows-held v =
-      rw add-one
-      (list-snoc (row (withRow t (from + n) r)) from n
-      ∙ rw (list-ext (row (withRow t (from + n) r)) (row t) from n (λ i a b. row-other t (from + n) r i (λ q. omega arith)))
-      (ap (λ (x : Record). listAt (row t) from n ++ x ∷ []) (row-at t (from + n) r w v)))
-
-  -- and all have bytes that a record can have
-  pub formed-held : formedRows t from n ≡ true → formedRows (withRow t (from + n) r) from (n + 1) ≡ true
-  unfolding formedRows
-  formed-held h =
-      all-of (formedRow (withRow t (from + n) r)) from (n + 1)
-      (λ i a b.
-      ⊎-elim
-      (λ (q : i ≡ from + n). rw q (formed-at t (from + n) r w))
-      (λ (q : i < from + n). formed-other t (from + n) r i (λ e. omega arith) ∙ all-each (formedRow t) from n h i a q)
-      (eq-or-lt-of-le (let z : i ≤ from + n = omega arith in z)))
-
--- ## Balances
-
 -- part of a list, place by place
-pub part-list : (xs : List ℕ) (from n : ℕ) → from + n ≤ length xs → take n (drop from xs) ≡ listAt (λ (i : ℕ). getD xs i 0) from n
+part-list : (xs : List ℕ) (from n : ℕ) → from + n ≤ length xs → take n (drop from xs) ≡ listAt (λ (i : ℕ). getD xs i 0) from n
 unfolding listAt
 part-list xs from zero h = refl
 part-list xs from (suc n) h =

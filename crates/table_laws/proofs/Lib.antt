@@ -1,4 +1,4 @@
--- Laws of tables of held records, seen as the rules' lists. Assumes nothing.
+-- Laws of kinds, balances, refusals and openings, in the rules' words. Assumes nothing.
 pub mod Rows
 pub mod Held
 pub mod Judged

@@ -1,1 +1,2 @@
-// What the tables of held records say, in the rules' words: laws that the crates of both validators cite. It has no function.
+// Kinds by their bytes, balances from a place on, refusals and openings, in the rules' words: laws that the crates of both validators
+// cite. It has no function.

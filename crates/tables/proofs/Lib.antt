@@ -1,2 +1,2 @@
--- Laws of tables of held records. Assumes nothing.
+-- Laws of lists, tests and sums over places. Assumes nothing.
 pub mod Places

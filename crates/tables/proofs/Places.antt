@@ -121,24 +121,6 @@ apart-not f i (suc n) a b x y z q =
     (apart-not f (suc i) n a b r y (omega arith) q))
     (eq-or-lt-of-le x)
 
--- ## Places counted from another one
-
--- a test
-pub any-from : (p : ℕ → Bool) (from i n : ℕ) → anyAt (λ (j : ℕ). p (from + j)) i n ≡ anyAt p (from + i) n
-unfolding anyAt
-any-from p from i zero = refl
-any-from p from i (suc n) =
-    let z : from + suc i ≡ suc (from + i) = omega arith in
-    rw (any-from p from (suc i) n, z)
-
--- values that are apart
-pub apart-from : (f : ℕ → ℕ) (from i n : ℕ) → apartAt (λ (j : ℕ). f (from + j)) i n ≡ apartAt f (from + i) n
-unfolding apartAt
-apart-from f from i zero = refl
-apart-from f from i (suc n) =
-    let z : from + suc i ≡ suc (from + i) = omega arith in
-    rw (any-from (λ (j : ℕ). eqb (f (from + i)) (f j)) from (suc i) n, apart-from f from (suc i) n, z)
-
 -- ## Against the rules' lists
 
 module _ {A : Type 0} (g : ℕ → A) where
@@ -181,12 +163,6 @@ pub list-ext : {A : Type 0} (g h : ℕ → A) (i n : ℕ) → ((j : ℕ) → i �
 unfolding listAt
 list-ext g h i zero e = refl
 list-ext g h i (suc n) e = rw (e i (omega arith) (omega arith), list-ext g h (suc i) n (λ j a b. e j (omega arith) (omega arith)))
-
--- their tests
-pub any-ext : (p q : ℕ → Bool) (i n : ℕ) → ((j : ℕ) → p j ≡ q j) → anyAt p i n ≡ anyAt q i n
-unfolding anyAt
-any-ext p q i zero e = refl
-any-ext p q i (suc n) e = rw (e i, any-ext p q (suc i) n e)
 
 -- their tests of all
 pub all-ext : (p q : ℕ → Bool) (i n : ℕ) → ((j : ℕ) → i ≤ j → j < i + n → p j ≡ q j) → allAt p i n ≡ allAt q i n

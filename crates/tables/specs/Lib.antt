@@ -1,4 +1,4 @@
--- Held records in columns of numbers. Assumes nothing.
+-- Places of a table, and balances from a place on. Assumes nothing.
 
 pub mod Places
 pub mod Columns

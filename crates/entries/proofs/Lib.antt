@@ -1,2 +1,0 @@
--- Laws of what judging finds. Assumes nothing.
-pub mod Finding

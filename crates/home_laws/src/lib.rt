@@ -1,2 +1,0 @@
-// What the columns of the home ledger are judged and accepted by is what the rules say, and a pass keeps them accepted. It has
-// laws, and no function.

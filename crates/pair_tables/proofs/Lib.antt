@@ -1,3 +1,0 @@
--- Laws of the tables of both ledgers. Assumes nothing.
-pub mod Indexes
-pub mod Judging

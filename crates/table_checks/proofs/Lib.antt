@@ -1,3 +1,0 @@
--- Laws of what is asked of a table of held records. Assumes nothing.
-
-pub mod Columns

@@ -1,3 +1,0 @@
--- What is asked of a table of held records. Assumes nothing.
-
-pub mod Checks
