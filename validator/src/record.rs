@@ -113,15 +113,7 @@ impl Record {
 
     /// Writes the record's 32 bytes.
     pub fn bytes(&self) -> [u8; RECORD] {
-        let mut bytes = [0; RECORD];
-        bytes[0] = self.kind.byte();
-        bytes[1] = self.kind.ledger().byte();
-        bytes[2..4].copy_from_slice(&self.sender.to_be_bytes());
-        bytes[4..6].copy_from_slice(&self.receiver.to_be_bytes());
-        bytes[8..16].copy_from_slice(&self.number.to_be_bytes());
-        bytes[16..24].copy_from_slice(&self.amount.to_be_bytes());
-        bytes[24] = u8::from(self.good);
-        bytes
+        Held::of(self).bytes()
     }
 
     /// The ledger that holds the record.
@@ -205,6 +197,20 @@ impl Held {
             amount: record.amount,
             verdict: u8::from(record.good),
         }
+    }
+
+    /// The 32 bytes of these numbers, right or wrong; those that must be zero
+    /// are.
+    pub fn bytes(&self) -> [u8; RECORD] {
+        let mut bytes = [0; RECORD];
+        bytes[0] = self.kind;
+        bytes[1] = self.ledger;
+        bytes[2..4].copy_from_slice(&self.sender.to_be_bytes());
+        bytes[4..6].copy_from_slice(&self.receiver.to_be_bytes());
+        bytes[8..16].copy_from_slice(&self.number.to_be_bytes());
+        bytes[16..24].copy_from_slice(&self.amount.to_be_bytes());
+        bytes[24] = self.verdict;
+        bytes
     }
 
     /// The record, if its numbers are those of one; nothing where refusal 21

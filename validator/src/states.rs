@@ -1,7 +1,7 @@
 //! Paper 01, refusal 3 and "The runs of demand 3": the states of pair book and
-//! guard as plain numbers, so that every forged value can stand in them, and
-//! the calls that are handed such a state. The places left are no call of the
-//! paper; they follow from the 512 passed records that a ledger can have.
+//! guard as plain words, so that every forged value can stand in them, and the
+//! calls that are handed such a state and alter it in place. The paper has
+//! neither the layout of the words nor the places left; the list of calls has.
 //!
 //! The rules are those of `pair` and `guard`. What stands at or beyond a count
 //! is not looked at and stays as it came, and a refused call alters nothing.
@@ -9,134 +9,170 @@
 use crate::answer::{refusal, Answer};
 use crate::guard::Guard;
 use crate::pair::PairBook;
-use crate::record::{Held, Ledger};
+use crate::record::{u64_at, Held, Ledger, Record, RECORD};
 use crate::rules::{Book, CAPACITY, MAX_ACCOUNTS};
 use crate::side::Side;
 
-/// The balances of both ledgers: those of home, then those of far.
-pub const PAIR_ACCOUNTS: usize = 2 * MAX_ACCOUNTS;
+/// The words of a held record.
+pub const HELD: usize = 4;
 
-/// The held records of both ledgers: those of home, then those of far.
-pub const PAIR_HELD: usize = 2 * CAPACITY;
+/// A held record: its 32 bytes, each word the big-endian number of eight.
+pub type HeldWords = [u64; HELD];
+
+/// A state: one array of words, each of which can be forged.
+#[derive(Clone, Debug, PartialEq, Eq)]
+#[repr(transparent)]
+pub struct State<const N: usize> {
+    pub words: [u64; N],
+}
 
 /// The state of the pair book.
-#[derive(Clone, Debug, PartialEq, Eq)]
-pub struct PairState {
-    /// The stake.
-    pub supply: u64,
-    /// The open accounts of home and far.
-    pub accounts: [usize; 2],
-    /// The held records of home and far.
-    pub counts: [usize; 2],
-    pub balances: [u64; PAIR_ACCOUNTS],
-    pub numbers: [u64; PAIR_HELD],
-    pub amounts: [u64; PAIR_HELD],
-    pub senders: [u16; PAIR_HELD],
-    pub receivers: [u16; PAIR_HELD],
-    pub kinds: [u8; PAIR_HELD],
-    pub ledgers: [u8; PAIR_HELD],
-    pub verdicts: [u8; PAIR_HELD],
-}
+pub type PairState = State<4_213>;
 
 /// The state of the guard.
-#[derive(Clone, Debug, PartialEq, Eq)]
-pub struct HomeState {
+pub type HomeState = State<2_109>;
+
+/// Where the fields of a state begin among its words. The held records begin
+/// at word 0. What far has of a field comes after what home has of it.
+pub trait Layout {
+    /// The ledgers whose balances and records the state holds.
+    const LEDGERS: usize;
+    /// The balances, 56 for each ledger.
+    const BALANCES: usize;
     /// The stake.
-    pub supply: u64,
-    /// The far due.
-    pub pool: u64,
-    /// The open accounts of home.
-    pub homes: usize,
-    /// The open accounts of far.
-    pub fars: usize,
-    /// The held records.
-    pub count: usize,
-    pub balances: [u64; MAX_ACCOUNTS],
-    pub numbers: [u64; CAPACITY],
-    pub amounts: [u64; CAPACITY],
-    pub senders: [u16; CAPACITY],
-    pub receivers: [u16; CAPACITY],
-    pub kinds: [u8; CAPACITY],
-    pub ledgers: [u8; CAPACITY],
-    pub verdicts: [u8; CAPACITY],
+    const SUPPLY: usize;
+    /// The far due, where the state has it.
+    const POOL: Option<usize>;
+    /// The open accounts of home and far.
+    const ACCOUNTS: usize;
+    /// The held records of each ledger.
+    const COUNTS: usize;
 }
 
-/// The columns of held records, alike in both states.
-macro_rules! columns {
-    ($state:ty) => {
-        impl $state {
-            /// The held record at an entry, within its count or not.
-            pub fn held(&self, entry: usize) -> Held {
-                Held {
-                    kind: self.kinds[entry],
-                    ledger: self.ledgers[entry],
-                    sender: self.senders[entry],
-                    receiver: self.receivers[entry],
-                    number: self.numbers[entry],
-                    amount: self.amounts[entry],
-                    verdict: self.verdicts[entry],
-                }
-            }
+impl Layout for PairState {
+    const LEDGERS: usize = 2;
+    const BALANCES: usize = 4_096;
+    const SUPPLY: usize = 4_208;
+    const POOL: Option<usize> = None;
+    const ACCOUNTS: usize = 4_209;
+    const COUNTS: usize = 4_211;
+}
 
-            /// Writes a held record at an entry.
-            pub fn put_held(&mut self, entry: usize, held: &Held) {
-                self.kinds[entry] = held.kind;
-                self.ledgers[entry] = held.ledger;
-                self.senders[entry] = held.sender;
-                self.receivers[entry] = held.receiver;
-                self.numbers[entry] = held.number;
-                self.amounts[entry] = held.amount;
-                self.verdicts[entry] = held.verdict;
-            }
+impl Layout for HomeState {
+    const LEDGERS: usize = 1;
+    const BALANCES: usize = 2_048;
+    const SUPPLY: usize = 2_104;
+    const POOL: Option<usize> = Some(HomeState::FAR_DUE);
+    const ACCOUNTS: usize = 2_106;
+    const COUNTS: usize = 2_108;
+}
 
-            /// One ledger's part of the state, if its count is one that the
-            /// columns can have.
-            fn side(&self, accounts: usize, count: usize, at: usize) -> Option<Side> {
-                if count > CAPACITY {
-                    return None;
-                }
-                let mut balances = [0; MAX_ACCOUNTS];
-                balances.copy_from_slice(&self.balances[at * MAX_ACCOUNTS..][..MAX_ACCOUNTS]);
-                let first = at * CAPACITY;
-                Some(Side {
-                    accounts,
-                    balances,
-                    held: (first..first + count)
-                        .map(|entry| self.held(entry))
-                        .collect(),
-                })
-            }
+/// The words of a record's 32 bytes.
+pub fn words_of(bytes: &[u8; RECORD]) -> HeldWords {
+    [0, 8, 16, 24].map(|at| u64_at(bytes, at))
+}
 
-            /// Writes one ledger's balances, and its held records from the
-            /// first new one on.
-            fn put_side(&mut self, side: &Side, before: usize, at: usize) {
-                self.balances[at * MAX_ACCOUNTS..][..MAX_ACCOUNTS].copy_from_slice(&side.balances);
-                for (place, held) in side.held.iter().enumerate().skip(before) {
-                    self.put_held(at * CAPACITY + place, held);
-                }
-            }
+/// The 32 bytes of a held record.
+pub fn bytes_of(held: HeldWords) -> [u8; RECORD] {
+    let mut bytes = [0; RECORD];
+    for (eight, word) in bytes.chunks_exact_mut(8).zip(held) {
+        eight.copy_from_slice(&word.to_be_bytes());
+    }
+    bytes
+}
+
+/// A held record as the record reader reads it; nothing where 21 is due.
+fn read(held: HeldWords) -> Option<Held> {
+    Record::read(&bytes_of(held)).map(|record| Held::of(&record))
+}
+
+impl<const N: usize> State<N> {
+    pub const ZERO: State<N> = State { words: [0; N] };
+
+    /// The state of these words, which must be as many as it has.
+    pub fn from_words(words: &[u64]) -> State<N> {
+        let words = words.try_into().expect("as many words as the state has");
+        State { words }
+    }
+
+    pub fn words(&self) -> &[u64] {
+        &self.words
+    }
+
+    pub fn words_mut(&mut self) -> &mut [u64] {
+        &mut self.words
+    }
+
+    /// The held record at an entry, within its count or not. The 512 entries
+    /// of far come after those of home.
+    pub fn held(&self, entry: usize) -> HeldWords {
+        let words = &self.words[entry * HELD..][..HELD];
+        words.try_into().expect("four words")
+    }
+
+    /// Writes a held record at an entry.
+    pub fn put_held(&mut self, entry: usize, held: HeldWords) {
+        self.words[entry * HELD..][..HELD].copy_from_slice(&held);
+    }
+}
+
+impl<const N: usize> State<N>
+where
+    State<N>: Layout,
+{
+    pub fn supply(&self) -> u64 {
+        self.words[Self::SUPPLY]
+    }
+
+    /// The open accounts of a ledger: 0 is home, 1 is far.
+    pub fn accounts(&self, ledger: usize) -> u64 {
+        self.words[Self::ACCOUNTS + ledger]
+    }
+
+    /// The held records of a ledger.
+    pub fn count(&self, ledger: usize) -> u64 {
+        self.words[Self::COUNTS + ledger]
+    }
+
+    /// The 56 balances of a ledger.
+    pub fn balances(&self, ledger: usize) -> &[u64] {
+        &self.words[Self::BALANCES + ledger * MAX_ACCOUNTS..][..MAX_ACCOUNTS]
+    }
+
+    pub fn balances_mut(&mut self, ledger: usize) -> &mut [u64] {
+        &mut self.words[Self::BALANCES + ledger * MAX_ACCOUNTS..][..MAX_ACCOUNTS]
+    }
+
+    /// One ledger's part of the state, if its table can have so many held
+    /// records and each of them reads as one.
+    fn side(&self, ledger: usize) -> Option<Side> {
+        if self.count(ledger) > CAPACITY as u64 {
+            return None;
         }
-    };
-}
+        let first = ledger * CAPACITY;
+        let entries = first..first + self.count(ledger) as usize;
+        Some(Side {
+            accounts: usize::try_from(self.accounts(ledger)).ok()?,
+            balances: self.balances(ledger).try_into().expect("56 balances"),
+            held: entries
+                .map(|entry| read(self.held(entry)))
+                .collect::<Option<_>>()?,
+        })
+    }
 
-columns!(PairState);
-columns!(HomeState);
+    /// Writes one ledger's part, its held records from the first new one on.
+    fn put_side(&mut self, ledger: usize, side: &Side) {
+        let before = self.count(ledger) as usize;
+        for (place, held) in side.held.iter().enumerate().skip(before) {
+            self.put_held(ledger * CAPACITY + place, words_of(&held.bytes()));
+        }
+        self.balances_mut(ledger).copy_from_slice(&side.balances);
+        self.words[Self::ACCOUNTS + ledger] = side.accounts as u64;
+        self.words[Self::COUNTS + ledger] = side.held.len() as u64;
+    }
+}
 
 impl PairState {
-    pub const ZERO: PairState = PairState {
-        supply: 0,
-        accounts: [0; 2],
-        counts: [0; 2],
-        balances: [0; PAIR_ACCOUNTS],
-        numbers: [0; PAIR_HELD],
-        amounts: [0; PAIR_HELD],
-        senders: [0; PAIR_HELD],
-        receivers: [0; PAIR_HELD],
-        kinds: [0; PAIR_HELD],
-        ledgers: [0; PAIR_HELD],
-        verdicts: [0; PAIR_HELD],
-    };
-
     /// Opens a book: 1, 2. Beside a refusal stands the state of zeros.
     pub fn open(home: &[u64], far: &[u64]) -> (Answer, Box<PairState>) {
         let mut state = Box::new(PairState::ZERO);
@@ -149,12 +185,12 @@ impl PairState {
         }
     }
 
-    /// A call with one record.
+    /// A call with one record, in place.
     pub fn check_record(&mut self, bytes: &[u8]) -> Answer {
         self.check(|book| book.call(bytes))
     }
 
-    /// A call with a list of records: all pass, or none.
+    /// A call with a list of records, in place: all pass, or none.
     pub fn check_list(&mut self, bytes: &[u8]) -> Answer {
         self.check(|book| book.call_list(bytes))
     }
@@ -203,13 +239,12 @@ impl PairState {
         (Answer::Passed, left)
     }
 
-    /// The pair book of this state, if its counts of held records are ones
-    /// that the columns can have; all else is judged by the book.
+    /// The pair book of this state, if its tables can be read; all else is
+    /// judged by the book.
     pub fn book(&self) -> Option<PairBook> {
-        let [home, far] = [0, 1].map(|at| self.side(self.accounts[at], self.counts[at], at));
         Some(PairBook {
-            sides: [home?, far?],
-            stake: self.supply,
+            sides: [self.side(0)?, self.side(1)?],
+            stake: self.supply(),
         })
     }
 
@@ -219,31 +254,16 @@ impl PairState {
 
     /// Writes a book that goes on from this state.
     fn put_book(&mut self, book: &PairBook) {
-        self.supply = book.stake;
-        for (at, side) in book.sides.iter().enumerate() {
-            self.put_side(side, self.counts[at], at);
-            self.accounts[at] = side.accounts;
-            self.counts[at] = side.held.len();
+        self.words[Self::SUPPLY] = book.stake;
+        for (ledger, side) in book.sides.iter().enumerate() {
+            self.put_side(ledger, side);
         }
     }
 }
 
 impl HomeState {
-    pub const ZERO: HomeState = HomeState {
-        supply: 0,
-        pool: 0,
-        homes: 0,
-        fars: 0,
-        count: 0,
-        balances: [0; MAX_ACCOUNTS],
-        numbers: [0; CAPACITY],
-        amounts: [0; CAPACITY],
-        senders: [0; CAPACITY],
-        receivers: [0; CAPACITY],
-        kinds: [0; CAPACITY],
-        ledgers: [0; CAPACITY],
-        verdicts: [0; CAPACITY],
-    };
+    /// The word of the far due.
+    pub const FAR_DUE: usize = 2_105;
 
     /// Opens a guard: 1, 2. Beside a refusal stands the state of zeros.
     pub fn open(home: &[u64], fars: usize, far_total: u64) -> (Answer, Box<HomeState>) {
@@ -257,12 +277,17 @@ impl HomeState {
         }
     }
 
-    /// A call with one record.
+    /// The far due.
+    pub fn pool(&self) -> u64 {
+        self.words[Self::FAR_DUE]
+    }
+
+    /// A call with one record, in place.
     pub fn check_record(&mut self, bytes: &[u8]) -> Answer {
         self.check(|guard| guard.call(bytes))
     }
 
-    /// A call with a list of records: all pass, or none.
+    /// A call with a list of records, in place: all pass, or none.
     pub fn check_list(&mut self, bytes: &[u8]) -> Answer {
         self.check(|guard| guard.call_list(bytes))
     }
@@ -307,14 +332,14 @@ impl HomeState {
         (Answer::Passed, places_left(&guard, Ledger::Home))
     }
 
-    /// The guard of this state, if its count of held records is one that the
-    /// columns can have; all else is judged by the guard.
+    /// The guard of this state, if its table can be read; all else is judged
+    /// by the guard.
     pub fn guard(&self) -> Option<Guard> {
         Some(Guard {
-            home: self.side(self.homes, self.count, 0)?,
-            far_accounts: self.fars,
-            far_due: self.pool,
-            stake: self.supply,
+            home: self.side(0)?,
+            far_accounts: usize::try_from(self.accounts(1)).ok()?,
+            far_due: self.pool(),
+            stake: self.supply(),
         })
     }
 
@@ -324,12 +349,10 @@ impl HomeState {
 
     /// Writes a guard that goes on from this state.
     fn put_guard(&mut self, guard: &Guard) {
-        self.supply = guard.stake;
-        self.pool = guard.far_due;
-        self.put_side(&guard.home, self.count, 0);
-        self.homes = guard.home.accounts;
-        self.fars = guard.far_accounts;
-        self.count = guard.home.held.len();
+        self.words[Self::SUPPLY] = guard.stake;
+        self.words[Self::FAR_DUE] = guard.far_due;
+        self.put_side(0, &guard.home);
+        self.words[Self::ACCOUNTS + 1] = guard.far_accounts as u64;
     }
 }
 

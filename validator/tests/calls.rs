@@ -8,7 +8,7 @@ use second_validator::journal::Balances;
 use second_validator::record::{Held, Record, MAX_AMOUNT, RECORD};
 use second_validator::runner::calls::fields::{Field, Fields};
 use second_validator::runner::calls::{compare, Oracle, Part};
-use second_validator::states::{HomeState, PairState};
+use second_validator::states::{words_of, HomeState, Layout, PairState, State};
 
 const CALLS: u64 = 20_000;
 
@@ -30,8 +30,15 @@ fn library_against_itself() {
         let (calls, passed) = (report.family_calls(family), report.family_passed(family));
         assert!(3 * passed > calls, "{family}: {passed} of {calls}");
     }
-    assert_eq!(report.by_call.len(), 21);
+    assert_eq!(report.by_call.len(), 25);
     assert_eq!(report.by_family.len(), 11);
+    // Each record and each list is handed in by value and in place.
+    for side in ["pair", "home"] {
+        for (by_value, in_place) in [("check_record", "take"), ("check_list", "take_list")] {
+            let [by_value, in_place] = [by_value, in_place].map(|call| format!("{side}_{call}"));
+            assert_eq!(report.by_call[&*by_value], report.by_call[&*in_place]);
+        }
+    }
     for call in ["pair_places_left", "home_places_left"] {
         let answers = &report.by_call[call];
         assert!(answers[&0] > 200 && answers[&3] > 100, "{call} {answers:?}");
@@ -57,12 +64,46 @@ fn fields_are_altered_alone_and_in_pairs() {
         part.listener.altered = Some(Default::default());
         compare(&mut part, seed, CALLS, u64::MAX);
         let (pair, home) = part.listener.altered.unwrap();
-        // The pair state has 21 parts, 16 of them with many entries; the home
-        // state has 13 and 8.
-        assert_eq!(pair.expected().len(), 21 + 21 * 20 / 2 + 16);
-        assert_eq!(home.expected().len(), 13 + 13 * 12 / 2 + 8);
+        // The pair state has 25 parts, 20 of them with many entries; the home
+        // state has 15 and 10.
+        assert_eq!(pair.expected().len(), 25 + 25 * 24 / 2 + 20);
+        assert_eq!(home.expected().len(), 15 + 15 * 14 / 2 + 10);
         assert_eq!(pair.missing(), Vec::<Parts>::new());
         assert_eq!(home.missing(), Vec::<Parts>::new());
+        for values in [pair.values, home.values] {
+            assert_forged_values(&values);
+        }
+    }
+}
+
+/// What stands in a field that is altered alone, among other values.
+fn assert_forged_values(values: &BTreeSet<(String, u64)>) {
+    let wanted = [
+        (Field::Kinds, &[0, 4, 255][..]),
+        (Field::Ledgers, &[2, 255]),
+        (Field::Senders, &[65_535]),
+        (Field::Receivers, &[65_535]),
+        (Field::Amounts, &[0, 1 << 63, u64::MAX]),
+        (Field::Verdicts, &[0, 2, 255]),
+        (Field::Counts, &[513, 1 << 32, u64::MAX]),
+        (Field::Accounts, &[0, 57, 65_535, 1 << 32, u64::MAX]),
+        (Field::Supply, &[0, 1 << 63, u64::MAX]),
+    ];
+    for (field, wanted) in wanted {
+        for &value in wanted {
+            assert!(
+                values.contains(&(format!("{field:?}"), value)),
+                "{field:?} {value}"
+            );
+        }
+    }
+    for (field, bytes) in [(Field::HeadZeros, 2), (Field::TailZeros, 7)] {
+        for byte in 0..bytes {
+            let alone = |(name, value): &(String, u64)| {
+                *name == format!("{field:?}") && value & !(0xff << (8 * byte)) == 0
+            };
+            assert!(values.iter().any(alone), "{field:?} {byte}");
+        }
     }
 }
 
@@ -80,12 +121,14 @@ fn part_name<S: Fields>(field: Field, index: usize) -> String {
 }
 
 /// Takes down in which one or two entries a state that is handed in differs
-/// from a good one. Good is what the last opening has handed back, and what
-/// lists have made of it before any other state was handed in.
+/// from a good one, and the value of one that differs alone. Good is what the
+/// last opening has handed back, and what lists have made of it before any
+/// other state was handed in.
 struct Altered<S> {
     good: Vec<Box<S>>,
     left: bool,
     met: BTreeSet<Parts>,
+    values: BTreeSet<(String, u64)>,
 }
 
 impl<S> Default for Altered<S> {
@@ -94,6 +137,7 @@ impl<S> Default for Altered<S> {
             good: Vec::new(),
             left: false,
             met: BTreeSet::new(),
+            values: BTreeSet::new(),
         }
     }
 }
@@ -119,12 +163,17 @@ impl<S: Fields + Clone + PartialEq> Altered<S> {
             let entries = S::FIELDS
                 .iter()
                 .flat_map(|&field| (0..S::length(field)).map(move |index| (field, index)));
-            let mut parts: Parts = entries
+            let differ: Vec<(Field, usize)> = entries
                 .filter(|&(field, index)| state.get(field, index) != good.get(field, index))
                 .take(3)
-                .map(|(field, index)| part_name::<S>(field, index))
                 .collect();
-            if parts.len() < 3 {
+            if let [(field, index)] = differ[..] {
+                let value = state.get(field, index);
+                self.values.insert((format!("{field:?}"), value));
+            }
+            if differ.len() < 3 {
+                let name = |&(field, index): &(Field, usize)| part_name::<S>(field, index);
+                let mut parts: Parts = differ.iter().map(name).collect();
                 parts.sort();
                 self.met.insert(parts);
             }
@@ -243,6 +292,17 @@ enum Fault {
     HeldVerdict,
     HeldNumberTwice,
     HeldArrivalByNumber,
+    /// An arrival that is held is not compared with its sending in this.
+    HeldMatch(Field),
+    HeldSendingOfAnyKind,
+    /// This of a held record is not looked at.
+    HeldNotLookedAt(Field),
+    HeldKind(u64),
+    HeldLedgerByLowBit,
+    HeldVerdictNotZero,
+    HeldZeroByte(usize),
+    LowBitsOfCounts(Field, u32),
+    LooksBeyondTheCount(Beyond),
     SupplyLimit,
     EmptyListPasses,
     FormBeforeState,
@@ -271,9 +331,53 @@ enum Fault {
     Padding,
     PairPlaces(Places),
     HomePlaces(Places),
+    PairInPlace(InPlace),
+    HomeInPlace(InPlace),
 }
 
-const FAULTS: [Fault; 49] = [
+/// What a part takes for held though it stands beyond the count.
+#[derive(Clone, Copy, Debug, PartialEq, Eq)]
+enum Beyond {
+    Numbers,
+    Sendings,
+    Arrivals,
+}
+
+/// What a part is wrong in only when it alters a state in place.
+#[derive(Clone, Copy, Debug, PartialEq, Eq)]
+enum InPlace {
+    NothingAltered,
+    BalancesNotAltered,
+    RecordNotWritten,
+    CountNotRaised,
+    RefusedIsCounted,
+    RefusedIsWritten,
+    RefusedListIsKept,
+    NextPlaceCleared,
+    ZeroedBeyond,
+    OneWordOfTheLast,
+    StateClearedOnRefusal,
+    AnswerOfBefore,
+    PlaceAlwaysZero,
+}
+
+const IN_PLACE: [InPlace; 13] = [
+    InPlace::NothingAltered,
+    InPlace::BalancesNotAltered,
+    InPlace::RecordNotWritten,
+    InPlace::CountNotRaised,
+    InPlace::RefusedIsCounted,
+    InPlace::RefusedIsWritten,
+    InPlace::RefusedListIsKept,
+    InPlace::NextPlaceCleared,
+    InPlace::ZeroedBeyond,
+    InPlace::OneWordOfTheLast,
+    InPlace::StateClearedOnRefusal,
+    InPlace::AnswerOfBefore,
+    InPlace::PlaceAlwaysZero,
+];
+
+const FAULTS: [Fault; 79] = [
     Fault::ArrivalByNumber,
     Fault::KeepsWhatStoodBefore,
     Fault::WritesBeyondTheCount,
@@ -297,6 +401,36 @@ const FAULTS: [Fault; 49] = [
     Fault::HeldVerdict,
     Fault::HeldNumberTwice,
     Fault::HeldArrivalByNumber,
+    Fault::HeldMatch(Field::Amounts),
+    Fault::HeldMatch(Field::Senders),
+    Fault::HeldMatch(Field::Receivers),
+    Fault::HeldSendingOfAnyKind,
+    Fault::HeldNotLookedAt(Field::Kinds),
+    Fault::HeldNotLookedAt(Field::Ledgers),
+    Fault::HeldNotLookedAt(Field::Senders),
+    Fault::HeldNotLookedAt(Field::Receivers),
+    Fault::HeldNotLookedAt(Field::HeadZeros),
+    Fault::HeldNotLookedAt(Field::Amounts),
+    Fault::HeldNotLookedAt(Field::TailZeros),
+    Fault::HeldKind(0),
+    Fault::HeldKind(4),
+    Fault::HeldKind(255),
+    Fault::HeldLedgerByLowBit,
+    Fault::HeldVerdictNotZero,
+    Fault::HeldZeroByte(6),
+    Fault::HeldZeroByte(7),
+    Fault::HeldZeroByte(25),
+    Fault::HeldZeroByte(28),
+    Fault::HeldZeroByte(31),
+    Fault::LowBitsOfCounts(Field::Counts, 16),
+    Fault::LowBitsOfCounts(Field::Counts, 32),
+    Fault::LowBitsOfCounts(Field::Counts, 63),
+    Fault::LowBitsOfCounts(Field::Accounts, 16),
+    Fault::LowBitsOfCounts(Field::Accounts, 32),
+    Fault::LowBitsOfCounts(Field::Accounts, 63),
+    Fault::LooksBeyondTheCount(Beyond::Numbers),
+    Fault::LooksBeyondTheCount(Beyond::Sendings),
+    Fault::LooksBeyondTheCount(Beyond::Arrivals),
     Fault::SupplyLimit,
     Fault::EmptyListPasses,
     Fault::FormBeforeState,
@@ -398,6 +532,20 @@ fn assert_places_found(fault: Fault, seed: u64, call: &str) {
     assert!(report.differences > 0, "{fault:?} was not found");
     assert_eq!(report.kept[0].call, call, "{fault:?}");
     assert!(report.kept[0].inputs.contains("Counts: "), "{fault:?}");
+}
+
+#[test]
+fn wrong_calls_in_place_are_found() {
+    for wrong in IN_PLACE {
+        for (fault, side) in [
+            (Fault::PairInPlace(wrong), "pair_take"),
+            (Fault::HomeInPlace(wrong), "home_take"),
+        ] {
+            let report = compare(&mut Wrong::new(fault), 7, CALLS, 1);
+            assert!(report.differences > 0, "{fault:?} was not found");
+            assert!(report.kept[0].call.starts_with(side), "{fault:?}");
+        }
+    }
 }
 
 #[test]
@@ -516,25 +664,74 @@ impl Wrong {
                 let book = state.book()?;
                 let flight = book.in_flight();
                 let total = book.home_total() + book.far_total() + flight;
-                if total as u64 != state.supply {
+                if total as u64 != state.supply() {
                     return None;
                 }
-                state.balances.fill(0);
-                state.balances[0] = state.supply.checked_sub(u64::try_from(flight).ok()?)?;
+                set_all(&mut *state, Field::Balances, 0);
+                state.balances_mut(0)[0] =
+                    state.supply().checked_sub(u64::try_from(flight).ok()?)?;
             }
-            Fault::BeyondAccounts => state.accounts = [56, 56],
-            Fault::HeldVerdict => state.verdicts.fill(1),
             Fault::HeldNumberTwice => renumber_locals(&mut state),
-            Fault::HeldArrivalByNumber => fit_arrivals(&mut state),
-            Fault::SupplyLimit if state.supply > MAX_AMOUNT => {
-                let half = state.supply / 2 + 1;
-                let rich = state.balances.iter().position(|&b| b >= half)?;
-                state.supply -= half;
-                state.balances[rich] -= half;
+            Fault::HeldArrivalByNumber => {
+                fit_arrivals(
+                    &mut state,
+                    &[Field::Amounts, Field::Senders, Field::Receivers],
+                );
+            }
+            Fault::HeldMatch(field) => fit_arrivals(&mut state, &[field]),
+            Fault::HeldSendingOfAnyKind => fit_kinds(&mut state),
+            Fault::SupplyLimit if state.supply() > MAX_AMOUNT => {
+                let half = state.supply() / 2 + 1;
+                let rich = state.words[4_096..4_208].iter().position(|&b| b >= half)?;
+                state.words[PairState::SUPPLY] -= half;
+                state.words[4_096 + rich] -= half;
+            }
+            _ => self.repair(&mut *state)?,
+        }
+        Some(state)
+    }
+
+    /// What a part with a fault does not see in either state.
+    fn repair<S: Fields>(&self, state: &mut S) -> Option<()> {
+        match self.fault {
+            Fault::BeyondAccounts => {
+                (0..S::LEDGERS).for_each(|ledger| state.set(Field::Accounts, ledger, 56));
+            }
+            Fault::HeldVerdict => set_all(state, Field::Verdicts, 1),
+            Fault::HeldVerdictNotZero => replace(state, Field::Verdicts, |old| old.min(1)),
+            Fault::HeldNotLookedAt(Field::Kinds) => {
+                replace(state, Field::Kinds, |old| {
+                    if (1..4).contains(&old) {
+                        old
+                    } else {
+                        1
+                    }
+                });
+            }
+            Fault::HeldNotLookedAt(Field::Amounts) => {
+                replace(state, Field::Amounts, |old| old.clamp(1, MAX_AMOUNT));
+            }
+            Fault::HeldNotLookedAt(Field::Ledgers) => {
+                for index in 0..S::length(Field::Ledgers) {
+                    state.set(Field::Ledgers, index, (index / 512) as u64);
+                }
+            }
+            Fault::HeldNotLookedAt(field) => set_all(state, field, 0),
+            Fault::HeldKind(kind) => {
+                replace(state, Field::Kinds, |old| if old == kind { 1 } else { old });
+            }
+            Fault::HeldLedgerByLowBit => replace(state, Field::Ledgers, |old| old & 1),
+            Fault::HeldZeroByte(byte) => {
+                let words = state.words_mut()[byte / 8..].iter_mut().step_by(4);
+                let bits = 0xff << (8 * (7 - byte % 8));
+                words.take(512 * S::LEDGERS).for_each(|word| *word &= !bits);
+            }
+            Fault::LowBitsOfCounts(field, bits) => {
+                replace(state, field, |old| old & ((1 << bits) - 1))
             }
             _ => return None,
         }
-        Some(state)
+        Some(())
     }
 
     fn home_repaired(&self, state: &HomeState) -> Option<Box<HomeState>> {
@@ -542,20 +739,115 @@ impl Wrong {
         match self.fault {
             Fault::WrappedSums => {
                 let total = state
-                    .balances
+                    .balances(0)
                     .iter()
-                    .fold(state.pool, |a, &b| a.wrapping_add(b));
-                if total != state.supply {
+                    .fold(state.pool(), |a, &b| a.wrapping_add(b));
+                if total != state.supply() {
                     return None;
                 }
-                state.balances.fill(0);
-                state.pool = state.supply;
+                state.balances_mut(0).fill(0);
+                state.words[HomeState::FAR_DUE] = state.supply();
             }
-            Fault::BeyondAccounts => state.homes = 56,
-            Fault::HeldVerdict => state.verdicts.fill(1),
-            _ => return None,
+            _ => self.repair(&mut *state)?,
         }
         Some(state)
+    }
+
+    /// One record, by value or in place.
+    fn pair_record(&mut self, state: &PairState, bytes: &[u8]) -> (Answer, Box<PairState>) {
+        let bytes = self.record(bytes);
+        let (mut answer, mut next) = self.right.pair_check_record(state, bytes);
+        if answer.number() == 3 {
+            if let Some(repaired) = self.pair_repaired(state) {
+                answer = self.right.pair_check_record(&repaired, bytes).0;
+            }
+        }
+        answer = self.one_answer(answer, bytes, &Seen::of_pair(state, bytes));
+        if self.is(Fault::WritesBeyondTheCount) && !answer.passed() {
+            if let Some(record) = Record::read(bytes) {
+                let at = record.ledger().index();
+                if state.count(at) < 512 {
+                    let entry = held_entries(state, at).end;
+                    next.put_held(entry, words_of(&record.bytes()));
+                }
+            }
+        }
+        if self.is(Fault::ClearsBeyondTheCount) && answer.passed() {
+            next.put_held(511, [0; 4]);
+        }
+        if let (true, Some(record)) = (answer.passed(), is_local_to_itself(bytes)) {
+            if self.is(Fault::SelfTransferGives) {
+                let balances = next.balances_mut(record.ledger().index());
+                balances[usize::from(record.sender)] += record.amount;
+            }
+        }
+        (answer, next)
+    }
+
+    /// A list, by value or in place.
+    fn pair_list(&mut self, state: &PairState, bytes: &[u8]) -> (Answer, Box<PairState>) {
+        if self.is(Fault::EmptyListPasses) && bytes.is_empty() {
+            return (Passed, Box::new(state.clone()));
+        }
+        let bytes = self.list(bytes);
+        let (answer, next) = self.right.pair_check_list(state, bytes);
+        if let (Fault::KeepsWhatStoodBefore, Refused { place, .. }) = (self.fault, answer) {
+            let before = &bytes[..place as usize * RECORD];
+            return (answer, self.right.pair_check_list(state, before).1);
+        }
+        if self.is(Fault::StateWithinList) && answer.number() == 3 && !whole(bytes) {
+            return (refused(21), next);
+        }
+        (self.place(answer), next)
+    }
+
+    /// What is left in the state by a call in place.
+    fn pair_taken(
+        &mut self,
+        state: &mut PairState,
+        bytes: &[u8],
+        handed: (Answer, Box<PairState>),
+    ) -> Answer {
+        let (answer, next) = match self.fault {
+            Fault::PairInPlace(wrong) => wrong.taken(state, bytes, handed, |bytes| {
+                Oracle.pair_check_list(state, bytes).1
+            }),
+            _ => handed,
+        };
+        *state = *next;
+        answer
+    }
+
+    fn home_record(&mut self, state: &HomeState, bytes: &[u8]) -> (Answer, Box<HomeState>) {
+        let bytes = self.record(bytes);
+        let (mut answer, next) = self.right.home_check_record(state, bytes);
+        if answer.number() == 3 {
+            if let Some(repaired) = self.home_repaired(state) {
+                answer = self.right.home_check_record(&repaired, bytes).0;
+            }
+        }
+        (self.one_answer(answer, bytes, &Seen::of_home(state)), next)
+    }
+
+    fn home_list(&mut self, state: &HomeState, bytes: &[u8]) -> (Answer, Box<HomeState>) {
+        let (answer, next) = self.right.home_check_list(state, self.list(bytes));
+        (self.place(answer), next)
+    }
+
+    fn home_taken(
+        &mut self,
+        state: &mut HomeState,
+        bytes: &[u8],
+        handed: (Answer, Box<HomeState>),
+    ) -> Answer {
+        let (answer, next) = match self.fault {
+            Fault::HomeInPlace(wrong) => wrong.taken(state, bytes, handed, |bytes| {
+                Oracle.home_check_list(state, bytes).1
+            }),
+            _ => handed,
+        };
+        *state = *next;
+        answer
     }
 
     /// The answers of one record that a part with a fault gives otherwise.
@@ -577,6 +869,8 @@ impl Wrong {
             (Fault::LowBitsOfNumbers(bits), 0) if seen.low_bits_used(record.number, bits) => {
                 refused(24)
             }
+            (Fault::LooksBeyondTheCount(Beyond::Numbers), 0) if seen.beyond(&record) => refused(24),
+            (Fault::LooksBeyondTheCount(Beyond::Sendings), 31) if seen.sent_beyond => Passed,
             (Fault::FullBeforeUsed, 24) if full => refused(41),
             (Fault::FullBeforeCover, 25 | 31 | 32) if full => refused(41),
             (Fault::FullAt511, 0) if seen.count == 511 => refused(41),
@@ -587,35 +881,143 @@ impl Wrong {
     }
 }
 
+/// Every entry of a field gets a value.
+fn set_all<S: Fields>(state: &mut S, field: Field, value: u64) {
+    replace(state, field, |_| value);
+}
+
+/// Every entry of a field gets a value for its old one.
+fn replace<S: Fields>(state: &mut S, field: Field, value: impl Fn(u64) -> u64) {
+    for index in 0..S::length(field) {
+        let value = value(state.get(field, index));
+        state.set(field, index, value);
+    }
+}
+
 /// The entries of a ledger's held records.
-fn held_entries(state: &PairState, ledger: usize) -> std::ops::Range<usize> {
-    512 * ledger..512 * ledger + state.counts[ledger].min(512)
+fn held_entries<S: Fields>(state: &S, ledger: usize) -> std::ops::Range<usize> {
+    let count = state.get(Field::Counts, ledger).min(512) as usize;
+    512 * ledger..512 * ledger + count
+}
+
+/// The entries of a ledger that are beyond the count.
+fn entries_beyond<S: Fields>(state: &S, ledger: usize) -> std::ops::Range<usize> {
+    held_entries(state, ledger).end..512 * (ledger + 1)
 }
 
 /// Gives each local a number of its own.
 fn renumber_locals(state: &mut PairState) {
     for ledger in 0..2 {
         for entry in held_entries(state, ledger) {
-            if state.kinds[entry] == 1 {
-                state.numbers[entry] = 0x7e57_0000_0000_0000 + entry as u64;
+            if state.get(Field::Kinds, entry) == 1 {
+                state.set(Field::Numbers, entry, 0x7e57_0000_0000_0000 + entry as u64);
             }
         }
     }
 }
 
-/// Makes each arrival fit the sending of its number.
-fn fit_arrivals(state: &mut PairState) {
+/// The arrivals that are held, each with the record of its number on the other
+/// ledger that a condition finds.
+fn crossings(state: &PairState, wanted: impl Fn(u64) -> bool) -> Vec<(usize, usize)> {
+    let mut found = Vec::new();
     for ledger in 0..2 {
         for entry in held_entries(state, ledger) {
-            let number = state.numbers[entry];
-            let sent = held_entries(state, 1 - ledger)
-                .find(|&other| state.kinds[other] == 2 && state.numbers[other] == number);
-            if let (3, Some(sent)) = (state.kinds[entry], sent) {
-                state.amounts[entry] = state.amounts[sent];
-                state.senders[entry] = state.senders[sent];
-                state.receivers[entry] = state.receivers[sent];
+            let number = state.get(Field::Numbers, entry);
+            let sent = held_entries(state, 1 - ledger).find(|&other| {
+                wanted(state.get(Field::Kinds, other)) && state.get(Field::Numbers, other) == number
+            });
+            if let (3, Some(sent)) = (state.get(Field::Kinds, entry), sent) {
+                found.push((entry, sent));
             }
         }
+    }
+    found
+}
+
+/// Makes each arrival fit the sending of its number in these fields.
+fn fit_arrivals(state: &mut PairState, fields: &[Field]) {
+    for (arrived, sent) in crossings(state, |kind| kind == 2) {
+        for &field in fields {
+            let value = state.get(field, sent);
+            state.set(field, arrived, value);
+        }
+    }
+}
+
+/// Makes each record of an arrival's number a sending.
+fn fit_kinds(state: &mut PairState) {
+    for (_, sent) in crossings(state, |_| true) {
+        state.set(Field::Kinds, sent, 2);
+    }
+}
+
+impl InPlace {
+    /// What a call in place leaves in the state, and its answer, from what it
+    /// was handed and what is right.
+    fn taken<const N: usize>(
+        self,
+        before: &State<N>,
+        bytes: &[u8],
+        right: (Answer, Box<State<N>>),
+        as_far: impl Fn(&[u8]) -> Box<State<N>>,
+    ) -> (Answer, Box<State<N>>)
+    where
+        State<N>: Layout,
+    {
+        let (answer, mut next) = right;
+        let counts: Vec<usize> = (0..State::<N>::LEDGERS)
+            .map(|ledger| before.count(ledger).min(512) as usize)
+            .collect();
+        let firsts: Vec<usize> = counts
+            .iter()
+            .zip([0, 512])
+            .map(|(count, first)| first + count)
+            .collect();
+        match (self, answer) {
+            (InPlace::NothingAltered, _) => next = Box::new(before.clone()),
+            (InPlace::BalancesNotAltered, _) => {
+                for ledger in 0..State::<N>::LEDGERS {
+                    next.balances_mut(ledger)
+                        .copy_from_slice(before.balances(ledger));
+                }
+            }
+            (InPlace::RecordNotWritten, Passed) => {
+                for entry in firsts.into_iter().filter(|entry| entry % 512 != 0) {
+                    next.put_held(entry, before.held(entry));
+                }
+            }
+            (InPlace::CountNotRaised, Passed) => {
+                let counts = State::<N>::COUNTS..State::<N>::COUNTS + State::<N>::LEDGERS;
+                next.words[counts.clone()].copy_from_slice(&before.words[counts]);
+            }
+            (InPlace::RefusedIsCounted, Refused { number: 25, .. }) => {
+                next.words[State::<N>::COUNTS] += 1;
+            }
+            (InPlace::RefusedIsWritten, Refused { number: 24, .. }) if counts[0] < 512 => {
+                next.put_held(firsts[0], words_of(bytes[..RECORD].try_into().unwrap()));
+            }
+            (InPlace::RefusedListIsKept, Refused { place, .. }) => {
+                next = as_far(&bytes[..place as usize * RECORD]);
+            }
+            (InPlace::NextPlaceCleared, Passed) if next.count(0) < 512 => {
+                next.put_held(next.count(0) as usize, [0; 4]);
+            }
+            (InPlace::ZeroedBeyond, Refused { .. }) if counts[0] < 512 => {
+                next.put_held(511, [0; 4]);
+            }
+            (InPlace::OneWordOfTheLast, Passed) if next.count(0) > counts[0] as u64 => {
+                next.words[4 * next.count(0) as usize - 1] |= 1;
+            }
+            (InPlace::StateClearedOnRefusal, Refused { number: 3, .. }) => {
+                next = Box::new(State::ZERO);
+            }
+            (InPlace::AnswerOfBefore, Refused { number: 41, .. }) => return (Passed, next),
+            (InPlace::PlaceAlwaysZero, Refused { number, .. }) => {
+                return (Refused { number, place: 0 }, next);
+            }
+            _ => (),
+        }
+        (answer, next)
     }
 }
 
@@ -706,23 +1108,41 @@ fn pair_with_sum(state: &PairState) -> Option<Box<PairState>> {
     let book = state.book()?;
     let sum = book.home_total() + book.far_total() + book.in_flight();
     let mut state = Box::new(state.clone());
-    state.supply = u64::try_from(sum).ok()?;
+    state.words[PairState::SUPPLY] = u64::try_from(sum).ok()?;
     Some(state)
 }
 
 fn home_with_sum(state: &HomeState) -> Option<Box<HomeState>> {
-    let sum = state.guard()?.home_total() + u128::from(state.pool);
+    let sum = state.guard()?.home_total() + u128::from(state.pool());
     let mut state = Box::new(state.clone());
-    state.supply = u64::try_from(sum).ok()?;
+    state.words[HomeState::SUPPLY] = u64::try_from(sum).ok()?;
     Some(state)
+}
+
+/// In flight as a part tells it that takes arrivals beyond the count for held.
+fn flight_with_arrivals_beyond(state: &PairState) -> u64 {
+    let entries = |ledger: usize| 512 * ledger..512 * (ledger + 1);
+    let arrived = |ledger, number| {
+        entries(ledger).any(|entry| {
+            state.get(Field::Kinds, entry) == 3 && state.get(Field::Numbers, entry) == number
+        })
+    };
+    (0..2)
+        .flat_map(|ledger| held_entries(state, ledger).map(move |entry| (ledger, entry)))
+        .filter(|&(_, entry)| state.get(Field::Kinds, entry) == 2)
+        .filter(|&(ledger, entry)| !arrived(1 - ledger, state.get(Field::Numbers, entry)))
+        .map(|(_, entry)| state.get(Field::Amounts, entry))
+        .sum()
 }
 
 /// What a wrong part looks at.
 struct Seen {
     guard: bool,
-    count: usize,
+    count: u64,
     numbers: Vec<u64>,
+    numbers_beyond: Vec<u64>,
     sent_under_number: bool,
+    sent_beyond: bool,
     due: u64,
 }
 
@@ -730,26 +1150,42 @@ impl Seen {
     fn of_pair(state: &PairState, bytes: &[u8]) -> Seen {
         let record = Record::read(bytes);
         let at = record.map_or(0, |record| record.ledger().index());
+        let sent = |entry| {
+            state.get(Field::Kinds, entry) == 2
+                && record.is_some_and(|record| state.get(Field::Numbers, entry) == record.number)
+        };
         Seen {
             guard: false,
-            count: state.counts[at],
-            numbers: state.numbers[512 * at..][..state.counts[at].min(512)].to_vec(),
-            sent_under_number: record.is_some_and(|record| {
-                let sent = |entry| state.kinds[entry] == 2 && state.numbers[entry] == record.number;
-                held_entries(state, 1 - at).any(sent)
-            }),
+            sent_under_number: held_entries(state, 1 - at).any(sent),
+            sent_beyond: entries_beyond(state, 1 - at).any(sent),
             due: 0,
+            ..Seen::of_side(state, at)
         }
     }
 
     fn of_home(state: &HomeState) -> Seen {
         Seen {
-            guard: true,
-            count: state.count,
-            numbers: state.numbers[..state.count.min(512)].to_vec(),
-            sent_under_number: false,
-            due: state.pool,
+            due: state.pool(),
+            ..Seen::of_side(state, 0)
         }
+    }
+
+    fn of_side<S: Fields>(state: &S, ledger: usize) -> Seen {
+        let number = |entry| state.get(Field::Numbers, entry);
+        Seen {
+            guard: true,
+            count: state.get(Field::Counts, ledger),
+            numbers: held_entries(state, ledger).map(number).collect(),
+            numbers_beyond: entries_beyond(state, ledger).map(number).collect(),
+            sent_under_number: false,
+            sent_beyond: false,
+            due: 0,
+        }
+    }
+
+    /// Whether the record's number stands beyond the count.
+    fn beyond(&self, record: &Record) -> bool {
+        self.numbers_beyond.contains(&record.number)
     }
 
     fn low_bits_used(&self, number: u64, bits: u32) -> bool {
@@ -781,7 +1217,8 @@ impl Part for Wrong {
         let (answer, mut state) = self.right.pair_open(home, far);
         self.listener.pair_opened(&state);
         if self.is(Fault::OpeningKept) && !answer.passed() {
-            state.accounts = [home.len(), far.len()];
+            state.set(Field::Accounts, 0, home.len() as u64);
+            state.set(Field::Accounts, 1, far.len() as u64);
         }
         if self.is(Fault::OpeningWraps) && answer.number() == 2 {
             let total = home
@@ -799,58 +1236,38 @@ impl Part for Wrong {
         self.listener.note(bytes);
         self.listener.note_state(state);
         self.listener.pair_handed_in(state);
-        let bytes = self.record(bytes);
-        let (mut answer, mut next) = self.right.pair_check_record(state, bytes);
-        if answer.number() == 3 {
-            if let Some(repaired) = self.pair_repaired(state) {
-                answer = self.right.pair_check_record(&repaired, bytes).0;
-            }
-        }
-        answer = self.one_answer(answer, bytes, &Seen::of_pair(state, bytes));
-        if self.is(Fault::WritesBeyondTheCount) && !answer.passed() {
-            if let Some(record) = Record::read(bytes) {
-                let at = record.ledger().index();
-                if state.counts[at] < 512 {
-                    next.put_held(512 * at + state.counts[at], &Held::of(&record));
-                }
-            }
-        }
-        if self.is(Fault::ClearsBeyondTheCount) && answer.passed() {
-            next.put_held(511, &Held::ZERO);
-        }
-        if let (true, Some(record)) = (answer.passed(), is_local_to_itself(bytes)) {
-            if self.is(Fault::SelfTransferGives) {
-                next.balances[56 * record.ledger().index() + usize::from(record.sender)] +=
-                    record.amount;
-            }
-        }
-        (answer, next)
+        self.pair_record(state, bytes)
     }
 
     fn pair_check_list(&mut self, state: &PairState, bytes: &[u8]) -> (Answer, Box<PairState>) {
         self.listener.note(bytes);
         self.listener.pair_handed_in(state);
-        if self.is(Fault::EmptyListPasses) && bytes.is_empty() {
-            return (Passed, Box::new(state.clone()));
-        }
-        let bytes = self.list(bytes);
-        let (answer, next) = self.right.pair_check_list(state, bytes);
+        let (answer, next) = self.pair_list(state, bytes);
         self.listener.pair_listed(&next);
-        if let (Fault::KeepsWhatStoodBefore, Refused { place, .. }) = (self.fault, answer) {
-            let before = &bytes[..place as usize * RECORD];
-            return (answer, self.right.pair_check_list(state, before).1);
-        }
-        if self.is(Fault::StateWithinList) && answer.number() == 3 && !whole(bytes) {
-            return (refused(21), next);
-        }
-        (self.place(answer), next)
+        (answer, next)
+    }
+
+    fn pair_take(&mut self, state: &mut PairState, bytes: &[u8]) -> Answer {
+        let handed = self.pair_record(state, bytes);
+        self.pair_taken(state, bytes, handed)
+    }
+
+    fn pair_take_list(&mut self, state: &mut PairState, bytes: &[u8]) -> Answer {
+        let handed = self.pair_list(state, bytes);
+        self.pair_taken(state, bytes, handed)
     }
 
     fn pair_figures(&mut self, state: &PairState) -> (Answer, [u64; 3]) {
         self.listener.pair_handed_in(state);
         let (answer, figures) = self.right.pair_figures(state);
         if self.is(Fault::FiguresBesideRefusal) && !answer.passed() {
-            return (answer, [state.supply, 0, 0]);
+            return (answer, [state.supply(), 0, 0]);
+        }
+        if self.is(Fault::LooksBeyondTheCount(Beyond::Arrivals)) && answer.passed() {
+            return (
+                answer,
+                [figures[0], figures[1], flight_with_arrivals_beyond(state)],
+            );
         }
         (answer, figures)
     }
@@ -863,7 +1280,7 @@ impl Part for Wrong {
         let (answer, balance) = self.right.pair_balance(state, ledger, account);
         let account = usize::from(account);
         if self.is(Fault::BalanceBeyondAccounts) && answer.number() == 22 && account < 56 {
-            return (Passed, state.balances[account]);
+            return (Passed, state.balances(0)[account]);
         }
         (answer, balance)
     }
@@ -890,22 +1307,25 @@ impl Part for Wrong {
         self.listener.note(bytes);
         self.listener.note_state(state);
         self.listener.home_handed_in(state);
-        let bytes = self.record(bytes);
-        let (mut answer, next) = self.right.home_check_record(state, bytes);
-        if answer.number() == 3 {
-            if let Some(repaired) = self.home_repaired(state) {
-                answer = self.right.home_check_record(&repaired, bytes).0;
-            }
-        }
-        (self.one_answer(answer, bytes, &Seen::of_home(state)), next)
+        self.home_record(state, bytes)
     }
 
     fn home_check_list(&mut self, state: &HomeState, bytes: &[u8]) -> (Answer, Box<HomeState>) {
         self.listener.note(bytes);
         self.listener.home_handed_in(state);
-        let (answer, next) = self.right.home_check_list(state, self.list(bytes));
+        let (answer, next) = self.home_list(state, bytes);
         self.listener.home_listed(&next);
-        (self.place(answer), next)
+        (answer, next)
+    }
+
+    fn home_take(&mut self, state: &mut HomeState, bytes: &[u8]) -> Answer {
+        let handed = self.home_record(state, bytes);
+        self.home_taken(state, bytes, handed)
+    }
+
+    fn home_take_list(&mut self, state: &mut HomeState, bytes: &[u8]) -> Answer {
+        let handed = self.home_list(state, bytes);
+        self.home_taken(state, bytes, handed)
     }
 
     fn home_figures(&mut self, state: &HomeState) -> (Answer, [u64; 2]) {

@@ -1,6 +1,6 @@
-//! The states as plain numbers: the cases of paper 01 through them, forged
-//! ones, what stands beyond the counts; and the calls on blocks and records
-//! that hand back plain numbers.
+//! The states as plain words: their layout, the cases of paper 01 through them,
+//! forged ones, what stands beyond the counts; and the calls on blocks and
+//! records that hand back plain numbers.
 
 use second_validator::answer::Answer::{self, Passed};
 use second_validator::journal::{
@@ -11,8 +11,10 @@ use second_validator::record::{record_encode, record_read, Held, Record, MAX_AMO
 use second_validator::runner::build::{
     arrival, lawful_block, local, sending, stake_bytes, RESERVED,
 };
+use second_validator::runner::calls::fields::{Field, Fields};
+use second_validator::runner::calls::{Oracle, Part};
 use second_validator::runner::rng::Rng;
-use second_validator::states::{HomeState, PairState};
+use second_validator::states::{bytes_of, words_of, HeldWords, HomeState, Layout, PairState};
 
 fn refused(number: u8) -> Answer {
     refused_at(number, 0)
@@ -97,31 +99,160 @@ fn assert_home_refused(alter: impl Fn(&mut HomeState)) {
     assert!(state == before);
 }
 
+/// The words of a held record.
+fn held(record: &Record) -> HeldWords {
+    words_of(&record.bytes())
+}
+
+/// The first entry of the far ledger's records.
+const FAR: usize = 512;
+
+/// Another value stands in a field of a state.
+fn put<S: Fields>(field: Field, index: usize, value: u64) -> impl Fn(&mut S) {
+    move |state| state.set(field, index, value)
+}
+
+/// A field of a state has become more, modulo 2^64.
+fn more<S: Fields>(state: &mut S, field: Field, index: usize, more: u64) {
+    let value = state.get(field, index).wrapping_add(more);
+    state.set(field, index, value);
+}
+
+fn less<S: Fields>(state: &mut S, field: Field, index: usize, less: u64) {
+    more(state, field, index, less.wrapping_neg());
+}
+
 #[test]
 fn layout_of_the_states() {
-    let state = PairState::ZERO;
-    assert_eq!(state.balances.len(), 112);
-    assert_eq!(state.numbers.len(), 1_024);
-    assert_eq!(state.verdicts.len(), 1_024);
-    let state = HomeState::ZERO;
-    assert_eq!(state.balances.len(), 56);
-    assert_eq!(state.numbers.len(), 512);
-    assert_eq!(state.verdicts.len(), 512);
+    let mut state = PairState::ZERO;
+    assert_eq!(state.words().len(), 4_213);
+    for (word, value) in state.words_mut().iter_mut().zip(0..) {
+        *word = value;
+    }
+    assert_eq!(state.held(0), [0, 1, 2, 3]);
+    assert_eq!(state.held(511), [2_044, 2_045, 2_046, 2_047]);
+    assert_eq!(state.held(FAR), [2_048, 2_049, 2_050, 2_051]);
+    assert_eq!(state.held(FAR + 511)[3], 4_095);
+    assert_eq!(
+        (state.balances(0)[0], state.balances(0)[55]),
+        (4_096, 4_151)
+    );
+    assert_eq!(
+        (state.balances(1)[0], state.balances(1)[55]),
+        (4_152, 4_207)
+    );
+    assert_eq!(
+        (state.supply(), state.accounts(0), state.accounts(1)),
+        (4_208, 4_209, 4_210)
+    );
+    assert_eq!((state.count(0), state.count(1)), (4_211, 4_212));
+    let mut state = HomeState::ZERO;
+    assert_eq!(state.words().len(), 2_109);
+    for (word, value) in state.words_mut().iter_mut().zip(0..) {
+        *word = value;
+    }
+    assert_eq!(state.held(0), [0, 1, 2, 3]);
+    assert_eq!(state.held(511), [2_044, 2_045, 2_046, 2_047]);
+    assert_eq!(
+        (state.balances(0)[0], state.balances(0)[55]),
+        (2_048, 2_103)
+    );
+    assert_eq!((state.supply(), state.pool()), (2_104, 2_105));
+    assert_eq!(
+        (state.accounts(0), state.accounts(1), state.count(0)),
+        (2_106, 2_107, 2_108)
+    );
+    assert_eq!(size_of::<PairState>(), 8 * 4_213);
+    assert_eq!(size_of::<HomeState>(), 8 * 2_109);
+}
+
+/// The fields by name are all the words, each bit once.
+#[test]
+fn fields_are_all_words() {
+    fn assert_all<S: Fields>(mut state: S) {
+        for &field in S::FIELDS {
+            for index in 0..S::length(field) {
+                assert_eq!(state.get(field, index), 0, "{field:?} {index}");
+                state.set(field, index, u64::MAX);
+            }
+        }
+        assert!(state.words().iter().all(|&word| word == u64::MAX));
+    }
+    assert_all(PairState::ZERO);
+    assert_all(HomeState::ZERO);
+}
+
+#[test]
+fn words_to_states_and_back() {
+    let state = traded();
+    assert!(PairState::from_words(state.words()) == *state);
+    let state = traded_home();
+    assert!(HomeState::from_words(state.words()) == *state);
+    let any: Vec<u64> = (0..4_213).map(|i| u64::MAX - i).collect();
+    assert_eq!(PairState::from_words(&any).words(), any);
+    assert_eq!(HomeState::from_words(&any[..2_109]).words(), &any[..2_109]);
+}
+
+#[test]
+#[should_panic]
+fn too_few_words_make_no_state() {
+    PairState::from_words(&[0; 4_212]);
+}
+
+#[test]
+fn words_of_a_held_record() {
+    let record = Held {
+        kind: 1,
+        ledger: 2,
+        sender: 0x0304,
+        receiver: 0x0506,
+        number: 0x1112_1314_1516_1718,
+        amount: 0x2122_2324_2526_2728,
+        verdict: 0x31,
+    };
+    let words = [
+        0x0102_0304_0506_0000,
+        record.number,
+        record.amount,
+        0x31 << 56,
+    ];
+    assert_eq!(words_of(&record.bytes()), words);
+    assert_eq!(bytes_of(words), record.bytes());
+    let any: [u8; 32] = std::array::from_fn(|i| 0xf0 + i as u8 / 2);
+    assert_eq!(bytes_of(words_of(&any)), any);
+    let mut state = HomeState::ZERO;
+    state.put_held(3, words);
+    let fields = [
+        1,
+        2,
+        0x0304,
+        0x0506,
+        0,
+        record.number,
+        record.amount,
+        0x31,
+        0,
+    ];
+    for (field, value) in Field::COLUMNS.into_iter().zip(fields) {
+        assert_eq!(state.get(field, 3), value, "{field:?}");
+    }
 }
 
 #[test]
 fn openings() {
     let (answer, state) = PairState::open(&[1, 2, 3], &[4, 5]);
     assert_eq!(answer, Passed);
-    assert_eq!((state.supply, state.accounts), (15, [3, 2]));
-    assert_eq!(state.balances[..4], [1, 2, 3, 0]);
-    assert_eq!(state.balances[55..59], [0, 4, 5, 0]);
-    assert_eq!(state.counts, [0, 0]);
+    let mut right = PairState::ZERO;
+    right.words[4_096..4_099].copy_from_slice(&[1, 2, 3]);
+    right.words[4_152..4_154].copy_from_slice(&[4, 5]);
+    right.words[4_208..].copy_from_slice(&[15, 3, 2, 0, 0]);
+    assert!(*state == right);
     let (answer, state) = HomeState::open(&[1, 2, 3], 56, 9);
     assert_eq!(answer, Passed);
-    assert_eq!((state.supply, state.pool), (15, 9));
-    assert_eq!((state.homes, state.fars, state.count), (3, 56, 0));
-    assert_eq!(state.balances[..4], [1, 2, 3, 0]);
+    let mut right = HomeState::ZERO;
+    right.words[2_048..2_051].copy_from_slice(&[1, 2, 3]);
+    right.words[2_104..].copy_from_slice(&[15, 9, 3, 56, 0]);
+    assert!(*state == right);
 }
 
 #[test]
@@ -164,7 +295,7 @@ fn refused_openings_hand_back_zeros() {
 fn cases_1_to_4() {
     let mut state = pair();
     assert_eq!(state.check_record(&over().bytes()), Passed);
-    assert_eq!(state.balances[..2], [70, 50]);
+    assert_eq!(state.balances(0)[..2], [70, 50]);
     assert_eq!(state.figures(), (Passed, [120, 20, 30]));
     let other = arrival(Far, 0, 0, 7, 31).bytes();
     assert_eq!(state.check_record(&other), refused(31));
@@ -216,7 +347,7 @@ fn case_13_through_lists() {
     assert_eq!(state.check_list(&list), refused_at(41, 512));
     assert!(state == opened);
     assert_eq!(state.check_list(&list[..512 * 32]), Passed);
-    assert_eq!(state.counts, [512, 0]);
+    assert_eq!((state.count(0), state.count(1)), (512, 0));
     assert_eq!(state.check_record(&own(512)), refused(41));
     assert_eq!(state.check_record(&own(511)), refused(24));
     assert_eq!(state.check_list(&[]), Passed);
@@ -236,33 +367,26 @@ fn a_passed_record_is_written_at_the_count() {
     let mut state = traded();
     let record = sending(Far, 0, 1, u64::MAX, 2);
     assert_eq!(state.check_record(&record.bytes()), Passed);
-    assert_eq!(state.counts, [4, 4]);
-    assert_eq!(state.held(512 + 3), Held::of(&record));
-    assert_eq!(state.verdicts[512 + 3], 1);
-    assert_eq!(state.held(3), Held::of(&sending(Home, 1, 0, 9, 10)));
+    assert_eq!((state.count(0), state.count(1)), (4, 4));
+    let head = 0x0201_0000_0001_0000;
+    assert_eq!(state.held(FAR + 3), [head, u64::MAX, 2, 1 << 56]);
+    assert_eq!(state.held(3), held(&sending(Home, 1, 0, 9, 10)));
     let mut state = traded_home();
     let record = arrival(Home, 0, 1, 0, 2);
     assert_eq!(state.check_record(&record.bytes()), Passed);
-    assert_eq!(state.count, 4);
-    assert_eq!(state.held(3), Held::of(&record));
+    assert_eq!(state.count(0), 4);
+    assert_eq!(state.held(3), held(&record));
 }
 
 /// Puts anything at and beyond the counts.
 fn junk(state: &mut PairState) {
     let mut rng = Rng::new(4);
     for ledger in 0..2 {
-        for entry in state.counts[ledger]..512 {
-            let held = Held {
-                kind: rng.byte(),
-                ledger: rng.byte(),
-                sender: rng.word() as u16,
-                receiver: rng.word() as u16,
-                // One of the numbers in use, among others.
-                number: rng.pick(&[6, 7, 8, 0, u64::MAX]),
-                amount: rng.word(),
-                verdict: rng.byte(),
-            };
-            state.put_held(512 * ledger + entry, &held);
+        for place in state.count(ledger) as usize..512 {
+            // One of the numbers in use, among others.
+            let number = rng.pick(&[6, 7, 8, 0, u64::MAX]);
+            let held = [rng.word(), number, rng.word(), rng.word()];
+            state.put_held(FAR * ledger + place, held);
         }
     }
 }
@@ -287,27 +411,21 @@ fn entries_beyond_the_counts_stay() {
     );
     assert!(state == before);
     assert_eq!(state.check_list(&bytes), Passed);
-    assert_eq!(state.counts, [6, 3]);
+    assert_eq!((state.count(0), state.count(1)), (6, 3));
     for entry in (0..1_024).filter(|entry| ![4, 5].contains(entry)) {
         assert_eq!(state.held(entry), before.held(entry));
     }
-    assert_eq!(state.held(4), Held::of(&list[0]));
-    assert_eq!(state.held(5), Held::of(&list[1]));
-    assert_eq!(state.balances, before.balances);
-    assert_eq!(state.supply, before.supply);
+    assert_eq!(state.held(4), held(&list[0]));
+    assert_eq!(state.held(5), held(&list[1]));
+    assert_eq!(state.words[4_096..4_211], before.words[4_096..4_211]);
 }
 
 #[test]
 fn entries_beyond_the_count_of_the_guard_stay() {
     let mut state = traded_home();
-    let odd = Held {
-        kind: 77,
-        number: 6,
-        amount: u64::MAX,
-        ..Held::ZERO
-    };
+    let odd = [77 << 56, 6, u64::MAX, 0];
     for entry in 3..512 {
-        state.put_held(entry, &odd);
+        state.put_held(entry, odd);
     }
     let before = state.clone();
     assert_eq!(state.places_left(), (Passed, 509));
@@ -317,120 +435,203 @@ fn entries_beyond_the_count_of_the_guard_stay() {
     );
     assert!(state == before);
     assert_eq!(state.check_record(&local(Home, 0, 0, 5, 1).bytes()), Passed);
-    assert_eq!(state.count, 4);
+    assert_eq!(state.count(0), 4);
     assert!((4..512).all(|entry| state.held(entry) == odd));
+}
+
+/// A sending stands beyond the count, where no arrival finds it; an arrival
+/// there lets no sending land, and a number there is not used.
+#[test]
+fn entries_beyond_the_counts_are_not_looked_at() {
+    let mut state = traded();
+    state.put_held(4, held(&sending(Home, 0, 0, 30, 2)));
+    state.put_held(
+        FAR + 3,
+        held(&sending(Home, 1, 0, 9, 10).matching_arrival()),
+    );
+    assert_eq!(state.figures(), traded().figures());
+    let unsent = arrival(Far, 0, 0, 30, 2).bytes();
+    assert_eq!(state.check_record(&unsent), refused(31));
+    assert_eq!(
+        state.check_record(&local(Home, 0, 0, 30, 1).bytes()),
+        Passed
+    );
+    let arrived = sending(Home, 1, 0, 9, 10).matching_arrival().bytes();
+    assert_eq!(state.check_record(&arrived), Passed);
 }
 
 #[test]
 fn counts_out_of_bounds() {
-    for wrong in [0, 57, 112, usize::MAX] {
+    for wrong in [0, 57, 112, 65_535, 1 << 32, (1 << 32) + 2, u64::MAX] {
         for ledger in [0, 1] {
-            assert_pair_refused(|state| state.accounts[ledger] = wrong);
+            assert_pair_refused(put(Field::Accounts, ledger, wrong));
+            assert_home_refused(put(Field::Accounts, ledger, wrong));
         }
-        assert_home_refused(|state| state.homes = wrong);
-        assert_home_refused(|state| state.fars = wrong);
     }
-    for wrong in [513, 514, 1_024, usize::MAX] {
+    for wrong in [
+        513,
+        514,
+        1_024,
+        1 << 32,
+        (1 << 32) + 3,
+        (1 << 63) + 3,
+        u64::MAX,
+    ] {
         for ledger in [0, 1] {
-            assert_pair_refused(|state| state.counts[ledger] = wrong);
+            assert_pair_refused(put(Field::Counts, ledger, wrong));
         }
-        assert_home_refused(|state| state.count = wrong);
+        assert_home_refused(put(Field::Counts, 0, wrong));
     }
 }
 
 #[test]
 fn forged_pair_states() {
-    assert_pair_refused(|state| state.supply += 1);
-    assert_pair_refused(|state| state.supply = u64::MAX);
-    assert_pair_refused(|state| state.balances[0] += 1);
-    assert_pair_refused(|state| state.balances[56] -= 1);
+    assert_pair_refused(|state| more(state, Field::Supply, 0, 1));
+    assert_pair_refused(put(Field::Supply, 0, u64::MAX));
+    assert_pair_refused(|state| more(state, Field::Balances, 0, 1));
+    assert_pair_refused(|state| less(state, Field::Balances, 56, 1));
     // Sums agree, but not within the open accounts.
-    assert_pair_refused(|state| {
-        state.balances[0] -= 1;
-        state.balances[2] += 1;
-    });
-    assert_pair_refused(|state| {
-        state.balances[0] -= 1;
-        state.balances[111] += 1;
-    });
+    for beyond in [2, 55, 57, 111] {
+        assert_pair_refused(|state| {
+            less(state, Field::Balances, 0, 1);
+            more(state, Field::Balances, beyond, 1);
+        });
+    }
     // Sums agree modulo 2^64.
     assert_pair_refused(|state| {
-        state.balances[0] += 1 << 63;
-        state.balances[1] += 1 << 63;
+        more(state, Field::Balances, 0, 1 << 63);
+        more(state, Field::Balances, 1, 1 << 63);
     });
     // The supply agrees, but is too high.
     assert_pair_refused(|state| {
-        state.balances[0] += (1 << 63) - state.supply;
-        state.supply = 1 << 63;
+        let high = (1 << 63) - state.supply();
+        more(state, Field::Balances, 0, high);
+        more(state, Field::Supply, 0, high);
     });
-    assert_pair_refused(|state| state.numbers[0] = 7);
-    assert_pair_refused(|state| state.kinds[0] = 0);
-    assert_pair_refused(|state| state.kinds[0] = 4);
-    assert_pair_refused(|state| state.ledgers[0] = 1);
-    assert_pair_refused(|state| state.ledgers[512] = 0);
-    assert_pair_refused(|state| state.verdicts[0] = 0);
-    assert_pair_refused(|state| state.verdicts[0] = 2);
-    assert_pair_refused(|state| state.amounts[0] = 0);
-    assert_pair_refused(|state| state.amounts[0] = 1 << 63);
-    assert_pair_refused(|state| state.senders[0] = 2);
-    assert_pair_refused(|state| state.receivers[0] = 65_535);
+    assert_pair_refused(put(Field::Numbers, 0, 7));
+    assert_pair_refused(put(Field::Ledgers, 0, 1));
+    assert_pair_refused(put(Field::Ledgers, FAR, 0));
+    assert_pair_refused(put(Field::Senders, 0, 2));
     // The far ledger's first record is an arrival: it keeps its sending.
-    assert_pair_refused(|state| state.amounts[512] += 1);
-    assert_pair_refused(|state| state.numbers[512] = 77);
+    assert_pair_refused(|state| more(state, Field::Amounts, FAR, 1));
+    assert_pair_refused(put(Field::Numbers, FAR, 77));
     // One more record than there is: zeros do not read as one.
-    assert_pair_refused(|state| state.counts[0] += 1);
+    assert_pair_refused(|state| more(state, Field::Counts, 0, 1));
 }
 
 #[test]
 fn forged_home_states() {
-    assert_home_refused(|state| state.supply += 1);
-    assert_home_refused(|state| state.pool += 1);
-    assert_home_refused(|state| state.balances[1] -= 1);
+    assert_home_refused(|state| more(state, Field::Supply, 0, 1));
+    assert_home_refused(|state| more(state, Field::Pool, 0, 1));
+    assert_home_refused(|state| less(state, Field::Balances, 1, 1));
+    for beyond in [2, 55] {
+        assert_home_refused(|state| {
+            less(state, Field::Balances, 0, 1);
+            more(state, Field::Balances, beyond, 1);
+        });
+    }
     assert_home_refused(|state| {
-        state.balances[0] -= 1;
-        state.balances[55] += 1;
+        more(state, Field::Balances, 0, 1 << 63);
+        more(state, Field::Pool, 0, 1 << 63);
     });
     assert_home_refused(|state| {
-        state.balances[0] += 1 << 63;
-        state.pool += 1 << 63;
+        let high = (1 << 63) - state.supply();
+        more(state, Field::Pool, 0, high);
+        more(state, Field::Supply, 0, high);
     });
-    assert_home_refused(|state| {
-        state.pool += (1 << 63) - state.supply;
-        state.supply = 1 << 63;
-    });
-    assert_home_refused(|state| state.numbers[2] = 7);
-    assert_home_refused(|state| state.kinds[1] = 9);
-    assert_home_refused(|state| state.ledgers[1] = 1);
-    assert_home_refused(|state| state.verdicts[2] = 0);
-    assert_home_refused(|state| state.amounts[2] = 0);
-    assert_home_refused(|state| state.receivers[1] = 1);
-    assert_home_refused(|state| state.count += 1);
+    assert_home_refused(put(Field::Numbers, 2, 7));
+    assert_home_refused(put(Field::Kinds, 1, 9));
+    assert_home_refused(put(Field::Ledgers, 1, 1));
+    assert_home_refused(put(Field::Receivers, 1, 1));
+    assert_home_refused(|state| more(state, Field::Counts, 0, 1));
+}
+
+/// What no held record may have: none of these alters a sum.
+#[test]
+fn forged_held_records() {
+    let values = [
+        (Field::Kinds, &[0, 4, 255][..]),
+        (Field::Ledgers, &[2, 255]),
+        (Field::Senders, &[2, 256, 65_535]),
+        (Field::Receivers, &[2, 256, 65_535]),
+        (Field::HeadZeros, &[1, 0x80, 0x0100, 0x8000]),
+        (Field::Amounts, &[0, 1 << 63, u64::MAX]),
+        (Field::Verdicts, &[0, 2, 255]),
+        (
+            Field::TailZeros,
+            &[
+                1,
+                1 << 8,
+                1 << 16,
+                1 << 24,
+                1 << 32,
+                1 << 40,
+                1 << 48,
+                1 << 55,
+            ],
+        ),
+    ];
+    for (field, values) in values {
+        for &value in values {
+            // A local, both times.
+            assert_pair_refused(put(field, 0, value));
+            assert_home_refused(put(field, 0, value));
+        }
+    }
+}
+
+/// A sending that differs from what its arrival wants in one byte alone: its
+/// number has arrived all the same, so that no sum is altered but for the
+/// number, which is then in flight.
+#[test]
+fn a_held_arrival_wants_its_sending() {
+    for (arrival, sent) in [(FAR, 1), (2, FAR + 1)] {
+        assert_eq!(traded().get(Field::Kinds, arrival), 3);
+        assert_eq!(traded().get(Field::Kinds, sent), 2);
+        for byte in 0..32 {
+            for bit in 0..8 {
+                assert_pair_refused(|state| {
+                    let mut bytes = bytes_of(state.held(sent));
+                    bytes[byte] ^= 1 << bit;
+                    state.put_held(sent, words_of(&bytes));
+                    if (8..16).contains(&byte) {
+                        let amount = state.get(Field::Amounts, sent);
+                        more(state, Field::Supply, 0, amount);
+                    }
+                });
+            }
+        }
+        for kind in [1, 3] {
+            assert_pair_refused(put(Field::Kinds, sent, kind));
+        }
+    }
 }
 
 #[test]
 fn forged_states_that_are_accepted() {
     let record = local(Home, 0, 0, 77, 1).bytes();
     let alterations: [fn(&mut PairState); 7] = [
-        |state| state.balances.swap(0, 1),
+        |state| state.balances_mut(0).swap(0, 1),
         |state| {
-            state.balances[0] += 3;
-            state.balances[56] -= 3;
+            state.balances_mut(0)[0] += 3;
+            state.balances_mut(1)[0] -= 3;
         },
-        |state| state.amounts[0] = MAX_AMOUNT,
+        |state| state.set(Field::Amounts, 0, MAX_AMOUNT),
         |state| {
             for entry in [0, 2] {
-                state.put_held(entry, &traded().held(2 - entry));
+                state.put_held(entry, traded().held(2 - entry));
             }
         },
         |state| {
-            state.balances[1] += MAX_AMOUNT - state.supply;
-            state.supply = MAX_AMOUNT;
+            let high = MAX_AMOUNT - state.supply();
+            state.balances_mut(0)[1] += high;
+            state.words[PairState::SUPPLY] += high;
         },
-        |state| state.accounts[1] = 56,
+        |state| state.set(Field::Accounts, 1, 56),
         |state| {
             // The far sending in flight never was.
-            state.counts[1] -= 1;
-            state.balances[56] += 3;
+            less(state, Field::Counts, 1, 1);
+            state.balances_mut(1)[0] += 3;
         },
     ];
     for alter in alterations {
@@ -440,9 +641,53 @@ fn forged_states_that_are_accepted() {
     }
     // The guard looks for no sending, and asks nothing of the amounts.
     let mut state = traded_home();
-    state.kinds[0] = 3;
-    state.amounts[1] = 5;
+    state.set(Field::Kinds, 0, 3);
+    state.set(Field::Amounts, 1, 5);
     assert_eq!(state.check_record(&record), Passed);
+}
+
+/// The calls in place and those by value, on a passed and a refused record,
+/// a passed and a refused list.
+#[test]
+fn calls_in_place_are_those_by_value() {
+    let own = |number| local(Home, 0, 1, number, 1).bytes();
+    let list = [own(20), own(21)].concat();
+    let late = [own(20), own(20)].concat();
+    for (pair, home) in [
+        (traded(), traded_home()),
+        (Box::new(PairState::ZERO), Box::new(HomeState::ZERO)),
+    ] {
+        for bytes in [&own(20)[..], &own(6), &list, &late, &list[..40], &[]] {
+            let right = Oracle.pair_check_record(&pair, bytes);
+            let mut state = pair.clone();
+            assert_eq!(
+                (Oracle.pair_take(&mut state, bytes), &state),
+                (right.0, &right.1)
+            );
+            assert_eq!(right.0.passed(), pair != state);
+            let right = Oracle.pair_check_list(&pair, bytes);
+            let mut state = pair.clone();
+            assert_eq!(
+                (Oracle.pair_take_list(&mut state, bytes), &state),
+                (right.0, &right.1)
+            );
+            assert!(right.0.passed() || pair == state);
+            let right = Oracle.home_check_record(&home, bytes);
+            let mut state = home.clone();
+            assert_eq!(
+                (Oracle.home_take(&mut state, bytes), &state),
+                (right.0, &right.1)
+            );
+            assert_eq!(right.0.passed(), home != state);
+            let right = Oracle.home_check_list(&home, bytes);
+            let mut state = home.clone();
+            assert_eq!(
+                (Oracle.home_take_list(&mut state, bytes), &state),
+                (right.0, &right.1)
+            );
+            assert!(right.0.passed() || home == state);
+        }
+    }
 }
 
 #[test]
@@ -459,10 +704,10 @@ fn balances_of_accounts() {
     ] {
         assert_eq!(state.balance(ledger, account), (refused(22), 0));
     }
-    assert_eq!(state.balance(0, 1), (Passed, state.balances[1]));
-    assert_eq!(state.balance(1, 0), (Passed, state.balances[56]));
+    assert_eq!(state.balance(0, 1), (Passed, state.balances(0)[1]));
+    assert_eq!(state.balance(1, 0), (Passed, state.balances(1)[0]));
     let state = traded_home();
-    assert_eq!(state.balance(1), (Passed, state.balances[1]));
+    assert_eq!(state.balance(1), (Passed, state.balances(0)[1]));
     for account in [2, 55, 56, 65_535] {
         assert_eq!(state.balance(account), (refused(22), 0));
     }
@@ -498,9 +743,9 @@ fn places_left_of_both_ledgers() {
     assert_eq!(state.check_list(&bytes), refused(24));
     assert_eq!(state.places_left(), (Passed, [506, 508]));
     // A held record less leaves a place more, as far as it is accepted.
-    state.counts[0] -= 1;
+    less(&mut *state, Field::Counts, 0, 1);
     assert_eq!(state.places_left(), (refused(3), [0, 0]));
-    state.balances[0] += 1;
+    state.balances_mut(0)[0] += 1;
     assert_eq!(state.places_left(), (Passed, [507, 508]));
 }
 
@@ -528,9 +773,9 @@ fn places_left_down_to_full_tables() {
     assert_eq!(state.check_record(&far(511)), Passed);
     assert_eq!(state.places_left(), (Passed, [0, 0]));
     // A full table of a refused state is told as zeros too, and refused.
-    state.supply -= 1;
+    state.words[PairState::SUPPLY] -= 1;
     assert_eq!(state.places_left(), (refused(3), [0, 0]));
-    guard.pool += 1;
+    guard.words[HomeState::FAR_DUE] += 1;
     assert_eq!(guard.places_left(), (refused(3), 0));
 }
 
@@ -548,7 +793,7 @@ fn places_left_of_the_guard() {
     );
     assert_eq!(state.places_left(), (Passed, 508));
     // The guard asks nothing of what its records have moved.
-    state.count -= 1;
+    less(&mut *state, Field::Counts, 0, 1);
     assert_eq!(state.places_left(), (Passed, 509));
 }
 

@@ -4,16 +4,18 @@
 use std::fmt::Debug;
 use std::hint::black_box;
 
-use super::fields::{differing, runs, shown};
+use super::fields::{differing, runs, shown, Fields};
 use super::report::{Difference, Report, KEPT};
 use super::{Oracle, Part};
 use crate::answer::Answer;
 use crate::journal::Balances;
 use crate::record::{Held, RECORD};
-use crate::states::{HomeState, PairState};
+use crate::states::{HomeState, PairState, State};
 
-/// The bytes around a lent output, which must stay as they are.
+/// The bytes around a lent output, and the words around a state that is lent
+/// to be altered; they must stay as they are.
 const MARGIN: usize = 64;
+const MARGIN_WORDS: [u64; 8] = [0xa5a5_a5a5_a5a5_a5a5; 8];
 
 /// The part under comparison and the library. As a part it answers what the
 /// library answers.
@@ -112,6 +114,29 @@ impl<'a> Both<'a> {
         right
     }
 
+    /// Makes a call on both that alters a state in place, and leaves in it what
+    /// the library does.
+    fn take<const N: usize>(
+        &mut self,
+        name: &'static str,
+        state: &mut State<N>,
+        bytes: &[u8],
+        make: impl Fn(&mut dyn Part, &mut State<N>, &[u8]) -> Answer,
+    ) -> Answer
+    where
+        State<N>: Fields,
+    {
+        let lent = (&*state, bytes);
+        let (answer, taken) = self.call(name, lent, &[], |part, state, bytes| {
+            let mut taken = Box::new(Taken::of(state));
+            let answer = make(part, &mut taken.state, bytes);
+            // The words around it are looked at anew too.
+            (answer, black_box(taken))
+        });
+        *state = taken.state;
+        answer
+    }
+
     fn count(&mut self, name: &'static str, answer: Answer) {
         let report = &mut self.report;
         report.calls += 1;
@@ -187,23 +212,16 @@ impl Lent for Held {
     }
 }
 
-impl Lent for PairState {
-    fn copy(&self) -> Box<PairState> {
+impl<const N: usize> Lent for State<N>
+where
+    State<N>: Fields,
+{
+    fn copy(&self) -> Box<State<N>> {
         Box::new(self.clone())
     }
 
     fn shown(&self) -> String {
-        format!("  pair state:\n{}", shown(self))
-    }
-}
-
-impl Lent for HomeState {
-    fn copy(&self) -> Box<HomeState> {
-        Box::new(self.clone())
-    }
-
-    fn shown(&self) -> String {
-        format!("  home state:\n{}", shown(self))
+        format!("  state of {N} words:\n{}", shown(self))
     }
 }
 
@@ -237,15 +255,44 @@ handed_whole!(
     [u8; RECORD]
 );
 
-impl Handed for Box<PairState> {
+impl<const N: usize> Handed for Box<State<N>>
+where
+    State<N>: Fields,
+{
     fn differing(&self, got: &Self) -> Vec<String> {
         differing(&**self, &**got)
     }
 }
 
-impl Handed for Box<HomeState> {
+/// A state that is lent to be altered, with the words around it.
+#[derive(PartialEq)]
+#[repr(C)]
+struct Taken<const N: usize> {
+    before: [u64; 8],
+    state: State<N>,
+    after: [u64; 8],
+}
+
+impl<const N: usize> Taken<N> {
+    fn of(state: &State<N>) -> Taken<N> {
+        Taken {
+            before: MARGIN_WORDS,
+            state: state.clone(),
+            after: MARGIN_WORDS,
+        }
+    }
+}
+
+impl<const N: usize> Handed for Box<Taken<N>>
+where
+    State<N>: Fields,
+{
     fn differing(&self, got: &Self) -> Vec<String> {
-        differing(&**self, &**got)
+        let mut found = differing(&self.state, &got.state);
+        if (got.before, got.after) != (MARGIN_WORDS, MARGIN_WORDS) {
+            found.push("words around the state were altered".to_string());
+        }
+        found
     }
 }
 
@@ -297,6 +344,18 @@ impl Part for Both<'_> {
         })
     }
 
+    fn pair_take(&mut self, state: &mut PairState, bytes: &[u8]) -> Answer {
+        self.take("pair_take", state, bytes, |part, state, bytes| {
+            part.pair_take(state, bytes)
+        })
+    }
+
+    fn pair_take_list(&mut self, state: &mut PairState, bytes: &[u8]) -> Answer {
+        self.take("pair_take_list", state, bytes, |part, state, bytes| {
+            part.pair_take_list(state, bytes)
+        })
+    }
+
     fn pair_figures(&mut self, state: &PairState) -> (Answer, [u64; 3]) {
         self.call("pair_figures", (state, &()), &[], |part, state, _| {
             part.pair_figures(state)
@@ -334,6 +393,18 @@ impl Part for Both<'_> {
         let lent = (state, bytes);
         self.call("home_check_list", lent, &[], |part, state, bytes| {
             part.home_check_list(state, bytes)
+        })
+    }
+
+    fn home_take(&mut self, state: &mut HomeState, bytes: &[u8]) -> Answer {
+        self.take("home_take", state, bytes, |part, state, bytes| {
+            part.home_take(state, bytes)
+        })
+    }
+
+    fn home_take_list(&mut self, state: &mut HomeState, bytes: &[u8]) -> Answer {
+        self.take("home_take_list", state, bytes, |part, state, bytes| {
+            part.home_take_list(state, bytes)
         })
     }
 

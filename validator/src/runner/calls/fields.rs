@@ -1,7 +1,8 @@
 //! The fields of a state by name and index, so that they can be altered at
-//! will, shown and compared one by one.
+//! will, shown and compared one by one. Together they are all its words.
 
-use crate::states::{HomeState, PairState};
+use crate::rules::{CAPACITY, MAX_ACCOUNTS};
+use crate::states::{Layout, State, HELD};
 
 #[derive(Clone, Copy, Debug, PartialEq, Eq)]
 pub enum Field {
@@ -10,171 +11,155 @@ pub enum Field {
     Accounts,
     Counts,
     Balances,
-    Numbers,
-    Amounts,
-    Senders,
-    Receivers,
     Kinds,
     Ledgers,
+    Senders,
+    Receivers,
+    /// Bytes 6-7 of held records, which must be zero.
+    HeadZeros,
+    Numbers,
+    Amounts,
     Verdicts,
+    /// Bytes 25-31 of held records, which must be zero.
+    TailZeros,
 }
 
+/// All fields; the pair book does not have the first one.
+const FIELDS: [Field; 14] = [
+    Field::Pool,
+    Field::Supply,
+    Field::Accounts,
+    Field::Counts,
+    Field::Balances,
+    Field::Kinds,
+    Field::Ledgers,
+    Field::Senders,
+    Field::Receivers,
+    Field::HeadZeros,
+    Field::Numbers,
+    Field::Amounts,
+    Field::Verdicts,
+    Field::TailZeros,
+];
+
 impl Field {
-    /// The columns of held records.
-    pub const COLUMNS: [Field; 7] = [
-        Field::Numbers,
-        Field::Amounts,
-        Field::Senders,
-        Field::Receivers,
+    /// The fields of held records.
+    pub const COLUMNS: [Field; 9] = [
         Field::Kinds,
         Field::Ledgers,
+        Field::Senders,
+        Field::Receivers,
+        Field::HeadZeros,
+        Field::Numbers,
+        Field::Amounts,
         Field::Verdicts,
+        Field::TailZeros,
     ];
 
     pub fn is_column(self) -> bool {
-        Field::COLUMNS.contains(&self)
+        self.bytes().is_some()
     }
+
+    /// For a field of held records, its first byte among the 32 and how many
+    /// it has.
+    fn bytes(self) -> Option<(usize, usize)> {
+        match self {
+            Field::Kinds => Some((0, 1)),
+            Field::Ledgers => Some((1, 1)),
+            Field::Senders => Some((2, 2)),
+            Field::Receivers => Some((4, 2)),
+            Field::HeadZeros => Some((6, 2)),
+            Field::Numbers => Some((8, 8)),
+            Field::Amounts => Some((16, 8)),
+            Field::Verdicts => Some((24, 1)),
+            Field::TailZeros => Some((25, 7)),
+            _ => None,
+        }
+    }
+}
+
+/// Where an entry stands: its word, and the bits of it.
+struct Spot {
+    word: usize,
+    shift: usize,
+    mask: u64,
 }
 
 /// A state whose fields are reached by name and index. The entries of home
 /// come first, then those of far.
-pub trait Fields {
+pub trait Fields: Layout {
     const FIELDS: &'static [Field];
 
-    /// The ledgers whose balances and records the state holds.
-    const LEDGERS: usize;
+    fn words(&self) -> &[u64];
+
+    fn words_mut(&mut self) -> &mut [u64];
 
     /// The entries of a field.
-    fn length(field: Field) -> usize;
-
-    fn get(&self, field: Field, index: usize) -> u64;
-
-    /// Sets an entry to as much of the value as it can hold.
-    fn set(&mut self, field: Field, index: usize, value: u64);
-}
-
-impl Fields for PairState {
-    const FIELDS: &'static [Field] = &[
-        Field::Supply,
-        Field::Accounts,
-        Field::Counts,
-        Field::Balances,
-        Field::Numbers,
-        Field::Amounts,
-        Field::Senders,
-        Field::Receivers,
-        Field::Kinds,
-        Field::Ledgers,
-        Field::Verdicts,
-    ];
-
-    const LEDGERS: usize = 2;
-
     fn length(field: Field) -> usize {
         match field {
             Field::Supply => 1,
-            Field::Pool => 0,
-            Field::Accounts | Field::Counts => 2,
-            Field::Balances => PairState::ZERO.balances.len(),
-            _ => PairState::ZERO.numbers.len(),
+            Field::Pool => usize::from(Self::POOL.is_some()),
+            Field::Accounts => 2,
+            Field::Counts => Self::LEDGERS,
+            Field::Balances => Self::LEDGERS * MAX_ACCOUNTS,
+            _ => Self::LEDGERS * CAPACITY,
         }
     }
 
     fn get(&self, field: Field, index: usize) -> u64 {
-        match field {
-            Field::Supply => self.supply,
-            Field::Pool => 0,
-            Field::Accounts => self.accounts[index] as u64,
-            Field::Counts => self.counts[index] as u64,
-            Field::Balances => self.balances[index],
-            Field::Numbers => self.numbers[index],
-            Field::Amounts => self.amounts[index],
-            Field::Senders => u64::from(self.senders[index]),
-            Field::Receivers => u64::from(self.receivers[index]),
-            Field::Kinds => u64::from(self.kinds[index]),
-            Field::Ledgers => u64::from(self.ledgers[index]),
-            Field::Verdicts => u64::from(self.verdicts[index]),
-        }
+        spot::<Self>(field, index)
+            .map_or(0, |spot| self.words()[spot.word] >> spot.shift & spot.mask)
     }
 
+    /// Sets an entry to as much of the value as it can hold.
     fn set(&mut self, field: Field, index: usize, value: u64) {
-        match field {
-            Field::Supply => self.supply = value,
-            Field::Pool => (),
-            Field::Accounts => self.accounts[index] = value as usize,
-            Field::Counts => self.counts[index] = value as usize,
-            Field::Balances => self.balances[index] = value,
-            Field::Numbers => self.numbers[index] = value,
-            Field::Amounts => self.amounts[index] = value,
-            Field::Senders => self.senders[index] = value as u16,
-            Field::Receivers => self.receivers[index] = value as u16,
-            Field::Kinds => self.kinds[index] = value as u8,
-            Field::Ledgers => self.ledgers[index] = value as u8,
-            Field::Verdicts => self.verdicts[index] = value as u8,
+        if let Some(Spot { word, shift, mask }) = spot::<Self>(field, index) {
+            let word = &mut self.words_mut()[word];
+            *word = *word & !(mask << shift) | (value & mask) << shift;
         }
     }
 }
 
-impl Fields for HomeState {
-    const FIELDS: &'static [Field] = &[
-        Field::Supply,
-        Field::Pool,
-        Field::Accounts,
-        Field::Counts,
-        Field::Balances,
-        Field::Numbers,
-        Field::Amounts,
-        Field::Senders,
-        Field::Receivers,
-        Field::Kinds,
-        Field::Ledgers,
-        Field::Verdicts,
-    ];
+/// The spot of an entry, if the state has the field.
+fn spot<S: Fields + ?Sized>(field: Field, index: usize) -> Option<Spot> {
+    let first = match field {
+        Field::Supply => S::SUPPLY,
+        Field::Pool => S::POOL?,
+        Field::Accounts => S::ACCOUNTS,
+        Field::Counts => S::COUNTS,
+        Field::Balances => S::BALANCES,
+        _ => 0,
+    };
+    let Some((byte, bytes)) = field.bytes() else {
+        let word = first + index;
+        return Some(Spot {
+            word,
+            shift: 0,
+            mask: u64::MAX,
+        });
+    };
+    Some(Spot {
+        word: index * HELD + byte / 8,
+        shift: 64 - 8 * (byte % 8 + bytes),
+        mask: u64::MAX >> (64 - 8 * bytes),
+    })
+}
 
-    const LEDGERS: usize = 1;
+impl<const N: usize> Fields for State<N>
+where
+    State<N>: Layout,
+{
+    const FIELDS: &'static [Field] = match Self::POOL {
+        Some(_) => &FIELDS,
+        None => FIELDS.split_at(1).1,
+    };
 
-    fn length(field: Field) -> usize {
-        match field {
-            Field::Supply | Field::Pool | Field::Counts => 1,
-            Field::Accounts => 2,
-            Field::Balances => HomeState::ZERO.balances.len(),
-            _ => HomeState::ZERO.numbers.len(),
-        }
+    fn words(&self) -> &[u64] {
+        &self.words
     }
 
-    fn get(&self, field: Field, index: usize) -> u64 {
-        match field {
-            Field::Supply => self.supply,
-            Field::Pool => self.pool,
-            Field::Accounts => [self.homes, self.fars][index] as u64,
-            Field::Counts => self.count as u64,
-            Field::Balances => self.balances[index],
-            Field::Numbers => self.numbers[index],
-            Field::Amounts => self.amounts[index],
-            Field::Senders => u64::from(self.senders[index]),
-            Field::Receivers => u64::from(self.receivers[index]),
-            Field::Kinds => u64::from(self.kinds[index]),
-            Field::Ledgers => u64::from(self.ledgers[index]),
-            Field::Verdicts => u64::from(self.verdicts[index]),
-        }
-    }
-
-    fn set(&mut self, field: Field, index: usize, value: u64) {
-        match field {
-            Field::Supply => self.supply = value,
-            Field::Pool => self.pool = value,
-            Field::Accounts if index == 0 => self.homes = value as usize,
-            Field::Accounts => self.fars = value as usize,
-            Field::Counts => self.count = value as usize,
-            Field::Balances => self.balances[index] = value,
-            Field::Numbers => self.numbers[index] = value,
-            Field::Amounts => self.amounts[index] = value,
-            Field::Senders => self.senders[index] = value as u16,
-            Field::Receivers => self.receivers[index] = value as u16,
-            Field::Kinds => self.kinds[index] = value as u8,
-            Field::Ledgers => self.ledgers[index] = value as u8,
-            Field::Verdicts => self.verdicts[index] = value as u8,
-        }
+    fn words_mut(&mut self) -> &mut [u64] {
+        &mut self.words
     }
 }
 

@@ -276,7 +276,7 @@ fn invented_arrival(trader: &mut Trader, state: &HomeState) -> Bytes {
     let number = trader.fresh_number(Ledger::Home);
     let sender = trader.account(Ledger::Far);
     let receiver = trader.account(Ledger::Home);
-    let due = state.pool;
+    let due = state.pool();
     let amount = match trader.rng.below(8) {
         0 => due,
         1 => due.saturating_add(1),
@@ -291,7 +291,7 @@ fn invented_arrival(trader: &mut Trader, state: &HomeState) -> Bytes {
 /// nothing, or by one too much.
 pub fn due_list(trader: &mut Trader, state: &HomeState) -> Vec<u8> {
     let mut bytes = Vec::new();
-    let mut due = state.pool;
+    let mut due = state.pool();
     for _ in 0..trader.rng.below(3) {
         if let Some(sent) = trader.lawful_sending(Ledger::Home) {
             trader.try_out(&sent.bytes());
@@ -315,7 +315,7 @@ pub fn due_list(trader: &mut Trader, state: &HomeState) -> Vec<u8> {
 /// A home record around the balance that stands in the state.
 fn at_balance(trader: &mut Trader, state: &HomeState) -> Bytes {
     let sender = trader.account(Ledger::Home);
-    let balance = state.balances[usize::from(sender) % MAX_ACCOUNTS];
+    let balance = state.balances(0)[usize::from(sender) % MAX_ACCOUNTS];
     let amount = trader
         .rng
         .pick(&[balance, balance, balance.saturating_add(1), 1]);

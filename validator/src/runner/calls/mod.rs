@@ -19,10 +19,11 @@ use crate::record::{Held, RECORD};
 use crate::states::{HomeState, PairState};
 use families::FAMILIES;
 
-/// A part with all calls of paper 01, on plain numbers, and with the places
-/// left, which that paper does not have. Lent things stay as they are; a state
-/// comes back beside the answer, refused or passed. There are no ready-made
-/// methods, so that none is left out unseen.
+/// A part with all calls of paper 01, on plain words and numbers, and with the
+/// places left, which that paper does not have. Lent things stay as they are; a
+/// state comes back beside the answer, refused or passed. Only the calls that
+/// take are lent a state to alter, and a refusal leaves each word of it as it
+/// was. There are no ready-made methods, so that none is left out unseen.
 pub trait Part {
     /// Opens a pair book: 1, 2. The state of zeros beside a refusal.
     fn pair_open(&mut self, home: &[u64], far: &[u64]) -> (Answer, Box<PairState>);
@@ -32,6 +33,12 @@ pub trait Part {
 
     /// A list of records: as one record, with the index of the refused one.
     fn pair_check_list(&mut self, state: &PairState, bytes: &[u8]) -> (Answer, Box<PairState>);
+
+    /// One record in place, with the answers of `pair_check_record`.
+    fn pair_take(&mut self, state: &mut PairState, bytes: &[u8]) -> Answer;
+
+    /// A list of records in place, with the answers of `pair_check_list`.
+    fn pair_take_list(&mut self, state: &mut PairState, bytes: &[u8]) -> Answer;
 
     /// Home total, far total and in flight: 3. Zeros beside a refusal.
     fn pair_figures(&mut self, state: &PairState) -> (Answer, [u64; 3]);
@@ -51,6 +58,12 @@ pub trait Part {
 
     /// A list of records: as one record, with the index of the refused one.
     fn home_check_list(&mut self, state: &HomeState, bytes: &[u8]) -> (Answer, Box<HomeState>);
+
+    /// One record in place, with the answers of `home_check_record`.
+    fn home_take(&mut self, state: &mut HomeState, bytes: &[u8]) -> Answer;
+
+    /// A list of records in place, with the answers of `home_check_list`.
+    fn home_take_list(&mut self, state: &mut HomeState, bytes: &[u8]) -> Answer;
 
     /// Home total and far due: 3. Zeros beside a refusal.
     fn home_figures(&mut self, state: &HomeState) -> (Answer, [u64; 2]);

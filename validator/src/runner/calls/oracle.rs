@@ -11,27 +11,27 @@ use crate::states::{HomeState, PairState};
 #[derive(Clone, Copy, Debug, Default)]
 pub struct Oracle;
 
-fn pair_copy(state: &PairState) -> Box<PairState> {
-    Box::new(state.clone())
-}
-
-fn home_copy(state: &HomeState) -> Box<HomeState> {
-    Box::new(state.clone())
-}
-
 impl Part for Oracle {
     fn pair_open(&mut self, home: &[u64], far: &[u64]) -> (Answer, Box<PairState>) {
         PairState::open(home, far)
     }
 
     fn pair_check_record(&mut self, state: &PairState, bytes: &[u8]) -> (Answer, Box<PairState>) {
-        let mut state = pair_copy(state);
+        let mut state = Box::new(state.clone());
         (state.check_record(bytes), state)
     }
 
     fn pair_check_list(&mut self, state: &PairState, bytes: &[u8]) -> (Answer, Box<PairState>) {
-        let mut state = pair_copy(state);
+        let mut state = Box::new(state.clone());
         (state.check_list(bytes), state)
+    }
+
+    fn pair_take(&mut self, state: &mut PairState, bytes: &[u8]) -> Answer {
+        state.check_record(bytes)
+    }
+
+    fn pair_take_list(&mut self, state: &mut PairState, bytes: &[u8]) -> Answer {
+        state.check_list(bytes)
     }
 
     fn pair_figures(&mut self, state: &PairState) -> (Answer, [u64; 3]) {
@@ -51,13 +51,21 @@ impl Part for Oracle {
     }
 
     fn home_check_record(&mut self, state: &HomeState, bytes: &[u8]) -> (Answer, Box<HomeState>) {
-        let mut state = home_copy(state);
+        let mut state = Box::new(state.clone());
         (state.check_record(bytes), state)
     }
 
     fn home_check_list(&mut self, state: &HomeState, bytes: &[u8]) -> (Answer, Box<HomeState>) {
-        let mut state = home_copy(state);
+        let mut state = Box::new(state.clone());
         (state.check_list(bytes), state)
+    }
+
+    fn home_take(&mut self, state: &mut HomeState, bytes: &[u8]) -> Answer {
+        state.check_record(bytes)
+    }
+
+    fn home_take_list(&mut self, state: &mut HomeState, bytes: &[u8]) -> Answer {
+        state.check_list(bytes)
     }
 
     fn home_figures(&mut self, state: &HomeState) -> (Answer, [u64; 2]) {

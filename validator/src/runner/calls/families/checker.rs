@@ -18,12 +18,14 @@ pub trait Checker {
 
     fn open(both: &mut Both, opening: &Opening) -> (Answer, Box<Self::State>);
 
+    /// One record, by value, and in place on a copy.
     fn check_record(
         both: &mut Both,
         state: &Self::State,
         bytes: &[u8],
     ) -> (Answer, Box<Self::State>);
 
+    /// A list, by value, and in place on a copy.
     fn check_list(both: &mut Both, state: &Self::State, bytes: &[u8])
         -> (Answer, Box<Self::State>);
 
@@ -59,11 +61,15 @@ impl Checker for Pair {
     }
 
     fn check_record(both: &mut Both, state: &PairState, bytes: &[u8]) -> (Answer, Box<PairState>) {
-        both.pair_check_record(state, bytes)
+        let handed = both.pair_check_record(state, bytes);
+        both.pair_take(&mut state.clone(), bytes);
+        handed
     }
 
     fn check_list(both: &mut Both, state: &PairState, bytes: &[u8]) -> (Answer, Box<PairState>) {
-        both.pair_check_list(state, bytes)
+        let handed = both.pair_check_list(state, bytes);
+        both.pair_take_list(&mut state.clone(), bytes);
+        handed
     }
 
     fn figures(both: &mut Both, state: &PairState) {
@@ -103,11 +109,15 @@ impl Checker for Home {
     }
 
     fn check_record(both: &mut Both, state: &HomeState, bytes: &[u8]) -> (Answer, Box<HomeState>) {
-        both.home_check_record(state, bytes)
+        let handed = both.home_check_record(state, bytes);
+        both.home_take(&mut state.clone(), bytes);
+        handed
     }
 
     fn check_list(both: &mut Both, state: &HomeState, bytes: &[u8]) -> (Answer, Box<HomeState>) {
-        both.home_check_list(state, bytes)
+        let handed = both.home_check_list(state, bytes);
+        both.home_take_list(&mut state.clone(), bytes);
+        handed
     }
 
     fn figures(both: &mut Both, state: &HomeState) {

@@ -1,26 +1,31 @@
-//! Forged states: good ones of all sizes with one field altered, with each pair
-//! of fields altered, with two or more altered so that they agree in some way,
-//! with anything beyond the counts, and states of no meaning at all; then a
-//! call on them.
+//! Forged states: good ones of all sizes with one field or word altered, with
+//! each pair of fields altered, with held records and counts forged in turn,
+//! with two or more fields altered so that they agree in some way, with anything
+//! beyond the counts, and states of no meaning at all; then a call on them.
 
+use super::beyond::{beyond_the_counts, tempted};
 use super::checker::{reached, Checker, Reached};
+use super::held::sweep_held;
 use super::sweeps::{sweep, sweep_pairs};
-use crate::record::MAX_AMOUNT;
+use crate::record::{Ledger, Record, MAX_AMOUNT};
 use crate::rules::{CAPACITY, MAX_ACCOUNTS};
+use crate::runner::build::local;
 use crate::runner::calls::fields::{Field, Fields};
 use crate::runner::calls::Both;
 use crate::runner::rng::Rng;
+use crate::states::{words_of, HELD};
 use std::ops::Range;
 
 /// The kinds of records, as they stand in a state.
-const LOCAL: u64 = 1;
-const SENDING: u64 = 2;
-const ARRIVAL: u64 = 3;
+pub(super) const LOCAL: u64 = 1;
+pub(super) const SENDING: u64 = 2;
+pub(super) const ARRIVAL: u64 = 3;
 
-/// The steps that a scenario goes on through the fields, and through their
-/// pairs.
+/// The steps that a scenario goes on through the fields, through their pairs,
+/// and through the forgeries of held records and counts.
 const SWEPT: u64 = 18;
 const PAIRS_SWEPT: u64 = 12;
+const HELD_SWEPT: u64 = 12;
 
 pub fn scenario<C: Checker>(both: &mut Both, rng: &mut Rng) {
     let base = reached::<C>(both, rng);
@@ -35,10 +40,19 @@ pub fn scenario<C: Checker>(both: &mut Both, rng: &mut Rng) {
         sweep_pairs(rng, &mut *branch.state, step, seed);
         call(both, rng, &mut branch);
     }
+    for step in steps(scenario, HELD_SWEPT) {
+        let mut branch = base.branch(rng);
+        sweep_held(rng, &mut *branch.state, step);
+        call(both, rng, &mut branch);
+    }
     for _ in 0..18 {
         let mut branch = base.branch(rng);
         forge(rng, &mut *branch.state);
         call(both, rng, &mut branch);
+    }
+    for _ in 0..2 {
+        let mut branch = base.branch(rng);
+        tempted(both, rng, &mut branch);
     }
 }
 
@@ -68,7 +82,8 @@ fn call<C: Checker>(both: &mut Both, rng: &mut Rng, forged: &mut Reached<C>) {
 
 fn forge<S: Fields>(rng: &mut Rng, state: &mut S) {
     match rng.below(20) {
-        0..=7 => one_field(rng, state),
+        0..=5 => one_field(rng, state),
+        6 | 7 => one_word(rng, state),
         8..=15 => agreeing_fields(rng, state),
         16 | 17 => beyond_the_counts(rng, state),
         18 => {
@@ -89,7 +104,7 @@ pub(super) fn accounts<S: Fields>(state: &S, ledger: usize) -> usize {
     (state.get(Field::Accounts, ledger) as usize).min(MAX_ACCOUNTS)
 }
 
-fn some_ledger<S: Fields>(rng: &mut Rng, _: &S) -> usize {
+pub(super) fn some_ledger<S: Fields>(rng: &mut Rng, _: &S) -> usize {
     rng.index(S::LEDGERS)
 }
 
@@ -125,7 +140,12 @@ fn some_entry<S: Fields>(rng: &mut Rng, state: &S, field: Field) -> usize {
 }
 
 /// The entry of a held record of a kind, if there is one.
-fn held_entry<S: Fields>(rng: &mut Rng, state: &S, ledger: usize, kind: u64) -> Option<usize> {
+pub(super) fn held_entry<S: Fields>(
+    rng: &mut Rng,
+    state: &S,
+    ledger: usize,
+    kind: u64,
+) -> Option<usize> {
     let count = count(state, ledger);
     if count == 0 {
         return None;
@@ -139,6 +159,12 @@ fn held_entry<S: Fields>(rng: &mut Rng, state: &S, ledger: usize, kind: u64) -> 
 /// The entry of an open account's balance.
 fn open_balance<S: Fields>(rng: &mut Rng, state: &S, ledger: usize) -> usize {
     ledger * MAX_ACCOUNTS + rng.index(accounts(state, ledger).max(1))
+}
+
+/// Writes a record at an entry.
+pub(super) fn put<S: Fields>(state: &mut S, entry: usize, record: &Record) {
+    let words = words_of(&record.bytes());
+    state.words_mut()[entry * HELD..][..HELD].copy_from_slice(&words);
 }
 
 fn add<S: Fields>(state: &mut S, field: Field, entry: usize, more: u64) {
@@ -164,6 +190,15 @@ fn one_field<S: Fields>(rng: &mut Rng, state: &mut S) {
     state.set(field, entry, value);
 }
 
+/// One word is altered, of a held record in use or any.
+fn one_word<S: Fields>(rng: &mut Rng, state: &mut S) {
+    let held = some_entry(rng, state, Field::Numbers) * HELD + rng.index(HELD);
+    let any = rng.index(state.words().len());
+    let word = rng.pick(&[held, held, any]);
+    let value = other_value(rng, state.words()[word]);
+    state.words_mut()[word] = value;
+}
+
 fn other_value(rng: &mut Rng, old: u64) -> u64 {
     let random = rng.word();
     let bit = 1 << rng.below(64);
@@ -176,9 +211,13 @@ fn other_value(rng: &mut Rng, old: u64) -> u64 {
         55,
         56,
         57,
+        255,
         511,
         512,
         513,
+        65_535,
+        1 << 32,
+        old ^ (1 << 32),
         old.wrapping_add(1),
         old.wrapping_add(1),
         old.wrapping_sub(1),
@@ -374,11 +413,7 @@ fn crossing_altered<S: Fields>(rng: &mut Rng, state: &mut S) {
         Field::Senders | Field::Receivers => rng.below(4),
         _ => other_value(rng, old),
     };
-    let number = state.get(Field::Numbers, arrival);
-    let other = (1 - ledger.min(1)) % S::LEDGERS;
-    let sending = (0..count(state, other))
-        .map(|place| other * CAPACITY + place)
-        .find(|&entry| entry != arrival && state.get(Field::Numbers, entry) == number);
+    let sending = under_number(state, arrival, (1 - ledger) % S::LEDGERS);
     match (sending, rng.below(4)) {
         (Some(sending), 0) => state.set(field, sending, value),
         (Some(sending), 1..) => {
@@ -387,6 +422,14 @@ fn crossing_altered<S: Fields>(rng: &mut Rng, state: &mut S) {
         }
         _ => state.set(field, arrival, value),
     }
+}
+
+/// The entry of a ledger's held record that has the number of this one.
+pub(super) fn under_number<S: Fields>(state: &S, held: usize, ledger: usize) -> Option<usize> {
+    let number = state.get(Field::Numbers, held);
+    (0..count(state, ledger))
+        .map(|place| ledger * CAPACITY + place)
+        .find(|&entry| entry != held && state.get(Field::Numbers, entry) == number)
 }
 
 /// The count one up, with a record that is right there, or one down.
@@ -403,12 +446,9 @@ fn record_more_or_less<S: Fields>(rng: &mut Rng, state: &mut S) {
         state.set(Field::Counts, ledger, count as u64 - 1);
     } else {
         if count < CAPACITY {
-            let entry = ledger * CAPACITY + count;
-            let number = rng.word();
-            let fields = [number, rng.within(1, 9), 0, 0, LOCAL, ledger as u64, 1];
-            for (field, value) in Field::COLUMNS.into_iter().zip(fields) {
-                state.set(field, entry, value);
-            }
+            let ledger = Ledger::BOTH[ledger];
+            let record = local(ledger, 0, 0, rng.word(), rng.within(1, 9));
+            put(state, ledger.index() * CAPACITY + count, &record);
         }
         state.set(Field::Counts, ledger, count as u64 + 1);
     }
@@ -471,24 +511,10 @@ fn amount_with_balance<S: Fields>(rng: &mut Rng, state: &mut S) {
     lower(state, Field::Balances, balance, shift);
 }
 
-/// Anything stands at and beyond the counts, where nobody looks.
-fn beyond_the_counts<S: Fields>(rng: &mut Rng, state: &mut S) {
-    for ledger in 0..S::LEDGERS {
-        let from = count(state, ledger);
-        for place in from..CAPACITY {
-            for field in Field::COLUMNS {
-                state.set(field, ledger * CAPACITY + place, rng.word());
-            }
-        }
-    }
-}
-
-/// Every field is random; sometimes the counts are within bounds.
+/// Every word is random; sometimes the counts are within bounds.
 fn no_meaning<S: Fields>(rng: &mut Rng, state: &mut S) {
-    for &field in S::FIELDS {
-        for entry in 0..S::length(field) {
-            state.set(field, entry, rng.word());
-        }
+    for word in state.words_mut() {
+        *word = rng.word();
     }
     if rng.chance(1, 2) {
         for ledger in 0..2 {

@@ -1,9 +1,11 @@
 //! The families of calls that are compared. A family makes its calls by
 //! scenarios, each from its own generator.
 
+pub mod beyond;
 pub mod blocks;
 pub mod checker;
 pub mod forged;
+pub mod held;
 pub mod looks;
 pub mod plain;
 pub mod runs;
@@ -22,17 +24,17 @@ pub struct Family {
 }
 
 pub const FAMILIES: [Family; 11] = [
-    family("pair_runs", 21, runs::scenario::<Pair>),
-    family("home_runs", 17, runs::scenario::<Home>),
-    family("pair_forged", 14, forged::scenario::<Pair>),
-    family("home_forged", 10, forged::scenario::<Home>),
-    family("pair_looks", 4, looks::scenario::<Pair>),
-    family("home_looks", 3, looks::scenario::<Home>),
-    family("blocks", 14, blocks::scenario),
-    family("writes", 7, plain::writes),
-    family("records_read", 4, plain::records_read),
-    family("records_encoded", 4, plain::records_encoded),
-    family("sha256", 2, plain::sha256),
+    family("pair_runs", 20, runs::scenario::<Pair>),
+    family("home_runs", 15, runs::scenario::<Home>),
+    family("pair_forged", 24, forged::scenario::<Pair>),
+    family("home_forged", 15, forged::scenario::<Home>),
+    family("pair_looks", 3, looks::scenario::<Pair>),
+    family("home_looks", 2, looks::scenario::<Home>),
+    family("blocks", 12, blocks::scenario),
+    family("writes", 4, plain::writes),
+    family("records_read", 2, plain::records_read),
+    family("records_encoded", 2, plain::records_encoded),
+    family("sha256", 1, plain::sha256),
 ];
 
 const fn family(name: &'static str, share: u64, run: fn(&mut Both, &mut Rng)) -> Family {

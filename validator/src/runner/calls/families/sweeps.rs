@@ -160,5 +160,6 @@ fn lawful<S: Fields>(rng: &mut Rng, state: &S, field: Field, ledger: usize) -> u
         Field::Kinds => rng.within(1, 3),
         Field::Ledgers => rng.below(2),
         Field::Verdicts => 1,
+        Field::HeadZeros | Field::TailZeros => 0,
     }
 }
