@@ -1,11 +1,10 @@
-// Times the validators' published calls in echoes, at full tables. An echo takes a state by value and hands it back, as every call
-// does, and does nothing else. States are made by the calls themselves, and each call's answer is looked at before it is timed.
-// Each call hands its state back at another place of a page than the one before: how fast a processor copies can depend on how far
-// apart source and target lie, and a fixed distance would time that.
+// Times the validators' published calls in echoes, at full tables. An echo takes a state by value and hands it back, as the calls by value
+// do, and does nothing else. The calls in place are handed a pointer and are timed beside them. States are made by the calls themselves,
+// and each call's answer is looked at before it is timed. Each call by value hands its state back at another place of a page than the one
+// before: how fast a processor copies can depend on how far apart source and target lie, and a fixed distance would time that.
 use std::hint::black_box;
 use std::marker::PhantomData;
 use std::mem::MaybeUninit;
-use std::ops::Range;
 use std::time::Instant;
 
 const ACCOUNTS: usize = 56;
@@ -20,38 +19,54 @@ const fn number(text: &str) -> usize {
     n
 }
 
+// A held record: the four words of its 32 bytes, each the number of eight bytes, highest first.
+#[repr(C)]
+#[derive(Clone, Copy)]
+pub struct Held {
+    head: u64,
+    number: u64,
+    amount: u64,
+    tail: u64,
+}
+
+impl Held {
+    fn kind(&self) -> u8 {
+        (self.head >> 56) as u8
+    }
+
+    // Sender and receiver.
+    fn accounts(&self) -> u32 {
+        (self.head >> 16) as u32
+    }
+}
+
 #[repr(C)]
 #[derive(Clone, Copy)]
 pub struct Pair {
+    records: [[Held; CAPACITY]; 2],
+    balances: [[u64; ACCOUNTS]; 2],
     supply: u64,
-    accounts: [usize; 2],
-    counts: [usize; 2],
-    balances: [u64; 2 * ACCOUNTS],
-    numbers: [u64; 2 * CAPACITY],
-    amounts: [u64; 2 * CAPACITY],
-    senders: [u16; 2 * CAPACITY],
-    receivers: [u16; 2 * CAPACITY],
-    kinds: [u8; 2 * CAPACITY],
-    ledgers: [u8; 2 * CAPACITY],
-    verdicts: [u8; 2 * CAPACITY],
+    accounts: [u64; 2],
+    counts: [u64; 2],
 }
 
 #[repr(C)]
 #[derive(Clone, Copy)]
 pub struct Home {
+    records: [Held; CAPACITY],
+    balances: [u64; ACCOUNTS],
     supply: u64,
     pool: u64,
-    homes: usize,
-    fars: usize,
-    count: usize,
-    balances: [u64; ACCOUNTS],
-    numbers: [u64; CAPACITY],
-    amounts: [u64; CAPACITY],
-    senders: [u16; CAPACITY],
-    receivers: [u16; CAPACITY],
-    kinds: [u8; CAPACITY],
-    ledgers: [u8; CAPACITY],
-    verdicts: [u8; CAPACITY],
+    home_accounts: u64,
+    far_accounts: u64,
+    count: u64,
+}
+
+#[repr(C)]
+pub struct Answer {
+    number: u32,
+    passed: u32,
+    place: u64,
 }
 
 #[repr(C)]
@@ -85,11 +100,15 @@ pub struct HomeFigures {
 // has it; where it is named here, the caller chooses the place.
 extern "C" {
     fn moatbetony_pair_open(homes: *const u64, h: usize, fars: *const u64, f: usize) -> Told<Pair>;
+    fn moatbetony_pair_take(state: *mut Pair, bytes: *const u8, n: usize) -> Answer;
+    fn moatbetony_pair_take_list(state: *mut Pair, bytes: *const u8, n: usize) -> Answer;
     fn moatbetony_pair_check_record(out: *mut Told<Pair>, state: Pair, bytes: *const u8, n: usize) -> *mut Told<Pair>;
     fn moatbetony_pair_check_list(out: *mut Told<Pair>, state: Pair, bytes: *const u8, n: usize) -> *mut Told<Pair>;
     fn moatbetony_pair_figures(state: Pair) -> PairFigures;
     fn bench_pair_echo(out: *mut Told<Pair>, state: Pair) -> *mut Told<Pair>;
     fn moatbetony_home_open(balances: *const u64, h: usize, fars: usize, far_total: u64) -> Told<Home>;
+    fn moatbetony_home_take(state: *mut Home, bytes: *const u8, n: usize) -> Answer;
+    fn moatbetony_home_take_list(state: *mut Home, bytes: *const u8, n: usize) -> Answer;
     fn moatbetony_home_check_record(out: *mut Told<Home>, state: Home, bytes: *const u8, n: usize) -> *mut Told<Home>;
     fn moatbetony_home_check_list(out: *mut Told<Home>, state: Home, bytes: *const u8, n: usize) -> *mut Told<Home>;
     fn moatbetony_home_figures(state: Home) -> HomeFigures;
@@ -101,6 +120,8 @@ trait Validator: Copy {
     fn open() -> Told<Self>;
     fn one(&self, out: &mut MaybeUninit<Told<Self>>, bytes: &[u8]);
     fn list(&self, out: &mut MaybeUninit<Told<Self>>, bytes: &[u8]);
+    fn take(&mut self, bytes: &[u8]) -> Answer;
+    fn take_list(&mut self, bytes: &[u8]) -> Answer;
     fn echo(&self, out: &mut MaybeUninit<Told<Self>>);
     // The sum of its figures, and the refusal.
     fn figures(&self) -> (u64, u32);
@@ -127,6 +148,14 @@ impl Validator for Pair {
         unsafe { moatbetony_pair_check_list(out.as_mut_ptr(), *self, bytes.as_ptr(), bytes.len()) };
     }
     #[inline(always)]
+    fn take(&mut self, bytes: &[u8]) -> Answer {
+        unsafe { moatbetony_pair_take(self, bytes.as_ptr(), bytes.len()) }
+    }
+    #[inline(always)]
+    fn take_list(&mut self, bytes: &[u8]) -> Answer {
+        unsafe { moatbetony_pair_take_list(self, bytes.as_ptr(), bytes.len()) }
+    }
+    #[inline(always)]
     fn echo(&self, out: &mut MaybeUninit<Told<Pair>>) {
         unsafe { bench_pair_echo(out.as_mut_ptr(), *self) };
     }
@@ -139,29 +168,31 @@ impl Validator for Pair {
         true
     }
     fn compares_all(&self) -> bool {
-        let (home, far) = (0..self.counts[0], CAPACITY..CAPACITY + self.counts[1]);
-        apart(&self.numbers[home.clone()])
-            && apart(&self.numbers[far.clone()])
-            && self.is_backed(home.clone(), far.clone())
-            && self.is_backed(far, home)
+        let home = &self.records[0][..self.counts[0] as usize];
+        let far = &self.records[1][..self.counts[1] as usize];
+        let (home_numbers, far_numbers) = (numbers(home), numbers(far));
+        apart(&home_numbers[..home.len()])
+            && apart(&far_numbers[..far.len()])
+            && is_backed(home, far, &far_numbers[..far.len()])
+            && is_backed(far, home, &home_numbers[..home.len()])
     }
 }
 
-impl Pair {
-    // Whether each receiving of some places has its sending among others.
-    fn is_backed(&self, own: Range<usize>, other: Range<usize>) -> bool {
-        let numbers = &self.numbers[other.clone()];
-        own.filter(|&i| self.kinds[i] == RECEIVING).all(|i| {
-            let sends = |j: usize| {
-                self.kinds[j] == SENDING
-                    && self.senders[j] == self.senders[i]
-                    && self.receivers[j] == self.receivers[i]
-                    && self.amounts[j] == self.amounts[i]
-            };
-            let number = self.numbers[i];
-            (0..numbers.len()).any(|at| numbers[at] == number && sends(other.start + at))
-        })
+// Whether each receiving of some records has its sending among others, whose numbers stand beside them.
+fn is_backed(own: &[Held], other: &[Held], numbers: &[u64]) -> bool {
+    own.iter().filter(|held| held.kind() == RECEIVING).all(|held| {
+        let sends = |it: &Held| it.kind() == SENDING && it.accounts() == held.accounts() && it.amount == held.amount;
+        (0..numbers.len()).any(|at| numbers[at] == held.number && sends(&other[at]))
+    })
+}
+
+// The numbers of records, side by side, as comparing all pairs goes through them fastest.
+fn numbers(records: &[Held]) -> [u64; CAPACITY] {
+    let mut numbers = [0; CAPACITY];
+    for (number, held) in numbers.iter_mut().zip(records) {
+        *number = held.number;
     }
+    numbers
 }
 
 impl Validator for Home {
@@ -179,6 +210,14 @@ impl Validator for Home {
         unsafe { moatbetony_home_check_list(out.as_mut_ptr(), *self, bytes.as_ptr(), bytes.len()) };
     }
     #[inline(always)]
+    fn take(&mut self, bytes: &[u8]) -> Answer {
+        unsafe { moatbetony_home_take(self, bytes.as_ptr(), bytes.len()) }
+    }
+    #[inline(always)]
+    fn take_list(&mut self, bytes: &[u8]) -> Answer {
+        unsafe { moatbetony_home_take_list(self, bytes.as_ptr(), bytes.len()) }
+    }
+    #[inline(always)]
     fn echo(&self, out: &mut MaybeUninit<Told<Home>>) {
         unsafe { bench_home_echo(out.as_mut_ptr(), *self) };
     }
@@ -191,7 +230,8 @@ impl Validator for Home {
         record[1] == 0
     }
     fn compares_all(&self) -> bool {
-        apart(&self.numbers[..self.count])
+        let records = &self.records[..self.count as usize];
+        apart(&numbers(records)[..records.len()])
     }
 }
 
@@ -382,6 +422,34 @@ fn list<'a, V: Validator>(state: &'a V, bytes: &'a [u8]) -> Call<'a> {
     Box::new(move || black_box(state).list(room.next(), black_box(bytes)))
 }
 
+// A call in place, on a state of its own, in which the words that it altered are put back after it; and the putting back alone.
+fn in_place<'a, V: Validator + 'a>(state: &V, bytes: &'a [u8], answer: u32, take: fn(&mut V, &[u8]) -> Answer) -> [Call<'a>; 2] {
+    let (mut own, mut other) = (Box::new(*state), Box::new(*state));
+    assert!(take(&mut own, bytes).number == answer);
+    let (after, before) = (words(&mut *own), words(&mut *other));
+    let altered: Vec<(usize, u64)> = (0..before.len()).filter(|&i| after[i] != before[i]).map(|i| (i, before[i])).collect();
+    assert!(altered.is_empty() == (answer != 0));
+    put_back(&mut *own, &altered);
+    let same = altered.clone();
+    let call = move || {
+        black_box(&take(black_box(&mut *own), black_box(bytes)));
+        put_back(&mut *own, &altered);
+    };
+    [Box::new(call), Box::new(move || put_back(black_box(&mut *other), &same))]
+}
+
+// A state is words of 64 bits and nothing else.
+fn words<V: Validator>(state: &mut V) -> &mut [u64] {
+    unsafe { std::slice::from_raw_parts_mut(std::ptr::from_mut(state).cast(), size_of::<V>() / 8) }
+}
+
+fn put_back<V: Validator>(state: &mut V, altered: &[(usize, u64)]) {
+    let words = words(state);
+    for &(at, word) in altered {
+        words[at] = word;
+    }
+}
+
 fn figures<V: Validator>(state: &V) -> Call<'_> {
     Box::new(move || {
         black_box(&black_box(state).figures());
@@ -419,24 +487,44 @@ fn line(what: &str, ns: f64, echoes: f64, limit: f64) {
     println!("  {what:<44} {ns:>9.0} {echoes:>8.2}   {limit} {held}");
 }
 
+// One without a limit.
+fn free_line(what: &str, ns: f64, echoes: f64) {
+    println!("  {what:<44} {ns:>9.0} {echoes:>8.2}");
+}
+
 // Calls with one record at full tables.
 fn measure_one<V: Validator>(name: &str, number: fn(u64) -> u64) {
     let (nearly, full, arrival) = full_tables::<V>(number);
-    let calls = [echo(&*full), one(&*full, &arrival, 41), one(&*nearly, &arrival, 0), figures(&*full)];
+    let [refused, _] = in_place(&*full, &arrival, 41, V::take);
+    let [passed, back] = in_place(&*nearly, &arrival, 0, V::take);
+    let calls = [echo(&*full), one(&*full, &arrival, 41), one(&*nearly, &arrival, 0), figures(&*full), refused, passed, back];
     let t = medians(1001, calls.map(|call| (20, call)));
     println!("  {:<44} {:>9.0}", format!("echo, {name} numbers"), t[0]);
     line("one record, refused with 41", t[1], t[1] / t[0], 7.0);
     line("one record, passed", t[2], t[2] / t[0], 7.0);
-    println!("  {:<44} {:>9.0} {:>8.2}", "figures", t[3], t[3] / t[0]);
+    free_line("one record in place, refused with 41", t[4], t[4] / t[0]);
+    free_line("one record in place, passed", t[5] - t[6], (t[5] - t[6]) / t[0]);
+    free_line("figures", t[3], t[3] / t[0]);
 }
 
 // List calls of two lengths, and what one record more costs.
 fn measure_list<V: Validator>(name: &str, state: &V, bytes: &[u8]) {
     let (short, long) = (CAPACITY / 8, CAPACITY / 2);
-    let (less, more) = (list(state, &bytes[..32 * short]), list(state, &bytes[..32 * long]));
-    let t = medians(101, [(20, echo(state)), (5, less), (5, more)]);
-    let each = (t[2] - t[1]) / (long - short) as f64;
+    let (fewer, further) = (&bytes[..32 * short], &bytes[..32 * long]);
+    let (less, more) = (list(state, fewer), list(state, further));
+    let [less_in_place, less_back] = in_place(state, fewer, 0, V::take_list);
+    let [more_in_place, more_back] = in_place(state, further, 0, V::take_list);
+    let calls = [less, more, less_in_place, more_in_place, less_back, more_back].map(|call| (5, call));
+    let [less, more, less_in_place, more_in_place, less_back, more_back] = calls;
+    let t = medians(101, [(20, echo(state)), less, more, less_in_place, more_in_place, less_back, more_back]);
+    let records = (long - short) as f64;
+    let each = (t[2] - t[1]) / records;
     line(&format!("list {name}, a record ({short} to {long})"), each, each / t[0], 0.5);
+    let (less, more) = (t[3] - t[5], t[4] - t[6]);
+    let each = (more - less) / records;
+    free_line(&format!("in place {name}, a record"), each, each / t[0]);
+    free_line(&format!("list of {long}, by value"), t[2], t[2] / t[0]);
+    free_line(&format!("list of {long}, in place"), more, more / t[0]);
 }
 
 // Numbers that all fall into one chain: one record, against all pairs in plain Rust and an echo.

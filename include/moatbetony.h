@@ -1,11 +1,11 @@
 /*
- * Moatbetony 0.2.0: a proved checker of two linked ledgers that trade one credit.
+ * Moatbetony 0.3.0: a proved checker of two linked ledgers that trade one credit.
  *
  * A home ledger, and a far ledger run by people nobody here has met, hand in records of 32 bytes. The pair validator (pair book)
  * sees the records of both in one order; the home validator (guard) sees those of home alone. Every call answers passed, or one
  * refusal with its number and place. Hand nothing over on a refusal, and on passed only what the record pays for:
  *
- *     if (moatbetony_version() != MOATBETONY_VERSION) exit(1);                      (once: an older library fills no `passed` in)
+ *     if (moatbetony_version() != MOATBETONY_VERSION) exit(1);                      (once: another library has other states)
  *     moatbetony_home_outcome_t opened = moatbetony_home_open(home_balances, home_accounts, far_accounts, far_total);
  *     moatbetony_home_t state = opened.state;                                       (after opened.answer.passed was tested)
  *     record[24] = signature_good;                                                  (1 or 0, of your own check: SIGNATURES)
@@ -28,33 +28,38 @@
  *             room again. Ask moatbetony_pair_places_left or moatbetony_home_places_left before each record, so that you see 41 coming:
  *             warn while there is time for the networks to make a new opening, and close the desk with no place left. Beside a refused
  *             state (3) stands 0 too: test the answer first.
- * STATES      are plain numbers, passed and handed back by value. A call neither keeps nor alters the caller's copy: where it passed, go
- *             on with `outcome.state`, or use the helpers at the end, which store it back there and nowhere else. A refused call hands
- *             the state back as it came, and a refused write leaves the output as it came.
+ * STATES      are plain numbers of 64 bits. Hand records in with the calls in place (moatbetony_pair_take, moatbetony_home_take and their
+ *             _list): they alter the state behind the pointer where the answer passed, and a refusal leaves every word of it as it was.
+ *             One record is taken without a copy of the state; a list keeps one copy while it runs. Until such a call returns, the state
+ *             is in between: after one that was cut off, take up the stored state. All other calls take a state by value and neither
+ *             keep nor alter the caller's copy: where moatbetony_pair_check_record or one of its kind passed, go on with
+ *             `outcome.state`. A refused one hands the state back as it came, and a refused write leaves the output as it came.
  * STORING     A stored state may be damaged or forged: every call judges its state first (refusal 3). 3 says that a state's numbers fit
  *             together, and no more. It does not see two balances exchanged, a balance raised together with the supply (home: or at the
  *             far pool's cost), held records left out, so that they pass again, or an older state put back. Keep the latest digest of a
  *             stored state where nobody else can write it, and compare it before the state is taken up. Store a new state before goods
  *             are handed over on it. A state is stored with moatbetony_state_version, and taken up under no other.
  * ANY INPUT   is taken: damaged bytes, wrong lengths, forged states. But for the signature, nothing needs to be checked before a call.
- *             What a caller owes is what C asks of every buffer: so many items can be read there (written, for the output), 64-bit
- *             numbers stand aligned, output and items do not overlap, and nobody writes to them during the call. NULL is allowed where
- *             the length is 0.
- * THREADS     No data that is written, no allocation, no input or output, no locks: any number of threads may call at once. A state
- *             belongs to one caller at a time; threads that share one keep a lock of their own around taking a record and storing the
- *             state.
+ *             What a caller owes is what C asks of every buffer: so many items can be read there (and written, for what is), 64-bit
+ *             numbers stand aligned, what is written (the output, a state in place) overlaps nothing else that is lent, and nobody else
+ *             touches it during the call or writes to the rest. NULL is allowed for bytes or numbers where their length is 0, and never
+ *             for a state.
+ * THREADS     No data of its own that is written, no allocation, no input or output, no locks: any number of threads may call at once. A
+ *             state belongs to one caller at a time; threads that share one keep a lock of their own around taking a record and storing
+ *             the state.
  * STACK       A call needs at most MOATBETONY_STACK_PAIR bytes with a pair state, MOATBETONY_STACK_HOME with a home state and
  *             MOATBETONY_STACK_OTHER without one, its arguments and its result included. Measured, not proved. The library touches
  *             its frames page by page, so that too small a stack ends at its guard page; -fstack-clash-protection does so for a caller's.
- * SIZES       sizeof(moatbetony_pair_t) is 24,488 and sizeof(moatbetony_home_t) 12,264. Neither has padding, so that their bytes can
- *             be stored, hashed and compared. Of the other structs moatbetony_record_t alone has padding: compare its fields. Store or
- *             hash states alone.
+ * SIZES       moatbetony_pair_t is 4,213 words of 8 bytes (33,704) and moatbetony_home_t 2,109 (16,872). Neither has padding, so that their
+ *             bytes can be stored, hashed and compared. Of the other structs moatbetony_record_t alone has padding: compare its fields.
+ *             Store or hash states alone.
  * PLATFORM    x86-64 Linux with the System V calling convention and glibc; little-endian, 64-bit size_t. C99 or later, C++11 or later.
  *             The library needs memcpy and memset, and nothing else.
  * REFUSALS    A number keeps its subject and is never given to another. When it is given may change with the rules of a later version,
  *             and a later version may add numbers, also for a part of what an older one told; CHANGELOG.md names each. So take every
  *             answer without `passed` as a refusal, its number known or not (REFUSALS.md of the documentation).
- * PROOFS      cover the library's functions, for every input. They do not cover this header, its inline helpers or the caller's code.
+ * PROOFS      cover the library's functions, the calls in place among them, for every input. They do not cover this header, its texts for
+ *             the refusals or the caller's code.
  */
 #ifndef MOATBETONY_H
 #define MOATBETONY_H
@@ -80,13 +85,13 @@ extern "C" {
 /* ## Constants */
 
 #define MOATBETONY_VERSION_MAJOR 0
-#define MOATBETONY_VERSION_MINOR 2
+#define MOATBETONY_VERSION_MINOR 3
 #define MOATBETONY_VERSION_PATCH 0
-#define MOATBETONY_VERSION_TEXT "0.2.0"
+#define MOATBETONY_VERSION_TEXT "0.3.0"
 /* This header's version, as moatbetony_version gives the library's: major * 10,000 + minor * 100 + patch. */
 #define MOATBETONY_VERSION (MOATBETONY_VERSION_MAJOR * 10000 + MOATBETONY_VERSION_MINOR * 100 + MOATBETONY_VERSION_PATCH)
 /* The layout of the two states. It is stored with a state, and a state is taken up only under its own. */
-#define MOATBETONY_STATE_VERSION 1
+#define MOATBETONY_STATE_VERSION 2
 
 #define MOATBETONY_RECORD_SIZE 32       /* bytes of a record */
 #define MOATBETONY_BLOCK_SIZE 512       /* bytes of a journal's block */
@@ -170,38 +175,33 @@ typedef struct moatbetony_answer {
     uint64_t place;
 } moatbetony_answer_t;
 
-/* The pair validator's state. Of both ledgers home stands first: in `accounts` (their number) and `counts` (of held records), in the
-   balances (56 and 56), and in each column (512 entries and 512), of which a held record is one entry. Entries at or beyond the count
-   are not looked at. */
+/* A held record: the four words of its 32 bytes, each the number of eight bytes, highest first. */
+typedef struct moatbetony_held {
+    uint64_t head; /* bytes 0 to 7: kind, ledger, sender (2 bytes), receiver (2 bytes), two zeros */
+    uint64_t number;
+    uint64_t amount;
+    uint64_t tail; /* bytes 24 to 31: verdict, seven zeros */
+} moatbetony_held_t;
+
+/* The pair validator's state. Where both ledgers are, home stands first. Records at or beyond the count of their ledger are not looked
+   at, and only a passed record writes there. */
 typedef struct moatbetony_pair {
+    moatbetony_held_t records[2][512];
+    uint64_t balances[2][56];
     uint64_t supply; /* the credit of both ledgers at opening (the networks' word: stake) */
-    size_t accounts[2];
-    size_t counts[2];
-    uint64_t balances[112];
-    uint64_t numbers[1024];
-    uint64_t amounts[1024];
-    uint16_t senders[1024];
-    uint16_t receivers[1024];
-    uint8_t kinds[1024];
-    uint8_t ledgers[1024];
-    uint8_t verdicts[1024];
+    uint64_t accounts[2];
+    uint64_t counts[2]; /* the numbers of held records */
 } moatbetony_pair_t;
 
-/* The home validator's state. A held record is one entry of each column. Entries at or beyond the count are not looked at. */
+/* The home validator's state. Records at or beyond the count are not looked at, and only a passed record writes there. */
 typedef struct moatbetony_home {
+    moatbetony_held_t records[512];
+    uint64_t balances[56];
     uint64_t supply; /* home balances and far total at opening (the networks' word: stake) */
     uint64_t pool;   /* the far pool (far due): far total at opening, plus what home has sent, less what has arrived */
-    size_t home_accounts;
-    size_t far_accounts;
-    size_t count; /* the number of held records */
-    uint64_t balances[56];
-    uint64_t numbers[512];
-    uint64_t amounts[512];
-    uint16_t senders[512];
-    uint16_t receivers[512];
-    uint8_t kinds[512];
-    uint8_t ledgers[512];
-    uint8_t verdicts[512];
+    uint64_t home_accounts;
+    uint64_t far_accounts;
+    uint64_t count; /* the number of held records */
 } moatbetony_home_t;
 
 /* An answer, and the state to go on with. */
@@ -296,7 +296,7 @@ typedef struct moatbetony_digest {
 /* ## Version */
 
 /* The library's version: major * 10,000 + minor * 100 + patch. Equal to MOATBETONY_VERSION if library and header belong together:
-   compare them once, before the first call. A library older than 0.2.0 fills no `passed` in. */
+   compare them once, before the first call. A library older than 0.3.0 has other states, and one older than 0.2.0 fills no `passed` in. */
 uint32_t moatbetony_version(void);
 
 /* The library's layout of the two states. Store it with a state, and take a state up only if it is the same. */
@@ -310,14 +310,20 @@ uint32_t moatbetony_state_version(void);
 MOATBETONY_MUST_USE moatbetony_pair_outcome_t moatbetony_pair_open(
     const uint64_t *home_balances, size_t home_balances_len, const uint64_t *far_balances, size_t far_balances_len);
 
-/* Checks one record, and moves its credit if it passes. Other than 32 bytes is 21. Answers 3, 21 to 25, 31, 41, place 0; beside a
-   refusal stands the state as it came. */
+/* Checks one record, and moves its credit in the state if it passes. Other than 32 bytes is 21. Answers 3, 21 to 25, 31, 41, place 0; a
+   refusal leaves the state as it was. `state` must not be NULL. */
+MOATBETONY_MUST_USE moatbetony_answer_t moatbetony_pair_take(moatbetony_pair_t *state, const uint8_t *bytes, size_t bytes_len);
+
+/* Checks a list of records, 32 bytes each, all or none. Bytes left over at the end are a record that is too short: 21. An empty list
+   passes. Answers 3 (place 0), 21 to 25, 31, 41 with the index of the first refused record; a refusal leaves the state as it was. `state`
+   must not be NULL. */
+MOATBETONY_MUST_USE moatbetony_answer_t moatbetony_pair_take_list(moatbetony_pair_t *state, const uint8_t *bytes, size_t bytes_len);
+
+/* moatbetony_pair_take by value: the state to go on with stands beside the answer, and beside a refusal the state as it came. */
 MOATBETONY_MUST_USE moatbetony_pair_outcome_t moatbetony_pair_check_record(
     moatbetony_pair_t state, const uint8_t *bytes, size_t bytes_len);
 
-/* Checks a list of records, 32 bytes each, all or none. Bytes left over at the end are a record that is too short: 21. An empty list
-   passes. Answers 3 (place 0), 21 to 25, 31, 41 with the index of the first refused record; beside a refusal stands the state from
-   before the list. */
+/* moatbetony_pair_take_list by value; beside a refusal stands the state from before the list. */
 MOATBETONY_MUST_USE moatbetony_pair_outcome_t moatbetony_pair_check_list(
     moatbetony_pair_t state, const uint8_t *bytes, size_t bytes_len);
 
@@ -339,14 +345,20 @@ MOATBETONY_MUST_USE moatbetony_pair_places_t moatbetony_pair_places_left(moatbet
 MOATBETONY_MUST_USE moatbetony_home_outcome_t moatbetony_home_open(
     const uint64_t *home_balances, size_t home_balances_len, size_t far_accounts, uint64_t far_total);
 
-/* Checks one home record, and moves its credit if it passes. Other than 32 bytes is 21. Answers 3, 21, 33, 22 to 25, 32, 41, place 0;
-   beside a refusal stands the state as it came. */
+/* Checks one home record, and moves its credit in the state if it passes. Other than 32 bytes is 21. Answers 3, 21, 33, 22 to 25, 32, 41,
+   place 0; a refusal leaves the state as it was. `state` must not be NULL. */
+MOATBETONY_MUST_USE moatbetony_answer_t moatbetony_home_take(moatbetony_home_t *state, const uint8_t *bytes, size_t bytes_len);
+
+/* Checks a list of home records, 32 bytes each, all or none. Bytes left over at the end are a record that is too short: 21. An empty
+   list passes. Answers 3 (place 0), 21, 33, 22 to 25, 32, 41 with the index of the first refused record; a refusal leaves the state as
+   it was. `state` must not be NULL. */
+MOATBETONY_MUST_USE moatbetony_answer_t moatbetony_home_take_list(moatbetony_home_t *state, const uint8_t *bytes, size_t bytes_len);
+
+/* moatbetony_home_take by value: the state to go on with stands beside the answer, and beside a refusal the state as it came. */
 MOATBETONY_MUST_USE moatbetony_home_outcome_t moatbetony_home_check_record(
     moatbetony_home_t state, const uint8_t *bytes, size_t bytes_len);
 
-/* Checks a list of home records, 32 bytes each, all or none. Bytes left over at the end are a record that is too short: 21. An empty
-   list passes. Answers 3 (place 0), 21, 33, 22 to 25, 32, 41 with the index of the first refused record; beside a refusal stands the
-   state from before the list. */
+/* moatbetony_home_take_list by value; beside a refusal stands the state from before the list. */
 MOATBETONY_MUST_USE moatbetony_home_outcome_t moatbetony_home_check_list(
     moatbetony_home_t state, const uint8_t *bytes, size_t bytes_len);
 
@@ -403,49 +415,7 @@ MOATBETONY_MUST_USE moatbetony_answer_t moatbetony_block_write(
 /* The SHA-256 digest of a message (FIPS 180-4). */
 MOATBETONY_MUST_USE moatbetony_digest_t moatbetony_sha256(const uint8_t *message, size_t message_len);
 
-/* ## Helpers in C, outside the proofs
-   They check records against a state behind a pointer, which must not be NULL. Where the answer passed they store the state that comes
-   back; every other answer leaves *state untouched. */
-
-/* One record: moatbetony_pair_check_record. */
-MOATBETONY_MUST_USE static inline moatbetony_answer_t moatbetony_pair_take(
-    moatbetony_pair_t *state, const uint8_t *bytes, size_t bytes_len)
-{
-    moatbetony_pair_outcome_t outcome = moatbetony_pair_check_record(*state, bytes, bytes_len);
-    if (outcome.answer.passed)
-        *state = outcome.state;
-    return outcome.answer;
-}
-
-/* A list: moatbetony_pair_check_list. */
-MOATBETONY_MUST_USE static inline moatbetony_answer_t moatbetony_pair_take_list(
-    moatbetony_pair_t *state, const uint8_t *bytes, size_t bytes_len)
-{
-    moatbetony_pair_outcome_t outcome = moatbetony_pair_check_list(*state, bytes, bytes_len);
-    if (outcome.answer.passed)
-        *state = outcome.state;
-    return outcome.answer;
-}
-
-/* One home record: moatbetony_home_check_record. */
-MOATBETONY_MUST_USE static inline moatbetony_answer_t moatbetony_home_take(
-    moatbetony_home_t *state, const uint8_t *bytes, size_t bytes_len)
-{
-    moatbetony_home_outcome_t outcome = moatbetony_home_check_record(*state, bytes, bytes_len);
-    if (outcome.answer.passed)
-        *state = outcome.state;
-    return outcome.answer;
-}
-
-/* A home list: moatbetony_home_check_list. */
-MOATBETONY_MUST_USE static inline moatbetony_answer_t moatbetony_home_take_list(
-    moatbetony_home_t *state, const uint8_t *bytes, size_t bytes_len)
-{
-    moatbetony_home_outcome_t outcome = moatbetony_home_check_list(*state, bytes, bytes_len);
-    if (outcome.answer.passed)
-        *state = outcome.state;
-    return outcome.answer;
-}
+/* ## Helpers in C, outside the proofs */
 
 /* A short text for an answer's number, never NULL. That of 0 does not say that the call passed: `passed` alone does. */
 static inline const char *moatbetony_refusal_text(uint32_t number)
@@ -487,31 +457,23 @@ MOATBETONY_ASSERT(sizeof(void *) == 8);
 MOATBETONY_ASSERT(sizeof(moatbetony_answer_t) == 16);
 MOATBETONY_ASSERT(offsetof(moatbetony_answer_t, passed) == 4);
 MOATBETONY_ASSERT(offsetof(moatbetony_answer_t, place) == 8);
-MOATBETONY_ASSERT(sizeof(moatbetony_pair_t) == 24488);
-MOATBETONY_ASSERT(offsetof(moatbetony_pair_t, accounts) == 8);
-MOATBETONY_ASSERT(offsetof(moatbetony_pair_t, counts) == 24);
-MOATBETONY_ASSERT(offsetof(moatbetony_pair_t, balances) == 40);
-MOATBETONY_ASSERT(offsetof(moatbetony_pair_t, numbers) == 936);
-MOATBETONY_ASSERT(offsetof(moatbetony_pair_t, amounts) == 9128);
-MOATBETONY_ASSERT(offsetof(moatbetony_pair_t, senders) == 17320);
-MOATBETONY_ASSERT(offsetof(moatbetony_pair_t, receivers) == 19368);
-MOATBETONY_ASSERT(offsetof(moatbetony_pair_t, kinds) == 21416);
-MOATBETONY_ASSERT(offsetof(moatbetony_pair_t, ledgers) == 22440);
-MOATBETONY_ASSERT(offsetof(moatbetony_pair_t, verdicts) == 23464);
-MOATBETONY_ASSERT(sizeof(moatbetony_home_t) == 12264);
-MOATBETONY_ASSERT(offsetof(moatbetony_home_t, pool) == 8);
-MOATBETONY_ASSERT(offsetof(moatbetony_home_t, home_accounts) == 16);
-MOATBETONY_ASSERT(offsetof(moatbetony_home_t, far_accounts) == 24);
-MOATBETONY_ASSERT(offsetof(moatbetony_home_t, count) == 32);
-MOATBETONY_ASSERT(offsetof(moatbetony_home_t, balances) == 40);
-MOATBETONY_ASSERT(offsetof(moatbetony_home_t, numbers) == 488);
-MOATBETONY_ASSERT(offsetof(moatbetony_home_t, amounts) == 4584);
-MOATBETONY_ASSERT(offsetof(moatbetony_home_t, senders) == 8680);
-MOATBETONY_ASSERT(offsetof(moatbetony_home_t, receivers) == 9704);
-MOATBETONY_ASSERT(offsetof(moatbetony_home_t, kinds) == 10728);
-MOATBETONY_ASSERT(offsetof(moatbetony_home_t, ledgers) == 11240);
-MOATBETONY_ASSERT(offsetof(moatbetony_home_t, verdicts) == 11752);
-MOATBETONY_ASSERT(sizeof(moatbetony_pair_outcome_t) == 24504);
+MOATBETONY_ASSERT(sizeof(moatbetony_held_t) == 32);
+MOATBETONY_ASSERT(offsetof(moatbetony_held_t, number) == 8);
+MOATBETONY_ASSERT(offsetof(moatbetony_held_t, amount) == 16);
+MOATBETONY_ASSERT(offsetof(moatbetony_held_t, tail) == 24);
+MOATBETONY_ASSERT(sizeof(moatbetony_pair_t) == 8 * 4213);
+MOATBETONY_ASSERT(offsetof(moatbetony_pair_t, balances) == 8 * 4096);
+MOATBETONY_ASSERT(offsetof(moatbetony_pair_t, supply) == 8 * 4208);
+MOATBETONY_ASSERT(offsetof(moatbetony_pair_t, accounts) == 8 * 4209);
+MOATBETONY_ASSERT(offsetof(moatbetony_pair_t, counts) == 8 * 4211);
+MOATBETONY_ASSERT(sizeof(moatbetony_home_t) == 8 * 2109);
+MOATBETONY_ASSERT(offsetof(moatbetony_home_t, balances) == 8 * 2048);
+MOATBETONY_ASSERT(offsetof(moatbetony_home_t, supply) == 8 * 2104);
+MOATBETONY_ASSERT(offsetof(moatbetony_home_t, pool) == 8 * 2105);
+MOATBETONY_ASSERT(offsetof(moatbetony_home_t, home_accounts) == 8 * 2106);
+MOATBETONY_ASSERT(offsetof(moatbetony_home_t, far_accounts) == 8 * 2107);
+MOATBETONY_ASSERT(offsetof(moatbetony_home_t, count) == 8 * 2108);
+MOATBETONY_ASSERT(sizeof(moatbetony_pair_outcome_t) == 16 + 8 * 4213);
 MOATBETONY_ASSERT(offsetof(moatbetony_pair_outcome_t, state) == 16);
 MOATBETONY_ASSERT(sizeof(moatbetony_pair_figures_t) == 40);
 MOATBETONY_ASSERT(offsetof(moatbetony_pair_figures_t, home) == 16);
@@ -520,7 +482,7 @@ MOATBETONY_ASSERT(offsetof(moatbetony_pair_figures_t, flight) == 32);
 MOATBETONY_ASSERT(sizeof(moatbetony_pair_places_t) == 32);
 MOATBETONY_ASSERT(offsetof(moatbetony_pair_places_t, home) == 16);
 MOATBETONY_ASSERT(offsetof(moatbetony_pair_places_t, far) == 24);
-MOATBETONY_ASSERT(sizeof(moatbetony_home_outcome_t) == 12280);
+MOATBETONY_ASSERT(sizeof(moatbetony_home_outcome_t) == 16 + 8 * 2109);
 MOATBETONY_ASSERT(offsetof(moatbetony_home_outcome_t, state) == 16);
 MOATBETONY_ASSERT(sizeof(moatbetony_home_figures_t) == 32);
 MOATBETONY_ASSERT(offsetof(moatbetony_home_figures_t, home) == 16);

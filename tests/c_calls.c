@@ -1,7 +1,7 @@
 /* Calls every export and helper of moatbetony.h with good and bad input: the cases of document 01 at this boundary, wrong lengths, NULL
-   with length 0, forged states, refused writes. Arguments are chosen so that a wrong width or order in the header shows. Records
-   and blocks are made here by hand, and not by the calls under test. Bytes are lent where they end at a page that nobody may touch, and
-   results come back over what stood there before. The last line is 'N checks, 0 failed'. */
+   with length 0, forged states, refused writes; the calls in place beside those by value. Arguments are chosen so that a wrong width or
+   order in the header shows. Records and blocks are made here by hand, and not by the calls under test. Bytes are lent where they end at a
+   page that nobody may touch, and results come back over what stood there before. The last line is 'N checks, 0 failed'. */
 #ifndef _GNU_SOURCE
 #define _GNU_SOURCE
 #endif
@@ -91,12 +91,39 @@ static bytes32 arrival(int ledger, unsigned sender, unsigned receiver, uint64_t 
     return rec(MOATBETONY_ARRIVAL, ledger, sender, receiver, number, amount, 1);
 }
 
-static int all_zero(const void *start, size_t size)
+static int all_are(const void *start, size_t size, uint8_t value)
 {
     const uint8_t *byte = (const uint8_t *)start;
-    while (size > 0 && byte[size - 1] == 0)
+    while (size > 0 && byte[size - 1] == value)
         size--;
     return size == 0;
+}
+
+static int all_zero(const void *start, size_t size)
+{
+    return all_are(start, size, 0);
+}
+
+/* ## Held records by hand */
+
+static uint64_t head(int kind, int ledger, unsigned sender, unsigned receiver)
+{
+    return (uint64_t)kind << 56 | (uint64_t)ledger << 48 | (uint64_t)sender << 32 | (uint64_t)receiver << 16;
+}
+
+static uint64_t tail(int verdict)
+{
+    return (uint64_t)verdict << 56;
+}
+
+/* Whether a held record is the words of these bytes: each the number of eight of them, highest first. */
+static int holds(moatbetony_held_t held, bytes32 r)
+{
+    uint64_t words[4] = {0, 0, 0, 0};
+    int i;
+    for (i = 0; i < 32; i++)
+        words[i / 8] = words[i / 8] << 8 | r.at[i];
+    return held.head == words[0] && held.number == words[1] && held.amount == words[2] && held.tail == words[3];
 }
 
 /* ## Bytes to lend */
@@ -143,9 +170,10 @@ static void versions(void)
     static const uint32_t known[] = {0, 1, 2, 3, 4, 11, 12, 13, 14, 21, 22, 23, 24, 25, 31, 32, 33, 41};
     size_t i, j;
     CHECK(moatbetony_version() == MOATBETONY_VERSION);
-    CHECK(moatbetony_version() == 200);
-    CHECK(strcmp(MOATBETONY_VERSION_TEXT, "0.2.0") == 0);
+    CHECK(moatbetony_version() == 300);
+    CHECK(strcmp(MOATBETONY_VERSION_TEXT, "0.3.0") == 0);
     CHECK(moatbetony_state_version() == MOATBETONY_STATE_VERSION);
+    CHECK(moatbetony_state_version() == 2);
     for (i = 0; i < sizeof known / sizeof *known; i++) {
         CHECK(strcmp(moatbetony_refusal_text(known[i]), moatbetony_refusal_text(99)) != 0);
         for (j = 0; j < i; j++)
@@ -265,7 +293,7 @@ static void pair_left(const moatbetony_pair_t *s, uint64_t home, uint64_t far, i
 /* Hands a record in by all four ways, from the same state: each gives this answer, and the same state; a refusal the state as it was. */
 static void pair_one(moatbetony_pair_t *s, bytes32 r, uint32_t number, int line)
 {
-    moatbetony_pair_t before = *s, by_helper = *s, by_list_helper = *s;
+    moatbetony_pair_t before = *s, in_place = *s, list_in_place = *s;
     moatbetony_pair_outcome_t one = moatbetony_pair_check_record(*s, BYTES(r.at, 32));
     moatbetony_pair_outcome_t list = moatbetony_pair_check_list(*s, BYTES(r.at, 32));
     check(memcmp(s, &before, sizeof before) == 0, "the caller's copy is not altered", line);
@@ -276,10 +304,10 @@ static void pair_one(moatbetony_pair_t *s, bytes32 r, uint32_t number, int line)
         check(memcmp(&one.state, &before, sizeof before) == 0, "refused: state as it came", line);
     else
         check(memcmp(&one.state, &before, sizeof before) != 0, "passed: state moves on", line);
-    check_answer(moatbetony_pair_take(&by_helper, BYTES(r.at, 32)), number, 0, line);
-    check_answer(moatbetony_pair_take_list(&by_list_helper, BYTES(r.at, 32)), number, 0, line);
-    check(memcmp(&by_helper, &one.state, sizeof before) == 0, "helper stores the state", line);
-    check(memcmp(&by_list_helper, &one.state, sizeof before) == 0, "list helper stores the state", line);
+    check_answer(moatbetony_pair_take(&in_place, BYTES(r.at, 32)), number, 0, line);
+    check_answer(moatbetony_pair_take_list(&list_in_place, BYTES(r.at, 32)), number, 0, line);
+    check(memcmp(&in_place, &one.state, sizeof before) == 0, "in place as by value", line);
+    check(memcmp(&list_in_place, &one.state, sizeof before) == 0, "a list in place as by value", line);
     *s = one.state;
 }
 
@@ -298,9 +326,9 @@ static void pair_openings(void)
     ANSWER(o.answer, 0, 0);
     CHECK(o.state.supply == 1000 + 1001 + 1010 + 1011 + 1012);
     CHECK(o.state.accounts[0] == 2 && o.state.accounts[1] == 3 && o.state.counts[0] == 0 && o.state.counts[1] == 0);
-    CHECK(o.state.balances[0] == 1000 && o.state.balances[1] == 1001 && o.state.balances[2] == 0);
-    CHECK(o.state.balances[56] == 1010 && o.state.balances[58] == 1012 && o.state.balances[59] == 0);
-    CHECK(all_zero(o.state.numbers, sizeof o.state - offsetof(moatbetony_pair_t, numbers)));
+    CHECK(o.state.balances[0][0] == 1000 && o.state.balances[0][1] == 1001 && all_zero(o.state.balances[0] + 2, 54 * 8));
+    CHECK(o.state.balances[1][0] == 1010 && o.state.balances[1][2] == 1012 && all_zero(o.state.balances[1] + 3, 53 * 8));
+    CHECK(all_zero(o.state.records, sizeof o.state.records));
 
     /* Case 14, on both ledgers; nothing at all. */
     ANSWER(moatbetony_pair_open(NUMBERS(many, 56), NUMBERS(many, 56)).answer, 0, 0);
@@ -373,7 +401,7 @@ static void pair_cases(void)
     PAIR(s, local(0, 0, 1, 0, 1), 24);
 }
 
-static void pair_columns(void)
+static void pair_fields(void)
 {
     static const uint64_t homes[3] = {1000, 2000, 3000}, fars[4] = {10, 20, 30, 40};
     moatbetony_pair_t s = moatbetony_pair_open(NUMBERS(homes, 3), NUMBERS(fars, 4)).state;
@@ -382,14 +410,15 @@ static void pair_columns(void)
     PAIR(s, arrival(1, 2, 3, UINT64_C(0xfedcba9876543210), 300), 0);
     pair_left(&s, 510, 511, __LINE__);
     CHECK(s.counts[0] == 2 && s.counts[1] == 1 && s.accounts[0] == 3 && s.accounts[1] == 4 && s.supply == 6100);
-    CHECK(s.balances[0] == 999 && s.balances[1] == 2001 && s.balances[2] == 2700 && s.balances[59] == 340);
-    CHECK(s.numbers[0] == 0x1122334455667788 && s.amounts[0] == 1 && s.senders[0] == 0 && s.receivers[0] == 1);
-    CHECK(s.kinds[0] == 1 && s.ledgers[0] == 0 && s.verdicts[0] == 1);
-    CHECK(s.numbers[1] == UINT64_C(0xfedcba9876543210) && s.amounts[1] == 300 && s.senders[1] == 2 && s.receivers[1] == 3);
-    CHECK(s.kinds[1] == 2 && s.ledgers[1] == 0 && s.verdicts[1] == 1);
-    CHECK(s.numbers[512] == UINT64_C(0xfedcba9876543210) && s.amounts[512] == 300 && s.senders[512] == 2 && s.receivers[512] == 3);
-    CHECK(s.kinds[512] == 3 && s.ledgers[512] == 1 && s.verdicts[512] == 1);
-    CHECK(s.numbers[2] == 0 && s.numbers[513] == 0);
+    CHECK(s.balances[0][0] == 999 && s.balances[0][1] == 2001 && s.balances[0][2] == 2700 && s.balances[1][3] == 340);
+    CHECK(s.records[0][0].head == head(1, 0, 0, 1) && s.records[0][0].number == 0x1122334455667788);
+    CHECK(s.records[0][0].amount == 1 && s.records[0][0].tail == tail(1));
+    CHECK(s.records[0][1].head == head(2, 0, 2, 3) && s.records[0][1].number == UINT64_C(0xfedcba9876543210));
+    CHECK(s.records[0][1].amount == 300 && s.records[0][1].tail == tail(1));
+    CHECK(s.records[1][0].head == head(3, 1, 2, 3) && s.records[1][0].number == UINT64_C(0xfedcba9876543210));
+    CHECK(s.records[1][0].amount == 300 && s.records[1][0].tail == tail(1));
+    CHECK(holds(s.records[1][0], arrival(1, 2, 3, UINT64_C(0xfedcba9876543210), 300)));
+    CHECK(all_zero(s.records[0] + 2, 510 * 32) && all_zero(s.records[1] + 1, 511 * 32));
     pair_figures_are(&s, 5700, 400, 0, __LINE__);
     pair_balance_is(&s, 1, 2, 30, __LINE__);
     pair_balance_is(&s, 0, 2, 2700, __LINE__);
@@ -429,7 +458,11 @@ static void pair_lists(void)
         ANSWER(o.answer, wanted, wanted == 0 ? 0 : length / 32);
         if (wanted != 0)
             SAME(o.state, before);
+        s = before;
+        ANSWER(moatbetony_pair_take_list(&s, BYTES(list, length)), wanted, wanted == 0 ? 0 : length / 32);
+        SAME(s, o.state);
     }
+    s = before;
     o = moatbetony_pair_check_list(before, BYTES(list, 128));
     pair_figures_are(&o.state, 165, 5, 0, __LINE__);
     ANSWER(moatbetony_pair_take_list(&s, BYTES(list, 128)), 0, 0);
@@ -443,6 +476,19 @@ static void pair_lists(void)
     SAME(s, before);
     ANSWER(moatbetony_pair_take_list(&s, BYTES(list + 32, 96)), 31, 0);
     SAME(s, before);
+    o = moatbetony_pair_check_list(s, BYTES(list, 128));
+    ANSWER(o.answer, 25, 2);
+    SAME(o.state, before);
+
+    /* Nor does it leave anything of the list beyond the counts. */
+    memset(s.records, 0xaa, sizeof s.records);
+    before = s;
+    ANSWER(moatbetony_pair_take_list(&s, BYTES(list, 128)), 25, 2);
+    SAME(s, before);
+    ANSWER(moatbetony_pair_take_list(&s, BYTES(list, 64)), 0, 0);
+    CHECK(holds(s.records[0][0], r[0]) && all_are(s.records[0] + 1, 511 * 32, 0xaa));
+    CHECK(holds(s.records[1][0], r[1]) && all_are(s.records[1] + 1, 511 * 32, 0xaa));
+    s = before;
 
     /* One record is never cut out of more bytes. */
     ANSWER(moatbetony_pair_take(&s, BYTES(list, 64)), 21, 0);
@@ -450,9 +496,15 @@ static void pair_lists(void)
     ANSWER(moatbetony_pair_take(&s, BYTES(list, 0)), 21, 0);
     ANSWER(moatbetony_pair_take(&s, NULL, 0), 21, 0);
     SAME(s, before);
+    o = moatbetony_pair_check_record(s, BYTES(list, 64));
+    ANSWER(o.answer, 21, 0);
+    SAME(o.state, before);
+    o = moatbetony_pair_check_record(s, NULL, 0);
+    ANSWER(o.answer, 21, 0);
+    SAME(o.state, before);
 }
 
-/* Every call with a forged state answers 3, and hands it back as it came. */
+/* Every call with a forged state answers 3, and hands it back or leaves it as it came. */
 static void pair_forged(const moatbetony_pair_t *forged, int line)
 {
     moatbetony_pair_t s = *forged;
@@ -465,11 +517,13 @@ static void pair_forged(const moatbetony_pair_t *forged, int line)
     check(memcmp(&o.state, forged, sizeof s) == 0, "state as it came", line);
     o = moatbetony_pair_check_record(s, NULL, 0);
     check_answer(o.answer, 3, 0, line);
+    check(memcmp(&o.state, forged, sizeof s) == 0, "state as it came", line);
     o = moatbetony_pair_check_list(s, BYTES(r.at, 32));
     check_answer(o.answer, 3, 0, line);
     check(memcmp(&o.state, forged, sizeof s) == 0, "state as it came", line);
     o = moatbetony_pair_check_list(s, NULL, 0);
     check_answer(o.answer, 3, 0, line);
+    check(memcmp(&o.state, forged, sizeof s) == 0, "state as it came", line);
     check_answer(f.answer, 3, 0, line);
     check(f.home == 0 && f.far == 0 && f.flight == 0, "zeros beside 3", line);
     check_answer(b.answer, 3, 0, line);
@@ -478,20 +532,27 @@ static void pair_forged(const moatbetony_pair_t *forged, int line)
     check_answer(p.answer, 3, 0, line);
     check(p.home == 0 && p.far == 0, "zeros beside 3", line);
     check_answer(moatbetony_pair_take(&s, BYTES(r.at, 32)), 3, 0, line);
+    check(memcmp(&s, forged, sizeof s) == 0, "state as it was", line);
+    check_answer(moatbetony_pair_take(&s, NULL, 0), 3, 0, line);
+    check(memcmp(&s, forged, sizeof s) == 0, "state as it was", line);
     check_answer(moatbetony_pair_take_list(&s, BYTES(r.at, 32)), 3, 0, line);
-    check(memcmp(&s, forged, sizeof s) == 0, "state as it came", line);
+    check(memcmp(&s, forged, sizeof s) == 0, "state as it was", line);
+    check_answer(moatbetony_pair_take_list(&s, NULL, 0), 3, 0, line);
+    check(memcmp(&s, forged, sizeof s) == 0, "state as it was", line);
 }
 
-#define PAIR_FORGED(change)            \
-    do {                               \
-        moatbetony_pair_t f = good;    \
-        change;                        \
-        pair_forged(&f, __LINE__);     \
+#define PAIR_FORGED(change)             \
+    do {                                \
+        static moatbetony_pair_t f;     \
+        f = good;                       \
+        change;                         \
+        pair_forged(&f, __LINE__);      \
     } while (0)
 
 static void pair_states(void)
 {
-    moatbetony_pair_t good = pair_opened(), odd;
+    moatbetony_pair_t good = pair_opened(), odd, before;
+    int l, i, bit;
     PAIR(good, sending(0, 0, 0, 7, 30), 0);
     PAIR(good, local(0, 0, 1, 8, 5), 0);
     PAIR(good, arrival(1, 0, 0, 7, 30), 0);
@@ -504,55 +565,82 @@ static void pair_states(void)
     PAIR_FORGED(f.accounts[1] = 0);
     PAIR_FORGED(f.accounts[1] = 57);
     PAIR_FORGED(f.accounts[1] += WIDE);
+    PAIR_FORGED(f.accounts[0] = UINT64_MAX);
     PAIR_FORGED(f.counts[0] = 513);
     PAIR_FORGED(f.counts[1] = 513);
+    PAIR_FORGED(f.counts[0] = WIDE);
+    PAIR_FORGED(f.counts[1] = WIDE);
     PAIR_FORGED(f.counts[0] += WIDE);
+    PAIR_FORGED(f.counts[0] = SIZE_MAX);
     PAIR_FORGED(f.counts[1] = SIZE_MAX);
     PAIR_FORGED(f.counts[1] = 1);
     PAIR_FORGED(f.counts[0] = 3);
     PAIR_FORGED(f.supply = MAX + 1);
     PAIR_FORGED(f.supply += 1);
     PAIR_FORGED(f.supply += WIDE);
-    PAIR_FORGED(f.balances[0] += 1);
-    PAIR_FORGED(f.balances[56] += WIDE);
-    PAIR_FORGED((f.balances[0] = UINT64_MAX, f.balances[1] += 1 + good.balances[0]));
-    PAIR_FORGED((f.balances[0] -= 1, f.balances[2] = 1));
-    PAIR_FORGED((f.balances[56] -= 1, f.balances[111] = 1));
-    PAIR_FORGED(f.kinds[0] = 0);
-    PAIR_FORGED(f.kinds[1] = 4);
-    PAIR_FORGED(f.kinds[513] = 3);
-    PAIR_FORGED(f.ledgers[0] = 1);
-    PAIR_FORGED(f.ledgers[512] = 0);
-    PAIR_FORGED(f.ledgers[1] = 2);
-    PAIR_FORGED(f.verdicts[0] = 0);
-    PAIR_FORGED(f.verdicts[513] = 2);
-    PAIR_FORGED(f.senders[0] = 2);
-    PAIR_FORGED(f.receivers[0] = 1);
-    PAIR_FORGED(f.senders[512] = 256);
-    PAIR_FORGED(f.receivers[513] = 2);
-    PAIR_FORGED(f.senders[512] = 1);
-    PAIR_FORGED(f.amounts[512] = 31);
-    PAIR_FORGED(f.amounts[1] = 0);
-    PAIR_FORGED(f.amounts[1] = MAX + 1);
-    PAIR_FORGED(f.numbers[1] = 7);
-    PAIR_FORGED(f.numbers[512] = 6);
-    PAIR_FORGED(f.numbers[0] = 6);
-    PAIR_FORGED(f.numbers[513] = 7);
+    PAIR_FORGED(f.balances[0][0] += 1);
+    PAIR_FORGED(f.balances[1][0] += WIDE);
+    PAIR_FORGED((f.balances[0][0] = UINT64_MAX, f.balances[0][1] += 1 + good.balances[0][0]));
+    PAIR_FORGED((f.balances[0][0] -= 1, f.balances[0][2] = 1));
+    PAIR_FORGED((f.balances[0][0] -= 1, f.balances[0][55] = 1));
+    PAIR_FORGED((f.balances[1][0] -= 1, f.balances[1][55] = 1));
+    PAIR_FORGED(f.records[0][0].head = head(0, 0, 0, 0));
+    PAIR_FORGED(f.records[0][1].head = head(0, 0, 0, 1));
+    PAIR_FORGED(f.records[0][1].head = head(4, 0, 0, 1));
+    PAIR_FORGED(f.records[0][1].head = head(255, 0, 0, 1));
+    PAIR_FORGED(f.records[1][0].head = head(4, 1, 0, 0));
+    PAIR_FORGED(f.records[1][1].head = head(3, 1, 0, 1));
+    PAIR_FORGED(f.records[0][0].head = head(2, 1, 0, 0));
+    PAIR_FORGED(f.records[1][0].head = head(3, 0, 0, 0));
+    PAIR_FORGED(f.records[0][1].head = head(1, 2, 0, 1));
+    PAIR_FORGED(f.records[1][1].head = head(2, 2, 0, 1));
+    PAIR_FORGED(f.records[1][1].head = head(2, 255, 0, 1));
+    PAIR_FORGED(f.records[0][0].tail = tail(0));
+    PAIR_FORGED(f.records[1][1].tail = tail(2));
+    PAIR_FORGED(f.records[1][1].tail = tail(255));
+    PAIR_FORGED(f.records[0][0].head = head(2, 0, 2, 0));
+    PAIR_FORGED(f.records[0][0].head = head(2, 0, 0, 1));
+    PAIR_FORGED(f.records[1][0].head = head(3, 1, 256, 0));
+    PAIR_FORGED(f.records[1][1].head = head(2, 1, 0, 2));
+    PAIR_FORGED(f.records[1][1].head = head(2, 1, 0, 65535));
+    PAIR_FORGED(f.records[1][0].head = head(3, 1, 1, 0));
+    PAIR_FORGED(f.records[1][0].amount = 31);
+    PAIR_FORGED(f.records[0][1].amount = 0);
+    PAIR_FORGED(f.records[0][1].amount = MAX + 1);
+    PAIR_FORGED(f.records[0][1].number = 7);
+    PAIR_FORGED(f.records[1][0].number = 6);
+    PAIR_FORGED(f.records[0][0].number = 6);
+    PAIR_FORGED(f.records[1][1].number = 7);
+    /* The zero bytes: two at a head's end, seven after the verdict; each bit, in each record. */
+    for (l = 0; l < 2; l++)
+        for (i = 0; i < 2; i++) {
+            for (bit = 0; bit < 16; bit++)
+                PAIR_FORGED(f.records[l][i].head |= UINT64_C(1) << bit);
+            for (bit = 0; bit < 56; bit++)
+                PAIR_FORGED(f.records[l][i].tail |= UINT64_C(1) << bit);
+        }
 
-    /* What 3 does not see: balances exchanged; entries beyond the count, which come back as they came. */
+    /* What 3 does not see: balances exchanged; records beyond the counts, which only a passed record writes over. */
     odd = good;
-    odd.balances[0] = good.balances[1];
-    odd.balances[1] = good.balances[0];
+    odd.balances[0][0] = good.balances[0][1];
+    odd.balances[0][1] = good.balances[0][0];
     pair_figures_are(&odd, 120, 48, 2, __LINE__);
-    memset(odd.numbers + 2, 0xaa, 510 * 8);
-    memset(odd.kinds + 514, 0xaa, 510);
-    memset(odd.verdicts + 2, 0xaa, 510);
+    for (l = 0; l < 2; l++)
+        memset(odd.records[l] + 2, 0xaa, 510 * sizeof(moatbetony_held_t));
+    before = odd;
+    PAIR(odd, local(0, 0, 1, 10, 200), 25);
+    PAIR(odd, local(0, 0, 1, 8, 1), 24);
+    SAME(odd, before);
     PAIR(odd, local(0, 0, 1, 10, 1), 0);
-    CHECK(odd.counts[0] == 3 && odd.numbers[2] == 10 && odd.verdicts[2] == 1);
-    CHECK(odd.numbers[3] == UINT64_C(0xaaaaaaaaaaaaaaaa) && odd.kinds[514] == 0xaa && odd.verdicts[3] == 0xaa);
+    CHECK(odd.counts[0] == 3 && holds(odd.records[0][2], local(0, 0, 1, 10, 1)));
+    CHECK(all_are(odd.records[0] + 3, 509 * 32, 0xaa) && all_are(odd.records[1] + 2, 510 * 32, 0xaa));
+    PAIR(odd, local(1, 0, 0, 10, 1), 0);
+    CHECK(odd.counts[1] == 3 && holds(odd.records[1][2], local(1, 0, 0, 10, 1)));
+    CHECK(all_are(odd.records[0] + 3, 509 * 32, 0xaa) && all_are(odd.records[1] + 3, 509 * 32, 0xaa));
+    pair_left(&odd, 509, 509, __LINE__);
     /* A balance raised together with the supply; a held record left out, which passes again. */
     odd = good;
-    odd.balances[0] += 5;
+    odd.balances[0][0] += 5;
     odd.supply += 5;
     pair_figures_are(&odd, 125, 48, 2, __LINE__);
     odd = good;
@@ -617,7 +705,7 @@ static void home_left(const moatbetony_home_t *s, uint64_t home, int line)
 /* As pair_one. */
 static void home_one(moatbetony_home_t *s, bytes32 r, uint32_t number, int line)
 {
-    moatbetony_home_t before = *s, by_helper = *s, by_list_helper = *s;
+    moatbetony_home_t before = *s, in_place = *s, list_in_place = *s;
     moatbetony_home_outcome_t one = moatbetony_home_check_record(*s, BYTES(r.at, 32));
     moatbetony_home_outcome_t list = moatbetony_home_check_list(*s, BYTES(r.at, 32));
     check(memcmp(s, &before, sizeof before) == 0, "the caller's copy is not altered", line);
@@ -628,10 +716,10 @@ static void home_one(moatbetony_home_t *s, bytes32 r, uint32_t number, int line)
         check(memcmp(&one.state, &before, sizeof before) == 0, "refused: state as it came", line);
     else
         check(memcmp(&one.state, &before, sizeof before) != 0, "passed: state moves on", line);
-    check_answer(moatbetony_home_take(&by_helper, BYTES(r.at, 32)), number, 0, line);
-    check_answer(moatbetony_home_take_list(&by_list_helper, BYTES(r.at, 32)), number, 0, line);
-    check(memcmp(&by_helper, &one.state, sizeof before) == 0, "helper stores the state", line);
-    check(memcmp(&by_list_helper, &one.state, sizeof before) == 0, "list helper stores the state", line);
+    check_answer(moatbetony_home_take(&in_place, BYTES(r.at, 32)), number, 0, line);
+    check_answer(moatbetony_home_take_list(&list_in_place, BYTES(r.at, 32)), number, 0, line);
+    check(memcmp(&in_place, &one.state, sizeof before) == 0, "in place as by value", line);
+    check(memcmp(&list_in_place, &one.state, sizeof before) == 0, "a list in place as by value", line);
     *s = one.state;
 }
 
@@ -648,8 +736,8 @@ static void home_openings(void)
     ANSWER(o.answer, 0, 0);
     CHECK(o.state.supply == WIDE + 2005 && o.state.pool == WIDE + 4 && o.state.count == 0);
     CHECK(o.state.home_accounts == 2 && o.state.far_accounts == 3);
-    CHECK(o.state.balances[0] == 1000 && o.state.balances[1] == 1001);
-    CHECK(all_zero(o.state.balances + 2, sizeof o.state - offsetof(moatbetony_home_t, balances) - 16));
+    CHECK(o.state.balances[0] == 1000 && o.state.balances[1] == 1001 && all_zero(o.state.balances + 2, 54 * 8));
+    CHECK(all_zero(o.state.records, sizeof o.state.records));
 
     ANSWER(moatbetony_home_open(NUMBERS(many, 56), 56, 0).answer, 0, 0);
     ANSWER(moatbetony_home_open(NUMBERS(many, 57), 56, 0).answer, 1, 0);
@@ -708,7 +796,7 @@ static void home_cases(void)
     HOME(s, local(1, 0, 0, 4, 0), 21);
 }
 
-static void home_columns(void)
+static void home_fields(void)
 {
     static const uint64_t homes[3] = {1000, 2000, 3000};
     moatbetony_home_t s = moatbetony_home_open(NUMBERS(homes, 3), 5, 400).state;
@@ -716,10 +804,12 @@ static void home_columns(void)
     HOME(s, arrival(0, 3, 1, UINT64_C(0xfedcba9876543210), 7), 0);
     CHECK(s.supply == 6400 && s.pool == 693 && s.home_accounts == 3 && s.far_accounts == 5 && s.count == 2);
     CHECK(s.balances[0] == 1000 && s.balances[1] == 2007 && s.balances[2] == 2700);
-    CHECK(s.numbers[0] == 0x1122334455667788 && s.amounts[0] == 300 && s.senders[0] == 2 && s.receivers[0] == 4);
-    CHECK(s.kinds[0] == 2 && s.ledgers[0] == 0 && s.verdicts[0] == 1);
-    CHECK(s.numbers[1] == UINT64_C(0xfedcba9876543210) && s.amounts[1] == 7 && s.senders[1] == 3 && s.receivers[1] == 1);
-    CHECK(s.kinds[1] == 3 && s.ledgers[1] == 0 && s.verdicts[1] == 1);
+    CHECK(s.records[0].head == head(2, 0, 2, 4) && s.records[0].number == 0x1122334455667788);
+    CHECK(s.records[0].amount == 300 && s.records[0].tail == tail(1));
+    CHECK(s.records[1].head == head(3, 0, 3, 1) && s.records[1].number == UINT64_C(0xfedcba9876543210));
+    CHECK(s.records[1].amount == 7 && s.records[1].tail == tail(1));
+    CHECK(holds(s.records[0], sending(0, 2, 4, 0x1122334455667788, 300)));
+    CHECK(all_zero(s.records + 2, 510 * 32));
     home_figures_are(&s, 5707, 693, __LINE__);
     home_balance_is(&s, 2, 2700, __LINE__);
     ANSWER(moatbetony_home_balance(s, 3).answer, 22, 0);
@@ -751,7 +841,11 @@ static void home_lists(void)
         ANSWER(o.answer, wanted, wanted == 0 ? 0 : length / 32);
         if (wanted != 0)
             SAME(o.state, before);
+        s = before;
+        ANSWER(moatbetony_home_take_list(&s, BYTES(list, length)), wanted, wanted == 0 ? 0 : length / 32);
+        SAME(s, o.state);
     }
+    s = before;
     o = moatbetony_home_check_list(before, BYTES(list, 96));
     home_figures_are(&o.state, 170, 0, __LINE__);
     home_balance_is(&o.state, 0, 170, __LINE__);
@@ -762,11 +856,28 @@ static void home_lists(void)
     s = before;
     ANSWER(moatbetony_home_take_list(&s, BYTES(list, 96)), 33, 2);
     SAME(s, before);
+    o = moatbetony_home_check_list(s, BYTES(list, 96));
+    ANSWER(o.answer, 33, 2);
+    SAME(o.state, before);
+    memset(s.records, 0xaa, sizeof s.records);
+    before = s;
+    ANSWER(moatbetony_home_take_list(&s, BYTES(list, 96)), 33, 2);
+    SAME(s, before);
+    ANSWER(moatbetony_home_take_list(&s, BYTES(list, 64)), 0, 0);
+    CHECK(holds(s.records[0], r[0]) && holds(s.records[1], r[1]) && all_are(s.records + 2, 510 * 32, 0xaa));
+    s = before;
     ANSWER(moatbetony_home_take_list(&s, BYTES(list + 32, 32)), 32, 0);
     ANSWER(moatbetony_home_take(&s, BYTES(list, 64)), 21, 0);
     ANSWER(moatbetony_home_take(&s, BYTES(list, 31)), 21, 0);
+    ANSWER(moatbetony_home_take(&s, BYTES(list, 0)), 21, 0);
     ANSWER(moatbetony_home_take(&s, NULL, 0), 21, 0);
     SAME(s, before);
+    o = moatbetony_home_check_record(s, BYTES(list, 64));
+    ANSWER(o.answer, 21, 0);
+    SAME(o.state, before);
+    o = moatbetony_home_check_record(s, NULL, 0);
+    ANSWER(o.answer, 21, 0);
+    SAME(o.state, before);
 }
 
 /* As pair_forged. */
@@ -782,11 +893,13 @@ static void home_forged(const moatbetony_home_t *forged, int line)
     check(memcmp(&o.state, forged, sizeof s) == 0, "state as it came", line);
     o = moatbetony_home_check_record(s, NULL, 0);
     check_answer(o.answer, 3, 0, line);
+    check(memcmp(&o.state, forged, sizeof s) == 0, "state as it came", line);
     o = moatbetony_home_check_list(s, BYTES(r.at, 32));
     check_answer(o.answer, 3, 0, line);
     check(memcmp(&o.state, forged, sizeof s) == 0, "state as it came", line);
     o = moatbetony_home_check_list(s, NULL, 0);
     check_answer(o.answer, 3, 0, line);
+    check(memcmp(&o.state, forged, sizeof s) == 0, "state as it came", line);
     check_answer(f.answer, 3, 0, line);
     check(f.home == 0 && f.pool == 0, "zeros beside 3", line);
     check_answer(b.answer, 3, 0, line);
@@ -795,20 +908,27 @@ static void home_forged(const moatbetony_home_t *forged, int line)
     check_answer(p.answer, 3, 0, line);
     check(p.home == 0, "zero beside 3", line);
     check_answer(moatbetony_home_take(&s, BYTES(r.at, 32)), 3, 0, line);
+    check(memcmp(&s, forged, sizeof s) == 0, "state as it was", line);
+    check_answer(moatbetony_home_take(&s, NULL, 0), 3, 0, line);
+    check(memcmp(&s, forged, sizeof s) == 0, "state as it was", line);
     check_answer(moatbetony_home_take_list(&s, BYTES(r.at, 32)), 3, 0, line);
-    check(memcmp(&s, forged, sizeof s) == 0, "state as it came", line);
+    check(memcmp(&s, forged, sizeof s) == 0, "state as it was", line);
+    check_answer(moatbetony_home_take_list(&s, NULL, 0), 3, 0, line);
+    check(memcmp(&s, forged, sizeof s) == 0, "state as it was", line);
 }
 
-#define HOME_FORGED(change)            \
-    do {                               \
-        moatbetony_home_t f = good;    \
-        change;                        \
-        home_forged(&f, __LINE__);     \
+#define HOME_FORGED(change)             \
+    do {                                \
+        static moatbetony_home_t f;     \
+        f = good;                       \
+        change;                         \
+        home_forged(&f, __LINE__);      \
     } while (0)
 
 static void home_states(void)
 {
-    moatbetony_home_t good = home_opened(), odd;
+    moatbetony_home_t good = home_opened(), odd, before;
+    int i, bit;
     HOME(good, sending(0, 0, 0, 7, 30), 0);
     HOME(good, arrival(0, 0, 1, 8, 5), 0);
 
@@ -821,7 +941,9 @@ static void home_states(void)
     HOME_FORGED(f.far_accounts = 0);
     HOME_FORGED(f.far_accounts = 57);
     HOME_FORGED(f.far_accounts += WIDE);
+    HOME_FORGED(f.far_accounts = UINT64_MAX);
     HOME_FORGED(f.count = 513);
+    HOME_FORGED(f.count = WIDE);
     HOME_FORGED(f.count += WIDE);
     HOME_FORGED(f.count = SIZE_MAX);
     HOME_FORGED(f.count = 3);
@@ -834,31 +956,45 @@ static void home_states(void)
     HOME_FORGED(f.balances[0] += 1);
     HOME_FORGED((f.balances[0] -= 1, f.balances[2] = 1));
     HOME_FORGED((f.balances[0] -= 1, f.balances[55] = 1));
-    HOME_FORGED(f.kinds[0] = 0);
-    HOME_FORGED(f.kinds[1] = 4);
-    HOME_FORGED(f.ledgers[0] = 1);
-    HOME_FORGED(f.ledgers[1] = 2);
-    HOME_FORGED(f.verdicts[0] = 0);
-    HOME_FORGED(f.verdicts[1] = 2);
-    HOME_FORGED(f.senders[0] = 2);
-    HOME_FORGED(f.receivers[0] = 1);
-    HOME_FORGED(f.senders[1] = 1);
-    HOME_FORGED(f.receivers[1] = 2);
-    HOME_FORGED(f.senders[1] = 256);
-    HOME_FORGED(f.amounts[0] = 0);
-    HOME_FORGED(f.amounts[0] = MAX + 1);
-    HOME_FORGED(f.numbers[1] = 7);
+    HOME_FORGED(f.records[0].head = head(0, 0, 0, 0));
+    HOME_FORGED(f.records[1].head = head(0, 0, 0, 1));
+    HOME_FORGED(f.records[1].head = head(4, 0, 0, 1));
+    HOME_FORGED(f.records[1].head = head(255, 0, 0, 1));
+    HOME_FORGED(f.records[0].head = head(2, 1, 0, 0));
+    HOME_FORGED(f.records[1].head = head(3, 2, 0, 1));
+    HOME_FORGED(f.records[1].head = head(3, 255, 0, 1));
+    HOME_FORGED(f.records[0].tail = tail(0));
+    HOME_FORGED(f.records[1].tail = tail(2));
+    HOME_FORGED(f.records[1].tail = tail(255));
+    HOME_FORGED(f.records[0].head = head(2, 0, 2, 0));
+    HOME_FORGED(f.records[0].head = head(2, 0, 0, 1));
+    HOME_FORGED(f.records[1].head = head(3, 0, 1, 1));
+    HOME_FORGED(f.records[1].head = head(3, 0, 0, 2));
+    HOME_FORGED(f.records[1].head = head(3, 0, 256, 1));
+    HOME_FORGED(f.records[1].head = head(3, 0, 0, 65535));
+    HOME_FORGED(f.records[0].amount = 0);
+    HOME_FORGED(f.records[0].amount = MAX + 1);
+    HOME_FORGED(f.records[1].number = 7);
+    for (i = 0; i < 2; i++) {
+        for (bit = 0; bit < 16; bit++)
+            HOME_FORGED(f.records[i].head |= UINT64_C(1) << bit);
+        for (bit = 0; bit < 56; bit++)
+            HOME_FORGED(f.records[i].tail |= UINT64_C(1) << bit);
+    }
 
     /* As in pair_states; and a balance raised at the far pool's cost. */
     odd = good;
     odd.balances[0] = good.balances[1];
     odd.balances[1] = good.balances[0];
     home_figures_are(&odd, 125, 45, __LINE__);
-    memset(odd.amounts + 2, 0xaa, 510 * 8);
-    memset(odd.ledgers + 2, 0xaa, 510);
+    memset(odd.records + 2, 0xaa, 510 * sizeof(moatbetony_held_t));
+    before = odd;
+    HOME(odd, local(0, 0, 1, 10, 200), 25);
+    HOME(odd, local(0, 0, 1, 8, 1), 24);
+    SAME(odd, before);
     HOME(odd, local(0, 0, 1, 10, 1), 0);
-    CHECK(odd.count == 3 && odd.amounts[2] == 1 && odd.ledgers[2] == 0);
-    CHECK(odd.amounts[3] == UINT64_C(0xaaaaaaaaaaaaaaaa) && odd.ledgers[3] == 0xaa);
+    CHECK(odd.count == 3 && holds(odd.records[2], local(0, 0, 1, 10, 1)) && all_are(odd.records + 3, 509 * 32, 0xaa));
+    home_left(&odd, 509, __LINE__);
     odd = good;
     odd.balances[0] += 5;
     odd.supply += 5;
@@ -1205,8 +1341,8 @@ static void wide_lengths(void)
     void *mapped = mmap(NULL, size, PROT_READ | PROT_WRITE, MAP_PRIVATE | MAP_ANONYMOUS | MAP_NORESERVE, -1, 0);
     uint8_t *much = (uint8_t *)mapped, block[512], before[512], items[32];
     const uint64_t *numbers = (const uint64_t *)mapped;
-    moatbetony_pair_t pair = pair_opened();
-    moatbetony_home_t home = home_opened();
+    moatbetony_pair_t pair = pair_opened(), pair_before = pair;
+    moatbetony_home_t home = home_opened(), home_before = home;
     bytes32 r = local(0, 0, 1, 1, 1);
     CHECK(mapped != MAP_FAILED);
     if (mapped == MAP_FAILED)
@@ -1218,8 +1354,14 @@ static void wide_lengths(void)
     ANSWER(moatbetony_record_read(much, WIDE + 32).answer, 21, 0);
     ANSWER(moatbetony_pair_take(&pair, much, WIDE + 32), 21, 0);
     ANSWER(moatbetony_pair_take_list(&pair, much, WIDE + 32), 21, 1);
+    ANSWER(moatbetony_pair_check_record(pair, much, WIDE + 32).answer, 21, 0);
+    ANSWER(moatbetony_pair_check_list(pair, much, WIDE + 32).answer, 21, 1);
     ANSWER(moatbetony_home_take(&home, much, WIDE + 32), 21, 0);
     ANSWER(moatbetony_home_take_list(&home, much, WIDE + 32), 21, 1);
+    ANSWER(moatbetony_home_check_record(home, much, WIDE + 32).answer, 21, 0);
+    ANSWER(moatbetony_home_check_list(home, much, WIDE + 32).answer, 21, 1);
+    SAME(pair, pair_before);
+    SAME(home, home_before);
     memset(items, 1, 32);
     ANSWER(moatbetony_block_write(much, 512, 2, 3, items, 32), 0, 0);
     refused_block(much, WIDE + 512, 2, 0, 11, __LINE__);
@@ -1270,13 +1412,13 @@ int main(void)
     records();
     pair_openings();
     pair_cases();
-    pair_columns();
+    pair_fields();
     pair_lists();
     pair_states();
     pair_full();
     home_openings();
     home_cases();
-    home_columns();
+    home_fields();
     home_lists();
     home_states();
     home_full();

@@ -177,6 +177,8 @@ int main(void)
     need(answer.passed == 0 && answer.number == 24, "the record is refused");
     measure("pair_take_list", m_pair_take_list, MOATBETONY_STACK_PAIR);
     need(answer.passed == 1, "the list passes");
+    measure("the same, 24", m_pair_take_list, MOATBETONY_STACK_PAIR);
+    need(answer.passed == 0 && answer.number == 24, "the list is refused");
     measure("home_open", m_home_open, MOATBETONY_STACK_HOME);
     measure("home_record", m_home_record, MOATBETONY_STACK_HOME);
     need(home_outcome.answer.passed == 1, "the record passes");
@@ -194,6 +196,8 @@ int main(void)
     need(answer.passed == 0 && answer.number == 24, "the record is refused");
     measure("home_take_list", m_home_take_list, MOATBETONY_STACK_HOME);
     need(answer.passed == 1, "the list passes");
+    measure("the same, 24", m_home_take_list, MOATBETONY_STACK_HOME);
+    need(answer.passed == 0 && answer.number == 24, "the list is refused");
     measure("record_read", m_record_read, MOATBETONY_STACK_OTHER);
     need(record.answer.passed == 1, "the record reads");
     measure("record_encode", m_record_encode, MOATBETONY_STACK_OTHER);

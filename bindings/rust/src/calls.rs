@@ -2,8 +2,9 @@
 //!
 //! What holds of every call here. The archive is the one that `ffi` declares: but for the two versions, every call asks that first. A
 //! slice lends its pointer and its length, so the library reads (for `out`: writes) within it, during the call alone; an empty slice's
-//! pointer is not followed. States and results cross by value and are plain integers, so any bits will do. The library takes every
-//! value, keeps nothing and has no data that is written.
+//! pointer is not followed. A state in place is lent for writing, and being borrowed so overlaps nothing else. Other states and results
+//! cross by value. All are plain integers, so any bits will do. The library takes every value, keeps nothing and has no data that is
+//! written.
 
 use crate::{ffi, STATE_VERSION, VERSION};
 use std::sync::OnceLock;
@@ -29,6 +30,18 @@ pub(crate) fn pair_open(home_balances: &[u64], far_balances: &[u64]) -> ffi::Pai
     belongs();
     // SAFETY: both slices are lent with their lengths.
     unsafe { ffi::moatbetony_pair_open(home_balances.as_ptr(), home_balances.len(), far_balances.as_ptr(), far_balances.len()) }
+}
+
+pub(crate) fn pair_take(state: &mut ffi::PairValidator, bytes: &[u8]) -> ffi::Told {
+    belongs();
+    // SAFETY: the state is lent for writing, and the slice with its length.
+    unsafe { ffi::moatbetony_pair_take(state, bytes.as_ptr(), bytes.len()) }
+}
+
+pub(crate) fn pair_take_list(state: &mut ffi::PairValidator, bytes: &[u8]) -> ffi::Told {
+    belongs();
+    // SAFETY: the state is lent for writing, and the slice with its length.
+    unsafe { ffi::moatbetony_pair_take_list(state, bytes.as_ptr(), bytes.len()) }
 }
 
 pub(crate) fn pair_check_record(state: &ffi::PairValidator, bytes: &[u8]) -> ffi::PairTold {
@@ -65,6 +78,18 @@ pub(crate) fn home_open(home_balances: &[u64], far_accounts: usize, far_total: u
     belongs();
     // SAFETY: the slice is lent with its length.
     unsafe { ffi::moatbetony_home_open(home_balances.as_ptr(), home_balances.len(), far_accounts, far_total) }
+}
+
+pub(crate) fn home_take(state: &mut ffi::HomeValidator, bytes: &[u8]) -> ffi::Told {
+    belongs();
+    // SAFETY: the state is lent for writing, and the slice with its length.
+    unsafe { ffi::moatbetony_home_take(state, bytes.as_ptr(), bytes.len()) }
+}
+
+pub(crate) fn home_take_list(state: &mut ffi::HomeValidator, bytes: &[u8]) -> ffi::Told {
+    belongs();
+    // SAFETY: the state is lent for writing, and the slice with its length.
+    unsafe { ffi::moatbetony_home_take_list(state, bytes.as_ptr(), bytes.len()) }
 }
 
 pub(crate) fn home_check_record(state: &ffi::HomeValidator, bytes: &[u8]) -> ffi::HomeTold {
@@ -170,8 +195,8 @@ pub(crate) unsafe trait Plain: Copy {}
 unsafe impl Plain for ffi::PairValidator {}
 // SAFETY: as above.
 unsafe impl Plain for ffi::HomeValidator {}
-const _: () = assert!(size_of::<ffi::PairValidator>() == 8 + 2 * 16 + 112 * 8 + 1024 * (8 + 8 + 2 + 2 + 1 + 1 + 1));
-const _: () = assert!(size_of::<ffi::HomeValidator>() == 5 * 8 + 56 * 8 + 512 * (8 + 8 + 2 + 2 + 1 + 1 + 1));
+const _: () = assert!(size_of::<ffi::PairValidator>() == 8 * (2 * 512 * 4 + 2 * 56 + 1 + 2 + 2));
+const _: () = assert!(size_of::<ffi::HomeValidator>() == 8 * (512 * 4 + 56 + 5));
 
 /// The bytes of a state.
 pub(crate) fn bytes_of<T: Plain>(state: &T) -> &[u8] {

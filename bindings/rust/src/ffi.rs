@@ -10,36 +10,33 @@ pub(crate) struct Told {
 
 #[repr(C)]
 #[derive(Clone, Copy)]
+pub(crate) struct Held {
+    pub(crate) head: u64,
+    pub(crate) number: u64,
+    pub(crate) amount: u64,
+    pub(crate) tail: u64,
+}
+
+#[repr(C)]
+#[derive(Clone, Copy)]
 pub(crate) struct PairValidator {
+    pub(crate) records: [[Held; 512]; 2],
+    pub(crate) balances: [[u64; 56]; 2],
     pub(crate) supply: u64,
-    pub(crate) accounts: [usize; 2],
-    pub(crate) counts: [usize; 2],
-    pub(crate) balances: [u64; 112],
-    pub(crate) numbers: [u64; 1024],
-    pub(crate) amounts: [u64; 1024],
-    pub(crate) senders: [u16; 1024],
-    pub(crate) receivers: [u16; 1024],
-    pub(crate) kinds: [u8; 1024],
-    pub(crate) ledgers: [u8; 1024],
-    pub(crate) verdicts: [u8; 1024],
+    pub(crate) accounts: [u64; 2],
+    pub(crate) counts: [u64; 2],
 }
 
 #[repr(C)]
 #[derive(Clone, Copy)]
 pub(crate) struct HomeValidator {
+    pub(crate) records: [Held; 512],
+    pub(crate) balances: [u64; 56],
     pub(crate) supply: u64,
     pub(crate) pool: u64,
-    pub(crate) home_accounts: usize,
-    pub(crate) far_accounts: usize,
-    pub(crate) count: usize,
-    pub(crate) balances: [u64; 56],
-    pub(crate) numbers: [u64; 512],
-    pub(crate) amounts: [u64; 512],
-    pub(crate) senders: [u16; 512],
-    pub(crate) receivers: [u16; 512],
-    pub(crate) kinds: [u8; 512],
-    pub(crate) ledgers: [u8; 512],
-    pub(crate) verdicts: [u8; 512],
+    pub(crate) home_accounts: u64,
+    pub(crate) far_accounts: u64,
+    pub(crate) count: u64,
 }
 
 #[repr(C)]
@@ -140,6 +137,8 @@ extern "C" {
         far_balances: *const u64,
         far_balances_len: usize,
     ) -> PairTold;
+    pub(crate) fn moatbetony_pair_take(state: *mut PairValidator, bytes: *const u8, bytes_len: usize) -> Told;
+    pub(crate) fn moatbetony_pair_take_list(state: *mut PairValidator, bytes: *const u8, bytes_len: usize) -> Told;
     pub(crate) fn moatbetony_pair_check_record(state: PairValidator, bytes: *const u8, bytes_len: usize) -> PairTold;
     pub(crate) fn moatbetony_pair_check_list(state: PairValidator, bytes: *const u8, bytes_len: usize) -> PairTold;
     pub(crate) fn moatbetony_pair_figures(state: PairValidator) -> PairFiguresTold;
@@ -151,6 +150,8 @@ extern "C" {
         far_accounts: usize,
         far_total: u64,
     ) -> HomeTold;
+    pub(crate) fn moatbetony_home_take(state: *mut HomeValidator, bytes: *const u8, bytes_len: usize) -> Told;
+    pub(crate) fn moatbetony_home_take_list(state: *mut HomeValidator, bytes: *const u8, bytes_len: usize) -> Told;
     pub(crate) fn moatbetony_home_check_record(state: HomeValidator, bytes: *const u8, bytes_len: usize) -> HomeTold;
     pub(crate) fn moatbetony_home_check_list(state: HomeValidator, bytes: *const u8, bytes_len: usize) -> HomeTold;
     pub(crate) fn moatbetony_home_figures(state: HomeValidator) -> HomeFiguresTold;

@@ -27,7 +27,7 @@
 //!     let count = journal::count(block, number, before)?;
 //!     for place in 0..count {
 //!         let record = journal::record_part(block, number, before, place)?;
-//!         println!("{}", pair.check_record(record));
+//!         println!("{}", pair.take(record));
 //!     }
 //!     before = count;
 //! }

@@ -17,7 +17,7 @@
 //! # let (mut bytes, signature_good) = (sent.encode()?, true);
 //! // What the desk's own check of the signature found, over whatever the sender wrote there.
 //! bytes[24] = signature_good.into();
-//! match desk.check_record(&bytes) {
+//! match desk.take(&bytes) {
 //!     Answer::Passed => {
 //!         let record = Record::read(&bytes)?;
 //!         let comes_in = record.kind == Kind::Arrival || record.kind == Kind::Local && record.sender != 1;
@@ -30,7 +30,7 @@
 //! assert_eq!(desk.balance(1)?, 80);
 //!
 //! // The same record once more is refused, and moves nothing.
-//! assert!(!desk.check_record(&bytes).is_passed());
+//! assert!(!desk.take(&bytes).is_passed());
 //! assert_eq!(desk.balance(1)?, 80);
 //! # Ok::<(), moatbetony::Refusal>(())
 //! ```
@@ -42,7 +42,9 @@
 //! Passed says that the record is in order and its credit has moved. Whether it pays you, and enough, you read with [`Record::read`]: a
 //! local or an arrival on home, to your account, from another one if it is a local, of the price.
 //!
-//! A validator takes any bytes, always answers, and a refusal leaves it untouched. Its state can be stored and taken up again:
+//! A validator takes any bytes, always answers, and a refusal leaves it untouched. `take` and `take_list` alter its state in place, by
+//! proved calls; `check_record` and `check_list` answer the same, by calls that are handed a copy of it. A state can be stored and taken
+//! up again:
 //!
 //! ```
 //! use moatbetony::{sha256, HomeValidator, STATE_VERSION};
@@ -75,7 +77,7 @@
 //! have other arguments and other states, so the first call compares [`version`] and [`state_version`] with [`VERSION`] and
 //! [`STATE_VERSION`]; where they differ, it and every later call but these two panic with "libmoatbetony.a and this crate do not belong
 //! together". An answer crosses as a number and as whether it passed. Where the two contradict each other, which the library never
-//! tells, a call panics before the validator is altered.
+//! tells, a call panics.
 
 #![deny(missing_docs)]
 #![deny(unsafe_code)]
@@ -96,9 +98,9 @@ pub use refusal::{Answer, Refusal};
 pub use validators::{HomeFigures, HomeValidator, PairFigures, PairPlaces, PairValidator};
 
 /// The library's version that this crate was written for: major * 10,000 + minor * 100 + patch.
-pub const VERSION: u32 = 200;
+pub const VERSION: u32 = 300;
 /// The layout of the two states. Store it with a state, and take a state up only under its own.
-pub const STATE_VERSION: u32 = 1;
+pub const STATE_VERSION: u32 = 2;
 /// The bytes of a record.
 pub const RECORD_SIZE: usize = 32;
 /// The most accounts of a ledger.

@@ -42,12 +42,12 @@ pub struct HomeFigures {
 /// let sent = Record {
 ///     kind: Kind::Sending, ledger: Ledger::Home, sender: 0, receiver: 0, number: 7, amount: 30, verified: true,
 /// };
-/// assert!(pair.check_record(&sent.encode()?).is_passed());
+/// assert!(pair.take(&sent.encode()?).is_passed());
 /// assert_eq!(pair.figures()?, PairFigures { home: 120, far: 20, flight: 30 });
 ///
 /// // An arrival of more than was sent has no matching sending.
 /// let more = Record { kind: Kind::Arrival, ledger: Ledger::Far, amount: 31, ..sent };
-/// assert_eq!(pair.check_record(&more.encode()?), Answer::Refused { refusal: Refusal::NoSending, place: 0 });
+/// assert_eq!(pair.take(&more.encode()?), Answer::Refused { refusal: Refusal::NoSending, place: 0 });
 /// # Ok::<(), Refusal>(())
 /// ```
 #[derive(Clone)]
@@ -65,9 +65,9 @@ pub struct PairValidator {
 /// let arrival = Record {
 ///     kind: Kind::Arrival, ledger: Ledger::Home, sender: 0, receiver: 1, number: 9, amount: 21, verified: true,
 /// };
-/// assert_eq!(home.check_record(&arrival.encode()?).refusal(), Some(Refusal::AbovePool));
+/// assert_eq!(home.take(&arrival.encode()?).refusal(), Some(Refusal::AbovePool));
 /// let arrival = Record { amount: 20, ..arrival };
-/// assert!(home.check_record(&arrival.encode()?).is_passed());
+/// assert!(home.take(&arrival.encode()?).is_passed());
 /// assert_eq!(home.figures()?, HomeFigures { home: 170, pool: 0 });
 /// assert_eq!(home.balance(1)?, 70);
 /// # Ok::<(), Refusal>(())
@@ -79,7 +79,7 @@ pub struct HomeValidator {
 
 // What both have: the calls with records, and the state as bytes.
 macro_rules! validator {
-    ($name:ident, $told:ident, $check_record:ident, $check_list:ident, $refusals:literal) => {
+    ($name:ident, $told:ident, $take:ident, $take_list:ident, $check_record:ident, $check_list:ident, $refusals:literal) => {
         impl $name {
             /// The bytes of a state.
             pub const STATE_SIZE: usize = size_of::<ffi::$name>();
@@ -87,16 +87,32 @@ macro_rules! validator {
             /// Checks one record, and moves its credit if it passes. A refusal leaves the validator untouched. Its signature is what
             /// byte 24 says: see [`Record::verified`](crate::Record::verified).
             ///
+            /// The state is altered in place, by a proved call, and no copy of it is made.
+            ///
             #[doc = $refusals]
-            pub fn check_record(&mut self, record: &[u8]) -> Answer {
-                let told = calls::$check_record(&self.state, record);
-                self.store(&told)
+            pub fn take(&mut self, record: &[u8]) -> Answer {
+                Answer::of(calls::$take(&mut self.state, record))
             }
 
             /// Checks a list of records, 32 bytes each, all or none. The place of a refusal is the index of the first refused record,
             /// and it leaves the validator untouched. Bytes left over at the end are a record that is too short. An empty list passes.
             ///
+            /// The state is altered in place, by a proved call, which keeps one copy of it while it runs.
+            ///
             #[doc = $refusals]
+            pub fn take_list(&mut self, records: &[u8]) -> Answer {
+                Answer::of(calls::$take_list(&mut self.state, records))
+            }
+
+            /// As [`take`](Self::take), by the call that is handed the state by value: it copies the state, and this crate stores what
+            /// comes back where the answer passed.
+            pub fn check_record(&mut self, record: &[u8]) -> Answer {
+                let told = calls::$check_record(&self.state, record);
+                self.store(&told)
+            }
+
+            /// As [`take_list`](Self::take_list), by the call that is handed the state by value: it copies the state, and this crate
+            /// stores what comes back where the answer passed.
             pub fn check_list(&mut self, records: &[u8]) -> Answer {
                 let told = calls::$check_list(&self.state, records);
                 self.store(&told)
@@ -145,6 +161,8 @@ macro_rules! validator {
 validator!(
     PairValidator,
     PairTold,
+    pair_take,
+    pair_take_list,
     pair_check_record,
     pair_check_list,
     "Refusals, in order: 3, 21, 22, 23, 24, then 25 (local, sending) or 31 (arrival), then 41."
@@ -152,6 +170,8 @@ validator!(
 validator!(
     HomeValidator,
     HomeTold,
+    home_take,
+    home_take_list,
     home_check_record,
     home_check_list,
     "Refusals, in order: 3, 21, 33, 22, 23, 24, then 25 (local, sending) or 32 (arrival), then 41."
@@ -200,7 +220,7 @@ impl PairValidator {
     /// let sent = Record {
     ///     kind: Kind::Sending, ledger: Ledger::Home, sender: 0, receiver: 0, number: 7, amount: 30, verified: true,
     /// };
-    /// assert!(pair.check_record(&sent.encode()?).is_passed());
+    /// assert!(pair.take(&sent.encode()?).is_passed());
     /// assert_eq!(pair.places_left()?, PairPlaces { home: all - 1, far: all });
     /// # Ok::<(), moatbetony::Refusal>(())
     /// ```

@@ -29,8 +29,8 @@ fn home() -> HomeValidator {
 fn versions_agree() {
     assert_eq!(moatbetony::version(), moatbetony::VERSION);
     assert_eq!(moatbetony::state_version(), moatbetony::STATE_VERSION);
-    assert_eq!(PairValidator::STATE_SIZE, 24_488);
-    assert_eq!(HomeValidator::STATE_SIZE, 12_264);
+    assert_eq!(PairValidator::STATE_SIZE, 33_704);
+    assert_eq!(HomeValidator::STATE_SIZE, 16_872);
 }
 
 #[test]
@@ -68,34 +68,79 @@ fn records_read_and_encode() {
 #[test]
 fn pair_validator_cases() {
     let mut it = pair();
-    assert!(it.check_record(&record(Kind::Sending, Ledger::Home, 0, 0, 7, 30)).is_passed());
+    assert!(it.take(&record(Kind::Sending, Ledger::Home, 0, 0, 7, 30)).is_passed());
     assert_eq!(it.figures(), Ok(PairFigures { home: 120, far: 20, flight: 30 }));
     let more = record(Kind::Arrival, Ledger::Far, 0, 0, 7, 31);
-    assert_eq!(it.check_record(&more), refused(Refusal::NoSending, 0));
+    assert_eq!(it.take(&more), refused(Refusal::NoSending, 0));
     let arrival = record(Kind::Arrival, Ledger::Far, 0, 0, 7, 30);
-    assert!(it.check_record(&arrival).is_passed());
+    assert!(it.take(&arrival).is_passed());
     assert_eq!(it.figures(), Ok(PairFigures { home: 120, far: 50, flight: 0 }));
     let before = it.clone();
-    assert_eq!(it.check_record(&arrival), refused(Refusal::NumberUsed, 0));
+    assert_eq!(it.take(&arrival), refused(Refusal::NumberUsed, 0));
     assert_eq!(it, before);
     assert_eq!(it.balance(Ledger::Home, 0), Ok(70));
     assert_eq!(it.balance(Ledger::Far, 0), Ok(50));
     assert_eq!(it.balance(Ledger::Far, 1), Err(Refusal::Account));
 
     let mut it = pair();
-    assert_eq!(it.check_record(&local(1, 0, 1, 51)), refused(Refusal::Balance, 0));
-    assert_eq!(it.check_record(&local(2, 0, 1, 1)), refused(Refusal::Account, 0));
-    assert_eq!(it.check_record(&local(0, 0, 1, MAX_SUPPLY)), refused(Refusal::Balance, 0));
+    assert_eq!(it.take(&local(1, 0, 1, 51)), refused(Refusal::Balance, 0));
+    assert_eq!(it.take(&local(2, 0, 1, 1)), refused(Refusal::Account, 0));
+    assert_eq!(it.take(&local(0, 0, 1, MAX_SUPPLY)), refused(Refusal::Balance, 0));
     assert_eq!(it, pair());
     let list = [local(0, 1, 1, 100), local(1, 0, 2, 150), local(1, 0, 3, 1)].concat();
-    assert_eq!(it.check_list(&list), refused(Refusal::Balance, 2));
+    assert_eq!(it.take_list(&list), refused(Refusal::Balance, 2));
     assert_eq!(it, pair());
-    assert_eq!(it.check_list(&list[..65]), refused(Refusal::RecordForm, 2));
+    assert_eq!(it.take_list(&list[..65]), refused(Refusal::RecordForm, 2));
     assert_eq!(it, pair());
-    assert!(it.check_list(&list[..64]).is_passed());
+    assert!(it.take_list(&list[..64]).is_passed());
     assert_eq!(it.balance(Ledger::Home, 0), Ok(150));
-    assert!(it.check_list(&[]).is_passed());
+    assert!(it.take_list(&[]).is_passed());
 }
+
+// Each call in place beside its call by value, from the same state: the same answer, and every byte of the states; a refusal leaves it
+// as it was.
+macro_rules! in_place_as_by_value {
+    ($test:ident, $type:ident, $opened:expr) => {
+        #[test]
+        fn $test() {
+            let forged = [0, 0xff].map(|byte| $type::from_bytes(&[byte; $type::STATE_SIZE]).expect("a state's length"));
+            let records = [
+                local(0, 1, 1, 30),
+                local(0, 1, 1, 30),
+                local(0, 1, 2, 500),
+                local(9, 0, 2, 1),
+                record(Kind::Sending, Ledger::Home, 0, 0, 3, 30),
+                record(Kind::Arrival, Ledger::Far, 0, 0, 3, 30),
+                record(Kind::Arrival, Ledger::Home, 0, 0, 4, 50),
+                [0; 32],
+            ];
+            let list = records.concat();
+            let mut it = $opened;
+            let mut passed = 0;
+            for (i, record) in records.iter().enumerate() {
+                for before in [&it, &forged[0], &forged[1]] {
+                    for bytes in [&record[..], &record[..31], &[], &list[..32 * i], &list] {
+                        let (mut in_place, mut by_value) = (before.clone(), before.clone());
+                        let answer = in_place.take(bytes);
+                        assert_eq!(answer, by_value.check_record(bytes));
+                        assert_eq!(in_place, by_value);
+                        assert!(answer.is_passed() || in_place == *before);
+                        let (mut in_place, mut by_value) = (before.clone(), before.clone());
+                        let answer = in_place.take_list(bytes);
+                        assert_eq!(answer, by_value.check_list(bytes));
+                        assert_eq!(in_place, by_value);
+                        assert!(answer.is_passed() || in_place == *before);
+                    }
+                }
+                passed += u32::from(it.take(record).is_passed());
+            }
+            assert_eq!(passed, 3);
+        }
+    };
+}
+
+in_place_as_by_value!(pair_in_place_as_by_value, PairValidator, pair());
+in_place_as_by_value!(home_in_place_as_by_value, HomeValidator, home());
 
 #[test]
 fn openings() {
@@ -112,18 +157,18 @@ fn openings() {
 fn home_validator_cases() {
     let arrival = |number, amount| record(Kind::Arrival, Ledger::Home, 0, 0, number, amount);
     let mut it = home();
-    assert_eq!(it.check_record(&arrival(1, 21)), refused(Refusal::AbovePool, 0));
-    assert!(it.check_record(&arrival(1, 20)).is_passed());
+    assert_eq!(it.take(&arrival(1, 21)), refused(Refusal::AbovePool, 0));
+    assert!(it.take(&arrival(1, 20)).is_passed());
     let mut it = home();
-    assert!(it.check_record(&record(Kind::Sending, Ledger::Home, 0, 0, 1, 30)).is_passed());
-    assert_eq!(it.check_record(&arrival(2, 51)), refused(Refusal::AbovePool, 0));
+    assert!(it.take(&record(Kind::Sending, Ledger::Home, 0, 0, 1, 30)).is_passed());
+    assert_eq!(it.take(&arrival(2, 51)), refused(Refusal::AbovePool, 0));
     assert_eq!(it.figures(), Ok(HomeFigures { home: 120, pool: 50 }));
-    assert!(it.check_record(&arrival(2, 50)).is_passed());
+    assert!(it.take(&arrival(2, 50)).is_passed());
     assert_eq!(it.figures(), Ok(HomeFigures { home: 170, pool: 0 }));
     assert_eq!(it.balance(0), Ok(120));
     assert_eq!(it.balance(2), Err(Refusal::Account));
     let far = record(Kind::Local, Ledger::Far, 0, 0, 3, 1);
-    assert_eq!(it.check_list(&[local(0, 0, 3, 1), far].concat()), refused(Refusal::FarRecord, 1));
+    assert_eq!(it.take_list(&[local(0, 0, 3, 1), far].concat()), refused(Refusal::FarRecord, 1));
 }
 
 #[test]
@@ -131,31 +176,31 @@ fn ledgers_fill_up() {
     let mut it = home();
     for number in 0..512 {
         assert_eq!(it.places_left(), Ok(512 - number));
-        assert!(it.check_record(&local(0, 0, number, 1)).is_passed());
+        assert!(it.take(&local(0, 0, number, 1)).is_passed());
     }
     assert_eq!(it.places_left(), Ok(0));
-    assert_eq!(it.check_record(&local(0, 0, 512, 1)), refused(Refusal::Full, 0));
-    assert_eq!(it.check_record(&local(0, 0, 511, 1)), refused(Refusal::NumberUsed, 0));
+    assert_eq!(it.take(&local(0, 0, 512, 1)), refused(Refusal::Full, 0));
+    assert_eq!(it.take(&local(0, 0, 511, 1)), refused(Refusal::NumberUsed, 0));
     assert_eq!(it.places_left(), Ok(0));
 
     let mut it = pair();
     assert_eq!(it.places_left(), Ok(PairPlaces { home: 512, far: 512 }));
-    assert!(it.check_record(&record(Kind::Sending, Ledger::Home, 0, 0, 7, 30)).is_passed());
-    assert!(it.check_record(&local(0, 1, 8, 5)).is_passed());
-    assert_eq!(it.check_record(&local(0, 1, 8, 5)), refused(Refusal::NumberUsed, 0));
-    assert!(it.check_record(&record(Kind::Arrival, Ledger::Far, 0, 0, 7, 30)).is_passed());
+    assert!(it.take(&record(Kind::Sending, Ledger::Home, 0, 0, 7, 30)).is_passed());
+    assert!(it.take(&local(0, 1, 8, 5)).is_passed());
+    assert_eq!(it.take(&local(0, 1, 8, 5)), refused(Refusal::NumberUsed, 0));
+    assert!(it.take(&record(Kind::Arrival, Ledger::Far, 0, 0, 7, 30)).is_passed());
     assert_eq!(it.places_left(), Ok(PairPlaces { home: 510, far: 511 }));
     let list: Vec<u8> = (0..511).flat_map(|n| record(Kind::Local, Ledger::Far, 0, 0, 1000 + n, 1)).collect();
-    assert!(it.check_list(&list).is_passed());
+    assert!(it.take_list(&list).is_passed());
     assert_eq!(it.places_left(), Ok(PairPlaces { home: 510, far: 0 }));
-    assert_eq!(it.check_record(&record(Kind::Local, Ledger::Far, 0, 0, 9, 1)), refused(Refusal::Full, 0));
-    assert!(it.check_record(&local(0, 1, 9, 1)).is_passed());
+    assert_eq!(it.take(&record(Kind::Local, Ledger::Far, 0, 0, 9, 1)), refused(Refusal::Full, 0));
+    assert!(it.take(&local(0, 1, 9, 1)).is_passed());
 }
 
 #[test]
 fn states_as_bytes() {
     let mut it = home();
-    assert!(it.check_record(&local(0, 1, 1, 30)).is_passed());
+    assert!(it.take(&local(0, 1, 1, 30)).is_passed());
     assert_eq!(it.as_bytes().len(), HomeValidator::STATE_SIZE);
     // Bytes need not be aligned.
     let stored = [&[0], it.as_bytes()].concat();
@@ -168,16 +213,16 @@ fn states_as_bytes() {
     // A forged state is taken up, refused by every call, and stays as it is.
     for bytes in [vec![0; HomeValidator::STATE_SIZE], vec![0xff; HomeValidator::STATE_SIZE]] {
         let mut forged = HomeValidator::from_bytes(&bytes).expect("a state's length");
-        assert_eq!(forged.check_record(&local(0, 0, 9, 1)), refused(Refusal::State, 0));
-        assert_eq!(forged.check_list(&[]), refused(Refusal::State, 0));
+        assert_eq!(forged.take(&local(0, 0, 9, 1)), refused(Refusal::State, 0));
+        assert_eq!(forged.take_list(&[]), refused(Refusal::State, 0));
         assert_eq!(forged.figures(), Err(Refusal::State));
         assert_eq!(forged.balance(0), Err(Refusal::State));
         assert_eq!(forged.places_left(), Err(Refusal::State));
         assert_eq!(forged.as_bytes(), bytes);
     }
     let mut forged = PairValidator::from_bytes(&[0xff; PairValidator::STATE_SIZE]).expect("a state's length");
-    assert_eq!(forged.check_record(&[]), refused(Refusal::State, 0));
-    assert_eq!(forged.check_list(&[]), refused(Refusal::State, 0));
+    assert_eq!(forged.take(&[]), refused(Refusal::State, 0));
+    assert_eq!(forged.take_list(&[]), refused(Refusal::State, 0));
     assert_eq!(forged.figures(), Err(Refusal::State));
     assert_eq!(forged.balance(Ledger::Far, 0), Err(Refusal::State));
     assert_eq!(forged.places_left(), Err(Refusal::State));
@@ -199,8 +244,8 @@ fn threads_have_states_of_their_own() {
             std::thread::spawn(move || {
                 let mut it = pair();
                 for number in 0..100 {
-                    assert!(it.check_record(&local(0, 1, number, 1)).is_passed());
-                    assert_eq!(it.check_record(&local(0, 1, number, 1 + t)), refused(Refusal::NumberUsed, 0));
+                    assert!(it.take(&local(0, 1, number, 1)).is_passed());
+                    assert_eq!(it.take(&local(0, 1, number, 1 + t)), refused(Refusal::NumberUsed, 0));
                 }
                 it.figures()
             })
@@ -224,8 +269,11 @@ fn calls_fit_their_stacks() {
     fits(256 * 1024, || {
         let mut it = PairValidator::open(&[1000; 56], &[0; 56]).expect("an opening");
         let before = it.clone();
-        assert!(it.check_list(&list()).is_passed());
-        assert_eq!(it.check_record(&local(0, 1, 1, 1)), refused(Refusal::Full, 0));
+        let mut by_value = it.clone();
+        assert!(it.take_list(&list()).is_passed() && by_value.check_list(&list()).is_passed());
+        assert_eq!(it.take(&local(0, 1, 1, 1)), refused(Refusal::Full, 0));
+        assert_eq!(by_value.check_record(&local(0, 1, 1, 1)), refused(Refusal::Full, 0));
+        assert_eq!(it, by_value);
         assert_eq!(it.balance(Ledger::Home, 0), Ok(488));
         assert_eq!(it.places_left(), Ok(PairPlaces { home: 0, far: 512 }));
         assert!(it.figures().is_ok() && it != before && PairValidator::from_bytes(it.as_bytes()) == Some(it));
@@ -233,8 +281,11 @@ fn calls_fit_their_stacks() {
     fits(128 * 1024, || {
         let mut it = HomeValidator::open(&[1000; 56], 56, 0).expect("an opening");
         let before = it.clone();
-        assert!(it.check_list(&list()).is_passed());
-        assert_eq!(it.check_record(&local(0, 1, 1, 1)), refused(Refusal::Full, 0));
+        let mut by_value = it.clone();
+        assert!(it.take_list(&list()).is_passed() && by_value.check_list(&list()).is_passed());
+        assert_eq!(it.take(&local(0, 1, 1, 1)), refused(Refusal::Full, 0));
+        assert_eq!(by_value.check_record(&local(0, 1, 1, 1)), refused(Refusal::Full, 0));
+        assert_eq!(it, by_value);
         assert_eq!(it.balance(0), Ok(488));
         assert_eq!(it.places_left(), Ok(0));
         assert!(it.figures().is_ok() && it != before && HomeValidator::from_bytes(it.as_bytes()) == Some(it));

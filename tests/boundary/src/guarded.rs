@@ -50,10 +50,13 @@ impl Guarded {
         }
     }
 
-    /// The bytes as a call left them.
-    pub fn take_back(&self, into: &mut [u8]) {
+    /// The items as a call left them.
+    pub fn take_back<T: Copy>(&self, into: &mut [T]) {
         // SAFETY: they were lent from here.
-        unsafe { ptr::copy_nonoverlapping(self.start.add(self.room - into.len()), into.as_mut_ptr(), into.len()) }
+        unsafe {
+            let from = self.start.add(self.room - std::mem::size_of_val(into)).cast::<T>();
+            ptr::copy_nonoverlapping(from, into.as_mut_ptr(), into.len());
+        }
     }
 }
 

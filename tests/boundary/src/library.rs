@@ -1,5 +1,5 @@
-//! The library, called over its C boundary, as a part that the second validator can compare with itself. What is lent lies flush
-//! against a closed page, and an empty slice goes as a null pointer.
+//! The library, called over its C boundary, as a part that the second validator can compare with itself. What is lent, a state in place
+//! too, lies flush against a closed page, and an empty slice goes as a null pointer.
 
 use second_validator::answer::Answer;
 use second_validator::journal::Balances;
@@ -10,16 +10,55 @@ use second_validator::states::{HomeState, PairState};
 use crate::ffi::{self, HomeValidator, PairValidator};
 use crate::guarded::Guarded;
 
-/// With room for the slices of a call.
+/// With room for the slices and the state of a call.
 pub struct Library {
     first: Guarded,
     second: Guarded,
+    state: Guarded,
 }
 
 impl Library {
     pub fn new() -> Library {
-        Library { first: Guarded::new(1 << 16), second: Guarded::new(1 << 16) }
+        Library { first: Guarded::new(1 << 16), second: Guarded::new(1 << 16), state: Guarded::new(1 << 16) }
     }
+
+    /// A call in place: its answer, and the words as it left them.
+    fn take<S: Words>(
+        &mut self,
+        state: S,
+        bytes: &[u8],
+        call: unsafe extern "C" fn(*mut S, *const u8, usize) -> ffi::Told,
+    ) -> (Answer, S) {
+        let mut words = words_of(&state).to_vec();
+        let lent = self.state.lend(&words).cast::<S>();
+        // SAFETY: the words of a state, lent for writing, and a slice with its length.
+        let told = unsafe { call(lent, self.first.lend(bytes), bytes.len()) };
+        self.state.take_back(&mut words);
+        (answer(told), of_words(&words))
+    }
+}
+
+/// A state as it crosses: words of 64 bits and nothing else.
+///
+/// # Safety
+///
+/// Only for such types.
+unsafe trait Words: Copy {}
+
+// SAFETY: repr(C) with u64 fields alone, and arrays and structs of them.
+unsafe impl Words for PairValidator {}
+// SAFETY: as above.
+unsafe impl Words for HomeValidator {}
+
+fn words_of<S: Words>(state: &S) -> &[u64] {
+    // SAFETY: the state is lent as long as the slice, and is so many words.
+    unsafe { std::slice::from_raw_parts(std::ptr::from_ref(state).cast(), size_of::<S>() / 8) }
+}
+
+fn of_words<S: Words>(words: &[u64]) -> S {
+    assert_eq!(8 * words.len(), size_of::<S>(), "the words of a state");
+    // SAFETY: as many words as the state has, and any words are one.
+    unsafe { words.as_ptr().cast::<S>().read() }
 }
 
 /// An answer as it crosses. One whose number and `passed` contradict each other, or that passed with a place, is no answer of the papers,
@@ -34,43 +73,47 @@ fn answer(told: ffi::Told) -> Answer {
     }
 }
 
-/// A state of another type: the fields of the same name, and those given.
-macro_rules! state {
-    ($from:expr, $to:ident { $($field:ident),* } $(, $name:ident: $value:expr)*) => {
-        $to { $($field: $from.$field,)* $($name: $value,)* }
-    };
+fn pair_in(state: &PairState) -> PairValidator {
+    of_words(&state.words()[..])
 }
 
-#[rustfmt::skip]
-fn pair_in(s: &PairState) -> PairValidator {
-    state!(s, PairValidator { supply, accounts, counts, balances, numbers, amounts, senders, receivers, kinds, ledgers, verdicts })
+fn pair_back(state: &PairValidator) -> PairState {
+    PairState::from_words(words_of(state).try_into().expect("as many words"))
 }
 
-#[rustfmt::skip]
+fn home_in(state: &HomeState) -> HomeValidator {
+    of_words(&state.words()[..])
+}
+
+fn home_back(state: &HomeValidator) -> HomeState {
+    HomeState::from_words(words_of(state).try_into().expect("as many words"))
+}
+
 fn pair_out(told: ffi::PairTold) -> (Answer, Box<PairState>) {
-    let s = told.state;
-    let state = state!(s, PairState { supply, accounts, counts, balances, numbers, amounts, senders, receivers, kinds, ledgers, verdicts });
-    (answer(told.answer), Box::new(state))
+    (answer(told.answer), Box::new(pair_back(&told.state)))
 }
 
-#[rustfmt::skip]
-fn home_in(s: &HomeState) -> HomeValidator {
-    state!(s, HomeValidator { supply, pool, count, balances, numbers, amounts, senders, receivers, kinds, ledgers, verdicts },
-        home_accounts: s.homes, far_accounts: s.fars)
-}
-
-#[rustfmt::skip]
 fn home_out(told: ffi::HomeTold) -> (Answer, Box<HomeState>) {
-    let s = told.state;
-    let state = state!(s, HomeState { supply, pool, count, balances, numbers, amounts, senders, receivers, kinds, ledgers, verdicts },
-        homes: s.home_accounts, fars: s.far_accounts);
-    (answer(told.answer), Box::new(state))
+    (answer(told.answer), Box::new(home_back(&told.state)))
 }
 
-// SAFETY of every call below: a pointer and its length are those of one slice, lent for the call; states and numbers go by value.
+// SAFETY of every call below: a pointer and its length are those of one slice, lent for the call; states and numbers go by value. The
+// calls in place are made above.
 impl Part for Library {
     fn pair_open(&mut self, home: &[u64], far: &[u64]) -> (Answer, Box<PairState>) {
         pair_out(unsafe { ffi::moatbetony_pair_open(self.first.lend(home), home.len(), self.second.lend(far), far.len()) })
+    }
+
+    fn pair_take(&mut self, state: &mut PairState, bytes: &[u8]) -> Answer {
+        let (answer, after) = self.take(pair_in(state), bytes, ffi::moatbetony_pair_take);
+        *state = pair_back(&after);
+        answer
+    }
+
+    fn pair_take_list(&mut self, state: &mut PairState, bytes: &[u8]) -> Answer {
+        let (answer, after) = self.take(pair_in(state), bytes, ffi::moatbetony_pair_take_list);
+        *state = pair_back(&after);
+        answer
     }
 
     fn pair_check_record(&mut self, state: &PairState, bytes: &[u8]) -> (Answer, Box<PairState>) {
@@ -100,6 +143,18 @@ impl Part for Library {
         home_out(unsafe { ffi::moatbetony_home_open(self.first.lend(home), home.len(), fars, far_total) })
     }
 
+    fn home_take(&mut self, state: &mut HomeState, bytes: &[u8]) -> Answer {
+        let (answer, after) = self.take(home_in(state), bytes, ffi::moatbetony_home_take);
+        *state = home_back(&after);
+        answer
+    }
+
+    fn home_take_list(&mut self, state: &mut HomeState, bytes: &[u8]) -> Answer {
+        let (answer, after) = self.take(home_in(state), bytes, ffi::moatbetony_home_take_list);
+        *state = home_back(&after);
+        answer
+    }
+
     fn home_check_record(&mut self, state: &HomeState, bytes: &[u8]) -> (Answer, Box<HomeState>) {
         home_out(unsafe { ffi::moatbetony_home_check_record(home_in(state), self.first.lend(bytes), bytes.len()) })
     }
@@ -125,9 +180,8 @@ impl Part for Library {
 
     fn record_read(&mut self, bytes: &[u8]) -> (Answer, Held) {
         let told = unsafe { ffi::moatbetony_record_read(self.first.lend(bytes), bytes.len()) };
-        #[rustfmt::skip]
-        let held = state!(told, Held { kind, ledger, sender, receiver, number, amount, verdict });
-        (answer(told.answer), held)
+        let ffi::RecordTold { answer: told, kind, ledger, sender, receiver, number, amount, verdict } = told;
+        (answer(told), Held { kind, ledger, sender, receiver, number, amount, verdict })
     }
 
     fn record_encode(&mut self, f: &Held) -> (Answer, [u8; RECORD]) {

@@ -5,8 +5,9 @@ use crate::{Function, Interface, Named, Read, Type};
 use std::collections::BTreeMap;
 
 // The structs' names here and in the Rattle sources.
-const STRUCTS: [(&str, &str); 16] = [
+const STRUCTS: [(&str, &str); 17] = [
     ("moatbetony_answer_t", "Told"),
+    ("moatbetony_held_t", "Held"),
     ("moatbetony_pair_t", "PairValidator"),
     ("moatbetony_home_t", "HomeValidator"),
     ("moatbetony_pair_outcome_t", "PairTold"),
@@ -79,14 +80,14 @@ fn read_struct(tokens: &mut Tokens) -> Read<(String, Named)> {
     while !tokens.take("}") {
         let item = read_type(tokens)?;
         let name = tokens.word()?;
-        let of = if tokens.take("[") {
-            let length = tokens.next()?.parse().map_err(|_| format!("{tag}.{name}: its length is no number"))?;
+        let mut lengths = Vec::new();
+        while tokens.take("[") {
+            lengths.push(tokens.next()?.parse().map_err(|_| format!("{tag}.{name}: its length is no number"))?);
             tokens.expect("]")?;
-            Type::Array(Box::new(item), length)
-        } else {
-            item
-        };
+        }
         tokens.expect(";")?;
+        // The length that stands first is the outermost array's.
+        let of = lengths.into_iter().rev().fold(item, |item, length| Type::Array(Box::new(item), length));
         fields.push((name, of));
     }
     let name = tokens.word()?;

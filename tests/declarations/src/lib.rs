@@ -1,5 +1,6 @@
 //! Reads what the library's exports look like from three places, and compares: the Rattle sources, the C header and the declarations
-//! of the Rust binding. Each reader knows the few forms that its file uses, and fails on any other.
+//! of the Rust binding. Each reader knows the few forms that its file uses, and fails on any other. A state is one array of words in the
+//! Rattle sources and has named fields elsewhere, so that it is also compared by its number of words and by where its fields start.
 
 mod header;
 mod rattle;
@@ -68,6 +69,60 @@ impl Interface {
             None => Ok(()),
             Some(_) => Err(format!("{name} is declared twice")),
         }
+    }
+}
+
+/// The structs of the two states, and of a held record in them, which are words of 64 bits and nothing else.
+const IN_WORDS: [&str; 3] = ["PairValidator", "HomeValidator", "Held"];
+
+impl Interface {
+    /// The same with each state as one array of words, wherever it stands, and without the structs of the states.
+    pub fn in_words(&self) -> Read<Interface> {
+        let named =
+            |named: &Named| -> Read<Named> { named.iter().map(|(name, of)| Ok((name.clone(), self.type_in_words(of)?))).collect() };
+        let mut found = Interface::default();
+        for (name, function) in &self.functions {
+            let (parameters, result) = (named(&function.parameters)?, self.type_in_words(&function.result)?);
+            found.add_function(name.clone(), Function { parameters, result })?;
+        }
+        for (name, fields) in self.structs.iter().filter(|(name, _)| !IN_WORDS.contains(&name.as_str())) {
+            found.add_struct(name.clone(), named(fields)?)?;
+        }
+        Ok(found)
+    }
+
+    fn type_in_words(&self, of: &Type) -> Read<Type> {
+        let boxed = |of: &Type| self.type_in_words(of).map(Box::new);
+        Ok(match of {
+            Type::Struct(name) if IN_WORDS.contains(&name.as_str()) => {
+                Type::Array(Box::new(Type::Number("u64".to_string())), self.words(of)?)
+            }
+            Type::Const(item) => Type::Const(boxed(item)?),
+            Type::Mut(item) => Type::Mut(boxed(item)?),
+            Type::Number(_) | Type::Array(..) | Type::Struct(_) => of.clone(),
+        })
+    }
+
+    // How many words of 64 bits a type is; all else is an error.
+    fn words(&self, of: &Type) -> Read<u64> {
+        match of {
+            Type::Number(name) if name == "u64" => Ok(1),
+            Type::Array(item, length) => Ok(self.words(item)? * length),
+            Type::Struct(name) => Ok(self.field_starts(name)?.last().map_or(0, |(_, start)| *start)),
+            _ => Err(format!("{of} where a word of 64 bits is wanted")),
+        }
+    }
+
+    /// The word at which each field of a struct starts, and at last, under no name, the number of its words.
+    pub fn field_starts(&self, name: &str) -> Read<Vec<(String, u64)>> {
+        let fields = self.structs.get(name).ok_or(format!("unknown struct {name}"))?;
+        let (mut starts, mut at) = (Vec::new(), 0);
+        for (field, of) in fields {
+            starts.push((field.clone(), at));
+            at += self.words(of).map_err(|complaint| format!("{name}.{field}: {complaint}"))?;
+        }
+        starts.push((String::new(), at));
+        Ok(starts)
     }
 }
 

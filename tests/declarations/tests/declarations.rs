@@ -18,11 +18,42 @@ fn source(path: &str) -> String {
 const HEADER: &str = "include/moatbetony.h";
 const FFI: &str = "bindings/rust/src/ffi.rs";
 const EXPORTS: &str = "crates/moatbetony/src/lib.rt";
-const PAIR: &str = "crates/pair_validator/src/lib.rt";
-const HOME: &str = "crates/home_validator/src/lib.rt";
 const LEDGERS: &str = "crates/ledgers/src/lib.rt";
 const NUMBER_INDEX: &str = "crates/number_index/src/lib.rt";
-const PAIR_TABLES: &str = "crates/pair_tables/src/lib.rt";
+
+// A validator: its name here; the source that has its state's struct, and the one that has the words of its fields, with that crate's name;
+// the fields after the records with the constants for the words at which they start, in order, and under no name that for all words.
+struct Validator {
+    name: &'static str,
+    state: &'static str,
+    core: &'static str,
+    prefix: &'static str,
+    fields: &'static [(&'static str, &'static str)],
+}
+
+const PAIR: Validator = Validator {
+    name: "PairValidator",
+    state: "crates/pair_validator/src/lib.rt",
+    core: "crates/pair_core/src/lib.rt",
+    prefix: "pair_core::",
+    fields: &[("balances", "BALANCES"), ("supply", "SUPPLY"), ("accounts", "ACCOUNTS"), ("counts", "COUNTS"), ("", "WORDS")],
+};
+
+const HOME: Validator = Validator {
+    name: "HomeValidator",
+    state: "crates/home_validator/src/lib.rt",
+    core: "crates/home_core/src/lib.rt",
+    prefix: "home_core::",
+    fields: &[
+        ("balances", "BALANCES"),
+        ("supply", "SUPPLY"),
+        ("pool", "POOL"),
+        ("home_accounts", "HOMES"),
+        ("far_accounts", "FARS"),
+        ("count", "COUNT"),
+        ("", "WORDS"),
+    ],
+};
 
 // The sources, with one text in one of them replaced, or none.
 struct Sources {
@@ -47,22 +78,46 @@ impl Sources {
         }
     }
 
+    // Those of all crates, both validators' under their crates' names.
     fn constants(&self) -> Result<Constants, String> {
         let mut constants = Constants::default();
         constants.read(&self.get(LEDGERS), "Ledger::")?;
         constants.read(&self.get(NUMBER_INDEX), "")?;
-        constants.read(&self.get(PAIR_TABLES), "")?;
-        constants.read(&self.get(PAIR), "")?;
+        for validator in [PAIR, HOME] {
+            constants.read(&self.get(validator.core), validator.prefix)?;
+        }
         Ok(constants)
     }
 
     fn exports(&self) -> Result<Interface, String> {
         let constants = self.constants()?;
         let mut found = Interface::default();
-        for path in [EXPORTS, PAIR, HOME] {
-            read_exports(&self.get(path), &constants, &mut found)?;
+        read_exports(&self.get(EXPORTS), &constants, &mut found)?;
+        for validator in [PAIR, HOME] {
+            // Its own core's constants go by their names alone too.
+            let mut constants = constants.clone();
+            constants.read(&self.get(validator.core), "")?;
+            read_exports(&self.get(validator.state), &constants, &mut found)?;
         }
         Ok(found)
+    }
+
+    // Where a validator's fields start in the header, against the Rattle sources' words.
+    fn fields_differ(&self, validator: &Validator, header: &Interface) -> Result<Vec<String>, String> {
+        let constants = self.constants()?;
+        let mut wanted = vec![("records".to_string(), 0)];
+        for (field, name) in validator.fields {
+            let name = format!("{}{name}", validator.prefix);
+            wanted.push((field.to_string(), constants.get(&name).ok_or(format!("unknown constant {name}"))?));
+        }
+        let starts = header.field_starts(validator.name)?;
+        let shown =
+            |named: Option<&(String, u64)>| named.map_or("none".to_string(), |(name, start)| format!("`{name}` at {start}"));
+        let line = |i: usize| {
+            let (own, other) = (shown(wanted.get(i)), shown(starts.get(i)));
+            format!("{}: field {} is {own} in the exports and {other} in the header", validator.name, i + 1)
+        };
+        Ok((0..wanted.len().max(starts.len())).filter(|&i| wanted.get(i) != starts.get(i)).map(line).collect())
     }
 
     // All that differs, and what could not be read.
@@ -71,10 +126,13 @@ impl Sources {
             let exports = self.exports()?;
             let header = read_header(&self.get(HEADER))?;
             let ffi = read_ffi(&self.get(FFI))?;
+            let fields = [self.fields_differ(&PAIR, &header)?, self.fields_differ(&HOME, &header)?].concat();
+            let (exports, header_in_words) = (exports.in_words()?, header.in_words()?);
             let exports = Place { name: "the exports", says: &exports };
+            let header_in_words = Place { name: "the header", says: &header_in_words };
             let header = Place { name: "the header", says: &header };
             let ffi = Place { name: "ffi.rs", says: &ffi };
-            Ok([differences(&exports, &header), differences(&exports, &ffi)].concat())
+            Ok([fields, differences(&exports, &header_in_words), differences(&header, &ffi)].concat())
         };
         read().unwrap_or_else(|complaint| vec![complaint])
     }
@@ -85,8 +143,8 @@ fn header_binding_and_exports_agree() {
     let complaints = Sources::as_they_are().complaints();
     assert!(complaints.is_empty(), "\n{}", complaints.join("\n"));
     let exports = Sources::as_they_are().exports().expect("the exports");
-    assert_eq!(exports.functions.len(), 23);
-    assert_eq!(exports.structs.len(), 16);
+    assert_eq!(exports.functions.len(), 27);
+    assert_eq!(exports.in_words().expect("states of words").structs.len(), 14);
 }
 
 #[test]
@@ -176,7 +234,7 @@ fn binding_asks_before_it_calls() {
     let bodies: Vec<&str> = calls.split("\npub(crate) fn ").filter(|body| body.contains("ffi::moatbetony_")).collect();
     assert_eq!(bodies.len(), calls.matches("ffi::moatbetony_").count(), "a function has one call");
     let unasked: Vec<&str> = bodies.iter().filter(|body| !body.contains(" {\n    belongs();\n")).copied().collect();
-    assert_eq!(bodies.len(), 23);
+    assert_eq!(bodies.len(), 27);
     assert!(unasked.len() == 2 && unasked.iter().all(|body| body.starts_with("version()") || body.starts_with("state_version()")));
 }
 
@@ -197,9 +255,15 @@ fn differences_in_the_header_are_found() {
         "moatbetony_home_open: parameter 3",
     );
     found("    uint32_t number; /*", "    uint64_t number; /*", "Told: field 1");
-    found("uint16_t receivers[512]", "uint32_t receivers[512]", "HomeValidator: field 10");
-    found("uint64_t numbers[512]", "uint64_t numbers[511]", "HomeValidator: field 7");
-    found("size_t accounts[2];", "size_t accounts;", "PairValidator: field 2");
+    found("uint64_t balances[2][56]", "uint64_t balances[56][2]", "PairValidator: field 2");
+    found("uint64_t balances[2][56]", "uint64_t balances[2][57]", "PairValidator: field 3");
+    found("moatbetony_held_t records[512]", "moatbetony_held_t records[511]", "HomeValidator: field 2");
+    found("uint64_t accounts[2];", "uint64_t accounts;", "PairValidator: field 5");
+    found(
+        "    uint64_t amount;\n    uint64_t tail;",
+        "    uint32_t amount;\n    uint64_t tail;",
+        "u32 where a word of 64 bits is wanted",
+    );
     found("uint32_t moatbetony_version(void)", "uint64_t moatbetony_version(void)", "moatbetony_version: its result");
     // order and names
     found("uint8_t ledger, uint16_t account", "uint16_t account, uint8_t ledger", "moatbetony_pair_balance: parameter 2");
@@ -209,9 +273,14 @@ fn differences_in_the_header_are_found() {
         "moatbetony_record_encode: parameter 5",
     );
     found(
-        "    uint8_t ledgers[512];\n    uint8_t verdicts[512];",
-        "    uint8_t verdicts[512];\n    uint8_t ledgers[512];",
-        "HomeValidator: field 12",
+        "    uint64_t home_accounts;\n    uint64_t far_accounts;",
+        "    uint64_t far_accounts;\n    uint64_t home_accounts;",
+        "HomeValidator: field 5",
+    );
+    found(
+        "    uint64_t number;\n    uint64_t amount;\n    uint64_t tail;",
+        "    uint64_t amount;\n    uint64_t number;\n    uint64_t tail;",
+        "Held: field 2",
     );
     found("    size_t start;\n    size_t length;", "    size_t length;\n    size_t start;", "PartTold: field 2");
     found(
@@ -223,6 +292,21 @@ fn differences_in_the_header_are_found() {
     // pointers
     found("    uint8_t *out,", "    const uint8_t *out,", "moatbetony_block_write: parameter 1");
     found("uint8_t kind, const uint8_t *items", "uint8_t kind, uint8_t *items", "moatbetony_block_write: parameter 5");
+    found(
+        "moatbetony_pair_take(moatbetony_pair_t *state",
+        "moatbetony_pair_take(const moatbetony_pair_t *state",
+        "moatbetony_pair_take: parameter 1",
+    );
+    found(
+        "moatbetony_home_take(moatbetony_home_t *state",
+        "moatbetony_home_take(moatbetony_pair_t *state",
+        "moatbetony_home_take: parameter 1",
+    );
+    found(
+        "moatbetony_home_take_list(moatbetony_home_t *state",
+        "moatbetony_home_take_list(moatbetony_home_t state",
+        "moatbetony_home_take_list: parameter 1",
+    );
     // more and fewer
     found("uint32_t moatbetony_state_version(void);", "", "moatbetony_state_version: in the exports, and missing in the header");
     found(
@@ -248,16 +332,28 @@ fn differences_in_the_binding_are_found() {
     found("        far_accounts: usize,", "        far_accounts: u32,", "moatbetony_home_open: parameter 3");
     found("out: *mut u8", "out: *const u8", "moatbetony_block_write: parameter 1");
     found(
-        "pub(crate) senders: [u16; 512],\n    pub(crate) receivers: [u16; 512],",
-        "pub(crate) receivers: [u16; 512],\n    pub(crate) senders: [u16; 512],",
-        "HomeValidator: field 9",
+        "pub(crate) home_accounts: u64,\n    pub(crate) far_accounts: u64,",
+        "pub(crate) far_accounts: u64,\n    pub(crate) home_accounts: u64,",
+        "HomeValidator: field 5",
     );
-    found("pub(crate) balances: [u64; 112],", "pub(crate) balances: [u64; 56],", "PairValidator: field 4");
+    found("pub(crate) balances: [[u64; 56]; 2],", "pub(crate) balances: [u64; 112],", "PairValidator: field 2");
+    found("pub(crate) records: [Held; 512],", "pub(crate) records: [Held; 511],", "HomeValidator: field 1");
     found(
-        "pub(crate) fn moatbetony_state_version() -> u32;",
-        "",
-        "moatbetony_state_version: in the exports, and missing in ffi.rs",
+        "pub(crate) amount: u64,\n    pub(crate) tail: u64,",
+        "pub(crate) tail: u64,\n    pub(crate) amount: u64,",
+        "Held: field 3",
     );
+    found(
+        "moatbetony_pair_take(state: *mut PairValidator",
+        "moatbetony_pair_take(state: *mut HomeValidator",
+        "moatbetony_pair_take: parameter 1",
+    );
+    found(
+        "moatbetony_home_take_list(state: *mut",
+        "moatbetony_home_take_list(state: *const",
+        "moatbetony_home_take_list: parameter 1",
+    );
+    found("pub(crate) fn moatbetony_state_version() -> u32;", "", "moatbetony_state_version: in the header, and missing in ffi.rs");
     found(
         "pub(crate) fn moatbetony_version() -> u32;",
         "pub(crate) fn moatbetony_version() -> u64;",
@@ -296,14 +392,11 @@ fn differences_in_the_exports_are_found() {
         "pub extern \"C\" fn moatbetony_version",
         "without #[no_mangle]",
     );
-    found(
-        PAIR,
-        "    pub kinds: [u8; PLACES],\n    pub ledgers: [u8; PLACES],",
-        "    pub ledgers: [u8; PLACES],\n    pub kinds: [u8; PLACES],",
-        "PairValidator: field 9",
-    );
-    found(HOME, "    pub far_accounts: usize,", "    pub far_accounts: u32,", "HomeValidator: field 4");
-    found(HOME, "#[repr(C)]", "", "HomeValidator: in the header, and missing in the exports");
-    found(LEDGERS, "CAPACITY: usize = 512", "CAPACITY: usize = 1730", "HomeValidator: field 7");
+    found(HOME.state, "#[repr(C)]", "", "unknown struct HomeValidator");
+    found(HOME.core, "COUNT: usize = SUPPLY + 4", "COUNT: usize = SUPPLY + 3", "HomeValidator: field 7");
+    found(HOME.core, "POOL: usize = SUPPLY + 1", "POOL: usize = SUPPLY + 2", "HomeValidator: field 4");
+    found(HOME.core, "BALANCES: usize = 4 * ", "BALANCES: usize = 3 * ", "HomeValidator: field 2");
+    found(HOME.core, "WORDS: usize = SUPPLY + 5", "WORDS: usize = SUPPLY + 6", "moatbetony_home_take: parameter 1");
+    found(LEDGERS, "CAPACITY: usize = 512", "CAPACITY: usize = 1730", "PairValidator: field 2");
     found(LEDGERS, "ACCOUNTS: usize = 56", "ACCOUNTS: usize = 57", "BalancesTold: field 3");
 }
