@@ -6,11 +6,8 @@ use Rattle.balances.specs.declared.Balance.{Balance}
 use Rattle.balances.proofs.balance_refused.Statement.{statement}
 use Rattle.balances.proofs.balance_refused.Tie as tie
 
-new-requires : tie.Need-new-requires
-new-requires c κs = search needs
-
 returns : tie.Need-returns
 returns c = ap {B = Balance} (λ (a : Answer). record { answer = a; balance = 0 }) (c .new .ensures)
 
 pub balance-refused-spec : {M : Type 1} → statement M
-balance-refused-spec = tie.close (tie.spec new-requires returns)
+balance-refused-spec = tie.close (tie.spec (λ c κs. search needs) returns)

@@ -17,39 +17,6 @@ unfolding blockRefusal
 returns c =
     rw (ne-eqb _ _ (c .if1 .taken))
 
-refusal-if-requires : tie.Need-refusal-if-requires
-refusal-if-requires c κs = search needs
-
-is-checked-requires : tie.Need-is-checked-requires
-is-checked-requires c κs = search needs
-
-refusal-if-requires-2 : tie.Need-refusal-if-requires-2
-refusal-if-requires-2 c κs = search needs
-
-u32-at-requires : tie.Need-u32-at-requires
-u32-at-requires c κs = search needs
-
-cast-refusal-if : tie.Need-cast-refusal-if
-cast-refusal-if c = search needs
-
-refusal-if-requires-3 : tie.Need-refusal-if-requires-3
-refusal-if-requires-3 c κs = search needs
-
-is-block-formed-requires : tie.Need-is-block-formed-requires
-is-block-formed-requires c κs = search needs
-
-refusal-if-requires-4 : tie.Need-refusal-if-requires-4
-refusal-if-requires-4 c κs = search needs
-
-first-refusal-requires : tie.Need-first-refusal-requires
-first-refusal-requires c κs = search needs
-
-first-refusal-requires-2 : tie.Need-first-refusal-requires-2
-first-refusal-requires-2 c κs = search needs
-
-first-refusal-requires-3 : tie.Need-first-refusal-requires-3
-first-refusal-requires-3 c κs = search needs
-
 returns-2 : tie.Need-returns-2
 unfolding blockRefusal
 returns-2 c =
@@ -75,19 +42,6 @@ returns-2 c =
     ∙ in-order (ltb maxBlock (a .k)) (not (checked b)) (not (eqb (blockNumber b) (a .k))) (not (blockFormed b (a .k) (a .before))))
 
 pub block-refusal-spec : {M : Type 1} → statement M
-block-refusal-spec =
-    tie.close
-    (tie.spec
-    returns
-    refusal-if-requires
-    is-checked-requires
-    refusal-if-requires-2
-    u32-at-requires
-    cast-refusal-if
-    refusal-if-requires-3
-    is-block-formed-requires
-    refusal-if-requires-4
-    first-refusal-requires
-    first-refusal-requires-2
-    first-refusal-requires-3
-    returns-2)
+block-refusal-spec = tie.close (tie.spec returns (λ c κs. search needs) (λ c κs. search needs) (λ c κs. search needs)
+    (λ c κs. search needs) (λ c. search needs) (λ c κs. search needs) (λ c κs. search needs) (λ c κs. search needs)
+    (λ c κs. search needs) (λ c κs. search needs) (λ c κs. search needs) returns-2)

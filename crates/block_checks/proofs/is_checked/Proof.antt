@@ -14,24 +14,6 @@ slice-aggregate-digest : tie.Need-slice-aggregate-digest
 slice-aggregate-digest c =
     omega (arith, length-take 480 (c .before .before .args .block .now))
 
-digest-requires : tie.Need-digest-requires
-digest-requires c κs = search needs
-
-slice-aggregate-equal : tie.Need-slice-aggregate-equal
-slice-aggregate-equal c = search needs
-
-sub-equal : tie.Need-sub-equal
-sub-equal c = search needs
-
-part-equal-start : tie.Need-part-equal-start
-part-equal-start c = search needs
-
-part-equal-end : tie.Need-part-equal-end
-part-equal-end c = search needs
-
-equal-requires : tie.Need-equal-requires
-equal-requires c κs = search needs
-
 returns : tie.Need-returns
 unfolding checked
 returns c =
@@ -41,14 +23,5 @@ returns c =
     c .equal .ensures ∙ ap₂ same (c3 .digest .ensures) (take-all (length b - 480) (drop 480 b) (omega (arith, length-drop 480 b)))
 
 pub is-checked-spec : {M : Type 1} → statement M
-is-checked-spec =
-    tie.close
-    (tie.spec
-    slice-aggregate-digest
-    digest-requires
-    slice-aggregate-equal
-    sub-equal
-    part-equal-start
-    part-equal-end
-    equal-requires
-    returns)
+is-checked-spec = tie.close (tie.spec slice-aggregate-digest (λ c κs. search needs) (λ c. search needs) (λ c. search needs)
+    (λ c. search needs) (λ c. search needs) (λ c κs. search needs) returns)

@@ -11,12 +11,6 @@ use Rattle.wire.proofs.Numbers.{field-one}
 use Rattle.block_format.proofs.is_block_formed.Statement.{statement}
 use Rattle.block_format.proofs.is_block_formed.Tie as tie
 
-shared-slice-read-if1 : tie.Need-shared-slice-read-if1
-shared-slice-read-if1 c = search needs
-
-kind-of-block-requires : tie.Need-kind-of-block-requires
-kind-of-block-requires c κs = search needs
-
 returns : tie.Need-returns
 unfolding blockFormed
 returns c =
@@ -24,21 +18,12 @@ returns c =
     let b = c4 .args .block .now in
     sym (every-not 0 _ (ne-eqb _ _ (λ q. c .if1 .taken (sym (field-one 4 b (omega arith)) ∙ q ∙ sym (c .before .kind-of-block .ensures)))))
 
-shared-slice-read-wide : tie.Need-shared-slice-read-wide
-shared-slice-read-wide c = search needs
-
-wide-requires : tie.Need-wide-requires
-wide-requires c κs = search needs
-
 returns-2 : tie.Need-returns-2
 unfolding blockFormed
 returns-2 c =
     let c7 = c .before .before .before .before .before .before .before in
     let b = c7 .args .block .now in
     sym (every-not 1 _ (le-ltb 0 (statedCount b) (omega (arith, field-one 5 b (omega arith)))))
-
-item-limit-requires : tie.Need-item-limit-requires
-item-limit-requires c κs = search needs
 
 returns-3 : tie.Need-returns-3
 unfolding blockFormed
@@ -51,19 +36,10 @@ returns-3 c =
     omega (arith, field-one 5 b (omega arith), c .before .item-limit .ensures, c3 .wide .ensures .0) in
     sym (every-not 2 _ (lt-leb (statedCount b) (itemLimit k) l))
 
-all-zero-requires : tie.Need-all-zero-requires
-all-zero-requires c κs = search needs
-
 returns-4 : tie.Need-returns-4
 unfolding blockFormed
 returns-4 c =
     sym (every-not 3 _ (sym (c .before .all-zero .ensures) ∙ not-true _ (c .if4 .taken)))
-
-items-end-requires : tie.Need-items-end-requires
-items-end-requires c κs = search needs
-
-all-zero-requires-2 : tie.Need-all-zero-requires-2
-all-zero-requires-2 c κs = search needs
 
 returns-5 : tie.Need-returns-5
 unfolding blockFormed
@@ -75,9 +51,6 @@ returns-5 c =
     let n = c8 .wide .ensures .0 ∙ sym (field-one 5 b (omega arith)) in
     let z = sym (tail-is b (a .k) _ _ n (c .before .before .items-end .ensures .0)) in
     sym (every-not 4 _ (z ∙ sym (c .before .all-zero2 .ensures) ∙ not-true _ (c .if5 .taken)))
-
-follows-requires : tie.Need-follows-requires
-follows-requires c κs = search needs
 
 returns-6 : tie.Need-returns-6
 returns-6 c =
@@ -106,21 +79,6 @@ returns-6 c =
     c .follows .ensures ∙ sym (formed-last b k (a .before) kind some fits head tail)
 
 pub is-block-formed-spec : {M : Type 1} → statement M
-is-block-formed-spec =
-    tie.close
-    (tie.spec
-    shared-slice-read-if1
-    kind-of-block-requires
-    returns
-    shared-slice-read-wide
-    wide-requires
-    returns-2
-    item-limit-requires
-    returns-3
-    all-zero-requires
-    returns-4
-    items-end-requires
-    all-zero-requires-2
-    returns-5
-    follows-requires
-    returns-6)
+is-block-formed-spec = tie.close (tie.spec (λ c. search needs) (λ c κs. search needs) returns (λ c. search needs) (λ c κs. search needs)
+    returns-2 (λ c κs. search needs) returns-3 (λ c κs. search needs) returns-4 (λ c κs. search needs) (λ c κs. search needs) returns-5
+    (λ c κs. search needs) returns-6)

@@ -31,5 +31,4 @@ returns-2 c =
     (rw (records-size (a .k) (c .if1 .left)), omega (arith, records-limit (a .k) (c .if1 .left)))
 
 pub items-end-spec : {M : Type 1} → statement M
-items-end-spec =
-    tie.close (tie.spec mul-result add-result mul-result-2 add-result-2 returns returns-2)
+items-end-spec = tie.close (tie.spec mul-result add-result mul-result-2 add-result-2 returns returns-2)

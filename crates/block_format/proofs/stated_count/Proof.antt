@@ -10,16 +10,10 @@ returns : tie.Need-returns
 returns c =
     sym (field-none 5 1 (c .before .before .args .block .now) (c .if1 .taken))
 
-shared-slice-read-wide : tie.Need-shared-slice-read-wide
-shared-slice-read-wide c = search needs
-
-wide-requires : tie.Need-wide-requires
-wide-requires c κs = search needs
-
 returns-2 : tie.Need-returns-2
 returns-2 c =
     let c4 = c .before .before .before .before in
     c .wide .ensures .0 ∙ sym (field-one 5 (c4 .args .block .now) (omega arith))
 
 pub stated-count-spec : {M : Type 1} → statement M
-stated-count-spec = tie.close (tie.spec returns shared-slice-read-wide wide-requires returns-2)
+stated-count-spec = tie.close (tie.spec returns (λ c. search needs) (λ c κs. search needs) returns-2)

@@ -11,26 +11,8 @@ use native.Mathlib.Omega.{arith}
 use Rattle.block_listing.proofs.list_block.Statement.{statement}
 use Rattle.block_listing.proofs.list_block.Tie as tie
 
-judge-requires : tie.Need-judge-requires
-judge-requires c κs = search needs
-
-enum-told : tie.Need-enum-told
-enum-told c = search needs
-
-enum-told-2 : tie.Need-enum-told-2
-enum-told-2 c = search needs
-
-number-requires : tie.Need-number-requires
-number-requires c κs = search needs
-
-cast-put-fault : tie.Need-cast-put-fault
-cast-put-fault c = search needs
-
 put-fault-requires : tie.Need-put-fault-requires
 put-fault-requires c κs = omega (arith, c .before .before .before .before .before .before .before .pre .1)
-
-same-length : tie.Need-same-length
-same-length c = search needs
 
 returns : tie.Need-returns
 returns c =
@@ -52,9 +34,6 @@ returns c =
       ),
     )
 
-stated-count-requires : tie.Need-stated-count-requires
-stated-count-requires c κs = search needs
-
 -- the block is right
 right-at : (c : tie.After-stated-count) → Right (c .before .before .before .before .before .before .args .run) (c .before .before
     .before .before .before .before .args .block .now)
@@ -68,9 +47,6 @@ list-records-requires c κs =
     let k = right-at (c .before .before .before) in
     (o .pre .0, k .low, k .long, rw (c .before .before .before .stated-count .ensures) (k .count-fits), o .pre .1, o .pre .2, o .pre .3)
 
-same-length-2 : tie.Need-same-length-2
-same-length-2 c = search needs
-
 returns-2 : tie.Need-returns-2
 returns-2 c =
     let o = c .before .before .before .before .before .before .before .before .before .before .before .before in
@@ -80,18 +56,6 @@ returns-2 c =
     .ensures) (c .before .before .list-records .ensures)
 
 pub list-block-spec : {M : Type 1} → statement M
-list-block-spec =
-    tie.close
-    (tie.spec
-    judge-requires
-    enum-told
-    enum-told-2
-    number-requires
-    cast-put-fault
-    put-fault-requires
-    same-length
-    returns
-    stated-count-requires
-    list-records-requires
-    same-length-2
+list-block-spec = tie.close (tie.spec (λ c κs. search needs) (λ c. search needs) (λ c. search needs) (λ c κs. search needs)
+    (λ c. search needs) put-fault-requires (λ c. search needs) returns (λ c κs. search needs) list-records-requires (λ c. search needs)
     returns-2)

@@ -34,9 +34,6 @@ returns c =
     chunk-stopped (o .args .start) (o .args .state .now) (o .args .chunk .now) (o .args .out .now) (l .at) (l .run) (l .state) (l .out)
     (o .pre .3) (l .inv .1) (not-true _ (c .if1 .taken))
 
-part-end-requires : tie.Need-part-end-requires Inv-loop μ-loop
-part-end-requires c κs = search needs
-
 -- where the block ends
 ends-at : (c : tie.After-part-end Inv-loop μ-loop) → Shorter (c .before .before .before .before .loop .at) (length (c .before .before
     .before .before .before .before .before .args .chunk .now)) (c .part-end .result)
@@ -94,20 +91,5 @@ returns-2 c =
     (o .pre .3) (l .inv .1) (c .loop-test .left)
 
 pub list-chunk-spec : {M : Type 1} → statement M
-list-chunk-spec =
-    tie.close
-    (tie.spec
-    Inv-loop
-    μ-loop
-    loop-holds
-    same-length
-    returns
-    part-end-requires
-    sub-list-block
-    part-list-block-start
-    part-list-block-end
-    list-block-requires
-    loop-less
-    loop-again
-    same-length-2
-    returns-2)
+list-chunk-spec = tie.close (tie.spec Inv-loop μ-loop loop-holds same-length returns (λ c κs. search needs) sub-list-block
+    part-list-block-start part-list-block-end list-block-requires loop-less loop-again same-length-2 returns-2)

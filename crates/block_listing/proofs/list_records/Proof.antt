@@ -18,12 +18,6 @@ Inv-loop run block count pairs out₀ state₀ index₀ text₀ row₀ n₀ i₀
 abbrev μ-loop : tie.MeasureT-loop
 μ-loop run block count pairs out₀ state₀ index₀ text₀ row₀ n₀ i₀ p₀ out state index text row n i p = count - i
 
-slice-aggregate-put-figures : tie.Need-slice-aggregate-put-figures Inv-loop μ-loop
-slice-aggregate-put-figures c = search needs
-
-put-figures-requires : tie.Need-put-figures-requires Inv-loop μ-loop
-put-figures-requires c κs = search needs
-
 loop-holds : tie.Need-loop-holds Inv-loop μ-loop
 loop-holds c =
     let o = c .before .before .before .before .before .before in (
@@ -64,9 +58,6 @@ add-put-record c =
       c .before .before .before .before .before .before .before .before
           .before .loop-test .taken,
     )
-
-cast-put-record : tie.Need-cast-put-record Inv-loop μ-loop
-cast-put-record c = search needs
 
 array-share-prefix-text : tie.Need-array-share-prefix-text Inv-loop μ-loop
 array-share-prefix-text c =
@@ -171,27 +162,6 @@ returns c =
     )) (l .inv .1)
 
 pub list-records-spec : {M : Type 1} → statement M
-list-records-spec =
-    tie.close
-    (tie.spec
-    Inv-loop
-    μ-loop
-    slice-aggregate-put-figures
-    put-figures-requires
-    loop-holds
-    judged-part-requires
-    next-row-requires
-    slice-aggregate-put-figures-if
-    put-figures-if-requires
-    add-put-record
-    cast-put-record
-    array-share-prefix-text
-    slice-aggregate-put-record
-    put-record-requires
-    add-i
-    loop-less
-    loop-again
-    add-t27
-    add-t28
-    same-length
-    returns)
+list-records-spec = tie.close (tie.spec Inv-loop μ-loop (λ c. search needs) (λ c κs. search needs) loop-holds judged-part-requires
+    next-row-requires slice-aggregate-put-figures-if put-figures-if-requires add-put-record (λ c. search needs) array-share-prefix-text
+    slice-aggregate-put-record put-record-requires add-i loop-less loop-again add-t27 add-t28 same-length returns)

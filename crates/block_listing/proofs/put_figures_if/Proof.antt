@@ -9,12 +9,6 @@ use Rattle.block_listing.proofs.put_figures_if.Tie as tie
 returns : tie.Need-returns
 returns c = ((λ e. absurd (c .if1 .taken e)), ((λ e. refl), (c .before .before .before .pre .1, c .before .before .before .pre .0)))
 
-put-figures-requires : tie.Need-put-figures-requires
-put-figures-requires c κs = search needs
-
-same-length : tie.Need-same-length
-same-length c = search needs
-
 returns-2 : tie.Need-returns-2
 returns-2 c =
     let row = c .before .before .before .before .before .before .before .args .row in
@@ -31,4 +25,4 @@ returns-2 c =
     )
 
 pub put-figures-if-spec : {M : Type 1} → statement M
-put-figures-if-spec = tie.close (tie.spec returns put-figures-requires same-length returns-2)
+put-figures-if-spec = tie.close (tie.spec returns (λ c κs. search needs) (λ c. search needs) returns-2)

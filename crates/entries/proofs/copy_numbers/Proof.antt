@@ -21,27 +21,6 @@ loop-holds c =
     let a = c .args in
     (search needs, refl, paste-zero (a .out .now) (a .at) (a .xs .now))
 
-mul-out : tie.Need-mul-out Inv-loop μ-loop
-mul-out c = search needs
-
-shared-slice-read-out : tie.Need-shared-slice-read-out Inv-loop μ-loop
-shared-slice-read-out c = search needs
-
-add-out : tie.Need-add-out Inv-loop μ-loop
-add-out c = search needs
-
-mul-out-2 : tie.Need-mul-out-2 Inv-loop μ-loop
-mul-out-2 c = search needs
-
-slice-write-out : tie.Need-slice-write-out Inv-loop μ-loop
-slice-write-out c = search needs
-
-add-i : tie.Need-add-i Inv-loop μ-loop
-add-i c = search needs
-
-loop-less : tie.Need-loop-less Inv-loop μ-loop
-loop-less c = search needs
-
 loop-again : tie.Need-loop-again Inv-loop μ-loop
 loop-again c =
     let a = c .before .before .before .args in
@@ -50,9 +29,6 @@ loop-again c =
     let e = ap (λ (o : List ℕ). set o (a .at + l .i) x) (l .inv .2) in
     let f = paste-suc (a .out .now) (a .at) (a .xs .now) (l .i) 0 (omega arith) (omega arith) in
     (omega arith, length-set (l .out) (a .at + l .i) x ∙ l .inv .1, e ∙ rw add-one f)
-
-same-length : tie.Need-same-length Inv-loop μ-loop
-same-length c = search needs
 
 returns : tie.Need-returns Inv-loop μ-loop
 returns c =
@@ -67,19 +43,5 @@ returns c =
     ∙ ap (λ (o : List ℕ). take (a .at) d ++ (o ++ drop (a .at + length s) d)) (take-length s)
 
 pub copy-numbers-spec : {M : Type 1} → statement M
-copy-numbers-spec =
-    tie.close
-    (tie.spec
-    Inv-loop
-    μ-loop
-    loop-holds
-    mul-out
-    shared-slice-read-out
-    add-out
-    mul-out-2
-    slice-write-out
-    add-i
-    loop-less
-    loop-again
-    same-length
-    returns)
+copy-numbers-spec = tie.close (tie.spec Inv-loop μ-loop loop-holds (λ c. search needs) (λ c. search needs) (λ c. search needs)
+    (λ c. search needs) (λ c. search needs) (λ c. search needs) (λ c. search needs) loop-again (λ c. search needs) returns)

@@ -17,19 +17,10 @@ Inv-loop balances from n start high₀ low₀ end i₀ high low i =
 abbrev μ-loop : tie.MeasureT-loop
 μ-loop balances from n start high₀ low₀ end i₀ high low i = end - i
 
-add-end : tie.Need-add-end Inv-loop μ-loop
-add-end c = search needs
-
 loop-holds : tie.Need-loop-holds Inv-loop μ-loop
 loop-holds c =
     let a = c .before .args in
     (search needs, search needs, halves-none _ _ (sum-none (λ (j : ℕ). getD (a .balances .now) j 0) (a .from)))
-
-mul-b : tie.Need-mul-b Inv-loop μ-loop
-mul-b c = search needs
-
-shared-slice-read-b : tie.Need-shared-slice-read-b Inv-loop μ-loop
-shared-slice-read-b c = search needs
 
 add-high : tie.Need-add-high Inv-loop μ-loop
 add-high c =
@@ -54,12 +45,6 @@ add-low c =
     record {
       fits = half-fits (a .start .high) (a .from) (a .n) (l .i) (l .low) _ (c4 .pre .2) t (l .inv .2 .low-most) (half-low _);
     }
-
-add-i : tie.Need-add-i Inv-loop μ-loop
-add-i c = search needs
-
-loop-less : tie.Need-loop-less Inv-loop μ-loop
-loop-less c = search needs
 
 loop-again : tie.Need-loop-again Inv-loop μ-loop
 loop-again c =
@@ -95,19 +80,5 @@ returns c =
     halves-added (a .start) _ (rw z at (l .inv .2)) (c4 .pre .1) (e .0) (e .1)
 
 pub add-balances-spec : {M : Type 1} → statement M
-add-balances-spec =
-    tie.close
-    (tie.spec
-    Inv-loop
-    μ-loop
-    add-end
-    loop-holds
-    mul-b
-    shared-slice-read-b
-    add-high
-    add-low
-    add-i
-    loop-less
-    loop-again
-    add-halves-requires
-    returns)
+add-balances-spec = tie.close (tie.spec Inv-loop μ-loop (λ c. search needs) loop-holds (λ c. search needs) (λ c. search needs) add-high
+    add-low (λ c. search needs) (λ c. search needs) loop-again add-halves-requires returns)

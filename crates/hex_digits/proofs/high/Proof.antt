@@ -8,16 +8,10 @@ use Rattle.hex_digits.proofs.Digits.{high-at}
 use Rattle.hex_digits.proofs.high.Statement.{statement}
 use Rattle.hex_digits.proofs.high.Tie as tie
 
-mul-i : tie.Need-mul-i
-mul-i c = search needs
-
-element-copy-out-result : tie.Need-element-copy-out-result
-element-copy-out-result c = search needs
-
 returns : tie.Need-returns
 returns c =
     let b = c .before .args .b in
     ap (λ (l : List ℕ). getD l (2 * b) 0) (c .before .pre) ∙ high-at b (search needs)
 
 pub high-spec : {M : Type 1} → statement M
-high-spec = tie.close (tie.spec mul-i element-copy-out-result returns)
+high-spec = tie.close (tie.spec (λ c. search needs) (λ c. search needs) returns)

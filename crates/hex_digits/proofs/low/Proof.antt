@@ -8,19 +8,10 @@ use Rattle.hex_digits.proofs.Digits.{low-at}
 use Rattle.hex_digits.proofs.low.Statement.{statement}
 use Rattle.hex_digits.proofs.low.Tie as tie
 
-mul-i : tie.Need-mul-i
-mul-i c = search needs
-
-add-i : tie.Need-add-i
-add-i c = search needs
-
-element-copy-out-result : tie.Need-element-copy-out-result
-element-copy-out-result c = search needs
-
 returns : tie.Need-returns
 returns c =
     let b = c .before .args .b in
     ap (λ (l : List ℕ). getD l (2 * b + 1) 0) (c .before .pre) ∙ low-at b (search needs)
 
 pub low-spec : {M : Type 1} → statement M
-low-spec = tie.close (tie.spec mul-i add-i element-copy-out-result returns)
+low-spec = tie.close (tie.spec (λ c. search needs) (λ c. search needs) (λ c. search needs) returns)

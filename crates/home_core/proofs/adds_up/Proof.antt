@@ -7,17 +7,11 @@ use native.Mathlib.Omega.{arith}
 use Rattle.home_core.proofs.adds_up.Statement.{statement}
 use Rattle.home_core.proofs.adds_up.Tie as tie
 
-shared-slice-read-add-balances : tie.Need-shared-slice-read-add-balances
-shared-slice-read-add-balances c = search needs
-
 add-balances-requires : tie.Need-add-balances-requires
 add-balances-requires c κs =
     let o = c .before .before in
     let b = bounds-facts (o .args .s .now) (o .pre .1) in
     (omega (arith, o .pre .0, b .home-fits), omega arith, omega (arith, b .home-fits))
-
-shared-slice-read-add : tie.Need-shared-slice-read-add
-shared-slice-read-add c = search needs
 
 add-requires : tie.Need-add-requires
 add-requires c κs =
@@ -33,9 +27,6 @@ returns c =
     let sum = added-after (c2 .before .before .add-balances .ensures) (c2 .add .ensures) in
     high-passes _ _ _ (added-value sum) (bounds-facts (o .args .s .now) (o .pre .1) .supply-fits) (c .if1 .taken)
 
-shared-slice-read-result : tie.Need-shared-slice-read-result
-shared-slice-read-result c = search needs
-
 returns-2 : tie.Need-returns-2
 returns-2 c =
     let c4 = c .before .before .before .before in
@@ -43,13 +34,5 @@ returns-2 c =
     low-compares _ _ _ (added-value sum) (c .before .before .if1 .left)
 
 pub adds-up-spec : {M : Type 1} → statement M
-adds-up-spec =
-    tie.close
-    (tie.spec
-    shared-slice-read-add-balances
-    add-balances-requires
-    shared-slice-read-add
-    add-requires
-    returns
-    shared-slice-read-result
-    returns-2)
+adds-up-spec = tie.close (tie.spec (λ c. search needs) add-balances-requires (λ c. search needs) add-requires returns
+    (λ c. search needs) returns-2)

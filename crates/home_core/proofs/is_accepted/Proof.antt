@@ -17,9 +17,6 @@ returns c =
     let e = tests-refused (a .s .now) (a .index .now) (every-not 0 _ (ne-eqb _ _ (c .if1 .taken))) in
     (e .0, (e .1, refl))
 
-is-bounded-requires : tie.Need-is-bounded-requires
-is-bounded-requires c κs = search needs
-
 returns-2 : tie.Need-returns-2
 unfolding testsHome
 returns-2 c =
@@ -27,9 +24,6 @@ returns-2 c =
     let e = tests-refused (a .s .now) (a .index .now) (every-not 1 _ (sym (c .before .is-bounded .ensures) ∙ not-true _ (c .if2
     .taken))) in
     (e .0, (e .1, refl))
-
-shared-slice-read-homes : tie.Need-shared-slice-read-homes
-shared-slice-read-homes c = search needs
 
 -- the test of the bounds held
 bounded-at : (c : tie.Else2) → homeBounds (c .before .before .before .before .before .args .s .now) ≡ true
@@ -55,15 +49,6 @@ returns-3 c =
     let e = tests-refused (a .s .now) (a .index .now) (every-not 2 _ (sym (c .before .zeros .ensures) ∙ not-true _ (c .if3 .taken))) in
     (e .0, (e .1, refl))
 
-shared-slice-read-hold-indexed : tie.Need-shared-slice-read-hold-indexed
-shared-slice-read-hold-indexed c = search needs
-
-shared-slice-read-hold-indexed-2 : tie.Need-shared-slice-read-hold-indexed-2
-shared-slice-read-hold-indexed-2 c = search needs
-
-shared-slice-read-hold-indexed-3 : tie.Need-shared-slice-read-hold-indexed-3
-shared-slice-read-hold-indexed-3 c = search needs
-
 hold-indexed-requires : tie.Need-hold-indexed-requires
 hold-indexed-requires c κs =
     let b = bounds-at (c .before .before .before .before .before .before .before) in
@@ -76,9 +61,6 @@ hold-indexed-requires c κs =
       b .home-fits,
       b .far-fits,
     )
-
-same-length : tie.Need-same-length
-same-length c = search needs
 
 returns-4 : tie.Need-returns-4
 unfolding testsHome
@@ -95,9 +77,6 @@ adds-up-requires c κs = (
       .left,
   bounded-at (c .before .before .before .before .before .before .before .before .before .before .before),
 )
-
-same-length-2 : tie.Need-same-length-2
-same-length-2 c = search needs
 
 returns-5 : tie.Need-returns-5
 unfolding testsHome
@@ -129,23 +108,6 @@ returns-5 c =
     )
 
 pub is-accepted-spec : {M : Type 1} → statement M
-is-accepted-spec =
-    tie.close
-    (tie.spec
-    returns
-    is-bounded-requires
-    returns-2
-    shared-slice-read-homes
-    add-zeros
-    sub-zeros
-    zeros-requires
-    returns-3
-    shared-slice-read-hold-indexed
-    shared-slice-read-hold-indexed-2
-    shared-slice-read-hold-indexed-3
-    hold-indexed-requires
-    same-length
-    returns-4
-    adds-up-requires
-    same-length-2
-    returns-5)
+is-accepted-spec = tie.close (tie.spec returns (λ c κs. search needs) returns-2 (λ c. search needs) add-zeros sub-zeros zeros-requires
+    returns-3 (λ c. search needs) (λ c. search needs) (λ c. search needs) hold-indexed-requires (λ c. search needs) returns-4
+    adds-up-requires (λ c. search needs) returns-5)

@@ -8,35 +8,17 @@ use mathlib.Core.Path.{_∙_, sym}
 use Rattle.home_core.proofs.is_bounded.Statement.{statement}
 use Rattle.home_core.proofs.is_bounded.Tie as tie
 
-shared-slice-read-is-count-allowed : tie.Need-shared-slice-read-is-count-allowed
-shared-slice-read-is-count-allowed c = search needs
-
-is-count-allowed-requires : tie.Need-is-count-allowed-requires
-is-count-allowed-requires c κs = search needs
-
 returns : tie.Need-returns
 unfolding homeBounds
 returns c = sym (every-not 0 _ (sym (c .before .is-count-allowed .ensures) ∙ not-true _ (c .if1 .taken)))
-
-shared-slice-read-is-count-allowed-2 : tie.Need-shared-slice-read-is-count-allowed-2
-shared-slice-read-is-count-allowed-2 c = search needs
-
-is-count-allowed-requires-2 : tie.Need-is-count-allowed-requires-2
-is-count-allowed-requires-2 c κs = search needs
 
 returns-2 : tie.Need-returns-2
 unfolding homeBounds
 returns-2 c = sym (every-not 1 _ (sym (c .before .is-count-allowed2 .ensures) ∙ not-true _ (c .if2 .taken)))
 
-shared-slice-read-if3 : tie.Need-shared-slice-read-if3
-shared-slice-read-if3 c = search needs
-
 returns-3 : tie.Need-returns-3
 unfolding homeBounds
 returns-3 c = sym (every-not 2 _ (lt-leb _ _ (c .if3 .taken)))
-
-shared-slice-read-result : tie.Need-shared-slice-read-result
-shared-slice-read-result c = search needs
 
 returns-4 : tie.Need-returns-4
 unfolding homeBounds supplyAllowed
@@ -50,16 +32,5 @@ returns-4 c =
     ∙ every-one _)
 
 pub is-bounded-spec : {M : Type 1} → statement M
-is-bounded-spec =
-    tie.close
-    (tie.spec
-    shared-slice-read-is-count-allowed
-    is-count-allowed-requires
-    returns
-    shared-slice-read-is-count-allowed-2
-    is-count-allowed-requires-2
-    returns-2
-    shared-slice-read-if3
-    returns-3
-    shared-slice-read-result
-    returns-4)
+is-bounded-spec = tie.close (tie.spec (λ c. search needs) (λ c κs. search needs) returns (λ c. search needs) (λ c κs. search needs)
+    returns-2 (λ c. search needs) returns-3 (λ c. search needs) returns-4)

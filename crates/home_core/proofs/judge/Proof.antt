@@ -14,33 +14,6 @@ use Rattle.home_core.proofs.judge.Tie as tie
 shared-slice-read-count : tie.Need-shared-slice-read-count
 shared-slice-read-count c = let o = c .before .before .before in omega (arith, sound-of (o .args .s .now) (o .pre .accepted) .long)
 
-ledger-requires : tie.Need-ledger-requires
-ledger-requires c κs = search needs
-
-is-far-requires : tie.Need-is-far-requires
-is-far-requires c κs = search needs
-
-refusal-if-requires : tie.Need-refusal-if-requires
-refusal-if-requires c κs = search needs
-
-sender-ledger-requires : tie.Need-sender-ledger-requires
-sender-ledger-requires c κs = search needs
-
-accounts-on-requires : tie.Need-accounts-on-requires
-accounts-on-requires c κs = search needs
-
-receiver-ledger-requires : tie.Need-receiver-ledger-requires
-receiver-ledger-requires c κs = search needs
-
-accounts-on-requires-2 : tie.Need-accounts-on-requires-2
-accounts-on-requires-2 c κs = search needs
-
-last-refusal-requires : tie.Need-last-refusal-requires
-last-refusal-requires c κs = search needs
-
-refusal-if-requires-2 : tie.Need-refusal-if-requires-2
-refusal-if-requires-2 c κs = search needs
-
 is-used-requires : tie.Need-is-used-requires
 is-used-requires c κs =
     let o = c .before .before .before .before .before .before .before .before .before .before .before .before in
@@ -49,15 +22,6 @@ is-used-requires c κs =
       omega (arith, o .pre .index-long, h .bounds .room),
       o .pre .indexed,
     )
-
-first-refusal-requires : tie.Need-first-refusal-requires
-first-refusal-requires c κs = search needs
-
-first-refusals-requires : tie.Need-first-refusals-requires
-first-refusals-requires c κs = search needs
-
-first-refusal-requires-2 : tie.Need-first-refusal-requires-2
-first-refusal-requires-2 c κs = search needs
 
 returns : tie.Need-returns
 returns c =
@@ -80,21 +44,6 @@ returns c =
     (c .first-refusal2 .ensures)
 
 pub judge-spec : {M : Type 1} → statement M
-judge-spec =
-    tie.close
-    (tie.spec
-    shared-slice-read-count
-    ledger-requires
-    is-far-requires
-    refusal-if-requires
-    sender-ledger-requires
-    accounts-on-requires
-    receiver-ledger-requires
-    accounts-on-requires-2
-    last-refusal-requires
-    refusal-if-requires-2
-    is-used-requires
-    first-refusal-requires
-    first-refusals-requires
-    first-refusal-requires-2
-    returns)
+judge-spec = tie.close (tie.spec shared-slice-read-count (λ c κs. search needs) (λ c κs. search needs) (λ c κs. search needs)
+    (λ c κs. search needs) (λ c κs. search needs) (λ c κs. search needs) (λ c κs. search needs) (λ c κs. search needs)
+    (λ c κs. search needs) is-used-requires (λ c κs. search needs) (λ c κs. search needs) (λ c κs. search needs) returns)

@@ -13,12 +13,6 @@ use native.Mathlib.Omega.{arith}
 use Rattle.home_core.proofs.pass.Statement.{statement}
 use Rattle.home_core.proofs.pass.Tie as tie
 
-element-copy-out-count : tie.Need-element-copy-out-count
-element-copy-out-count c = search needs
-
-element-copy-out-pool : tie.Need-element-copy-out-pool
-element-copy-out-pool c = search needs
-
 -- the state is accepted
 sound-at : (c : tie.Start) → HomeSound (c .args .state .now)
 sound-at c = sound-of (c .args .state .now) (c .pre .0)
@@ -43,14 +37,8 @@ store-requires c κs =
       paid-fits (a .state .now) h (a .r) p (amount-fits (a .w) (a .r) (o .pre .1) (o .pre .2)),
     )
 
-taken-by-requires : tie.Need-taken-by-requires
-taken-by-requires c κs = search needs
-
 add-state : tie.Need-add-state
 add-state c = omega (arith, c .taken-by .ensures, passes-at (c .before .before .before .before .before) .pool-fits)
-
-given-by-requires : tie.Need-given-by-requires
-given-by-requires c κs = search needs
 
 sub-state : tie.Need-sub-state
 sub-state c = omega (
@@ -61,14 +49,8 @@ sub-state c = omega (
       .before) .pool-has,
 )
 
-element-write-state : tie.Need-element-write-state
-element-write-state c = search needs
-
 add-state-2 : tie.Need-add-state-2
 add-state-2 c = omega (arith, passes-at (c .before .before .before .before .before .before) .room)
-
-element-write-state-2 : tie.Need-element-write-state-2
-element-write-state-2 c = search needs
 
 returns : tie.Need-returns
 unfolding homeWith
@@ -80,18 +62,5 @@ returns c =
     ap₂ (λ (x : List ℕ) (y : ℕ). set (set x poolWord y) countWord (countOf s + 1)) (c .before .before .store .ensures) m
 
 pub pass-spec : {M : Type 1} → statement M
-pass-spec =
-    tie.close
-    (tie.spec
-    element-copy-out-count
-    element-copy-out-pool
-    mul-store
-    store-requires
-    taken-by-requires
-    add-state
-    given-by-requires
-    sub-state
-    element-write-state
-    add-state-2
-    element-write-state-2
-    returns)
+pass-spec = tie.close (tie.spec (λ c. search needs) (λ c. search needs) mul-store store-requires (λ c κs. search needs) add-state
+    (λ c κs. search needs) sub-state (λ c. search needs) add-state-2 (λ c. search needs) returns)

@@ -4,12 +4,9 @@ use borrow.Author.Needs.{needs}
 use Rattle.home_core.proofs.pool_refusal.Statement.{statement}
 use Rattle.home_core.proofs.pool_refusal.Tie as tie
 
-refusal-if-requires : tie.Need-refusal-if-requires
-refusal-if-requires c κs = search needs
-
 returns : tie.Need-returns
 unfolding poolRefusal
 returns c = search needs
 
 pub pool-refusal-spec : {M : Type 1} → statement M
-pool-refusal-spec = tie.close (tie.spec refusal-if-requires returns)
+pool-refusal-spec = tie.close (tie.spec (λ c κs. search needs) returns)

@@ -15,24 +15,12 @@ use native.Mathlib.Omega.{arith}
 use Rattle.home_core.proofs.step.Statement.{statement}
 use Rattle.home_core.proofs.step.Tie as tie
 
-read-requires : tie.Need-read-requires
-read-requires c κs = search needs
-
-enum-known-r : tie.Need-enum-known-r
-enum-known-r c = search needs
-
-enum-told : tie.Need-enum-told
-enum-told c = search needs
-
 returns : tie.Need-returns
 returns c =
     let o = c .before .before .before .before in
     let s = o .args .state .now in
     step-refused s (o .args .index .now) (o .args .bytes .now) (o .pre) 21
     (ap (homeJudge capacity (homeViewOf s)) (sym (c .before .before .read .ensures) ∙ c .enum-told .given .1)) (λ q. omega (arith, q))
-
-judge-requires : tie.Need-judge-requires
-judge-requires c κs = search needs
 
 -- what the bytes read as
 reads-at : (c : tie.After-judge) → reading (c .before .before .before .before .before .before .before .before .before .before .args
@@ -47,9 +35,6 @@ returns-2 c =
     let s = o .args .state .now in
     step-refused s (o .args .index .now) (o .args .bytes .now) (o .pre) (j .judge .result)
     (ap (homeJudge capacity (homeViewOf s)) (reads-at j) ∙ sym (j .judge .ensures)) (c .if1 .taken)
-
-element-copy-out-count : tie.Need-element-copy-out-count
-element-copy-out-count c = search needs
 
 -- the record passes
 passes-at : (c : tie.Else1) → homeJudge capacity (homeViewOf (c .before .before .before .before .before .before .before .before .before
@@ -93,17 +78,5 @@ returns-3 c =
     .ensures)
 
 pub step-spec : {M : Type 1} → statement M
-step-spec =
-    tie.close
-    (tie.spec
-    read-requires
-    enum-known-r
-    enum-told
-    returns
-    judge-requires
-    returns-2
-    element-copy-out-count
-    of-requires
-    pass-requires
-    add-number-requires
-    returns-3)
+step-spec = tie.close (tie.spec (λ c κs. search needs) (λ c. search needs) (λ c. search needs) returns (λ c κs. search needs) returns-2
+    (λ c. search needs) of-requires pass-requires add-number-requires returns-3)

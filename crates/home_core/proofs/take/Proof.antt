@@ -1,7 +1,7 @@
 -- `home_core::take` meets its contract. Assumes nothing.
 use Prim.Native.Nat.{ℕ}
 use Rattle.answers.specs.Answers.{answer}
-use Rattle.home_core.specs.Layout.{acceptsHome, homeWordsChecker}
+use Rattle.home_core.specs.Layout.{acceptsHome, homeWordsChecker, indexLength}
 use Rattle.inputs.proofs.Parts.{call-one, call-unaccepted}
 use Rattle.rules.specs.Calls.{Result, call, callOne, one}
 use Rattle.table.proofs.Numbers.{index-none}
@@ -13,11 +13,8 @@ use mathlib.Core.Path.{_∙_, _≡_, ap, refl, sym}
 use Rattle.home_core.proofs.take.Statement.{statement}
 use Rattle.home_core.proofs.take.Tie as tie
 
-slice-aggregate-is-accepted : tie.Need-slice-aggregate-is-accepted
-slice-aggregate-is-accepted c = search needs
-
 is-accepted-requires : tie.Need-is-accepted-requires
-is-accepted-requires c κs = (refl, index-none (c .before .before .before .before .args .state .now) 0 4608 0)
+is-accepted-requires c κs = (refl, index-none (c .before .before .before .before .args .state .now) 0 indexLength 0)
 
 returns : tie.Need-returns
 returns c =
@@ -28,9 +25,6 @@ returns c =
 
 step-requires : tie.Need-step-requires
 step-requires c κs = c .before .before .before .before .is-accepted .ensures .1 .0 (not-false _ (c .before .before .if1 .left))
-
-new-requires : tie.Need-new-requires
-new-requires c κs = search needs
 
 returns-2 : tie.Need-returns-2
 unfolding callOne
@@ -46,12 +40,4 @@ returns-2 c =
     )
 
 pub take-spec : {M : Type 1} → statement M
-take-spec =
-    tie.close
-    (tie.spec
-    slice-aggregate-is-accepted
-    is-accepted-requires
-    returns
-    step-requires
-    new-requires
-    returns-2)
+take-spec = tie.close (tie.spec (λ c. search needs) is-accepted-requires returns step-requires (λ c κs. search needs) returns-2)

@@ -1,6 +1,6 @@
 -- `home_core::take_list` meets its contract. Assumes nothing.
 use Prim.Native.Nat.{_+_, _-_, _≤_, ℕ}
-use Rattle.home_core.specs.Layout.{HomeReady, homeWordsChecker}
+use Rattle.home_core.specs.Layout.{HomeReady, homeWordsChecker, indexLength}
 use Rattle.inputs.proofs.Parts.{Shorter, call-unaccepted, parts, parts-less, parts-start, turn-end, turn-passed, turn-refused}
 use Rattle.rules.specs.Calls.{Result, call, callList, callOne, list}
 use Rattle.table.proofs.Numbers.{index-none}
@@ -24,11 +24,8 @@ Inv-loop state₀ bytes index₀ before at₀ i₀ state index at i =
 abbrev μ-loop : tie.MeasureT-loop
 μ-loop state₀ bytes index₀ before at₀ i₀ state index at i = length bytes - at
 
-slice-aggregate-is-accepted : tie.Need-slice-aggregate-is-accepted Inv-loop μ-loop
-slice-aggregate-is-accepted c = search needs
-
 is-accepted-requires : tie.Need-is-accepted-requires Inv-loop μ-loop
-is-accepted-requires c κs = (refl, index-none (c .before .before .before .before .args .state .now) 0 4608 0)
+is-accepted-requires c κs = (refl, index-none (c .before .before .before .before .args .state .now) 0 indexLength 0)
 
 returns : tie.Need-returns Inv-loop μ-loop
 returns c =
@@ -128,22 +125,5 @@ returns-3 c =
     (ap (λ (x : Result (List ℕ)). x .answer) (sym e), ap (λ (x : Result (List ℕ)). x .state) (sym e))
 
 pub take-list-spec : {M : Type 1} → statement M
-take-list-spec =
-    tie.close
-    (tie.spec
-    Inv-loop
-    μ-loop
-    slice-aggregate-is-accepted
-    is-accepted-requires
-    returns
-    loop-holds
-    part-end-requires
-    sub-step
-    part-step-start
-    part-step-end
-    step-requires
-    returns-2
-    add-i
-    loop-less
-    loop-again
-    returns-3)
+take-list-spec = tie.close (tie.spec Inv-loop μ-loop (λ c. search needs) is-accepted-requires returns loop-holds part-end-requires
+    sub-step part-step-start part-step-end step-requires returns-2 add-i loop-less loop-again returns-3)

@@ -8,17 +8,8 @@ use mathlib.Core.Path.{_∙_, _≡_, sym}
 use Rattle.home_figures.proofs.balance.Statement.{statement}
 use Rattle.home_figures.proofs.balance.Tie as tie
 
-accepted-requires : tie.Need-accepted-requires
-accepted-requires c κs = search needs
-
-balance-refused-requires : tie.Need-balance-refused-requires
-balance-refused-requires c κs = search needs
-
 returns : tie.Need-returns
 returns c = c .balance-refused .ensures ∙ rw (sym (c .before .before .accepted .ensures) ∙ not-true _ (c .before .if1 .taken))
-
-element-copy-out-open : tie.Need-element-copy-out-open
-element-copy-out-open c = search needs
 
 -- the state is accepted past the test
 accepted-at : (c : tie.Else1) → acceptsHome (c .before .before .before .before .before .args .t1 .words) ≡ true
@@ -31,12 +22,5 @@ returns-2 : tie.Need-returns-2
 returns-2 c = c .balance-among .ensures ∙ home-balance-passed _ (accepted-at (c .before .before .before .before .before)) _
 
 pub balance-spec : {M : Type 1} → statement M
-balance-spec =
-    tie.close
-    (tie.spec
-    accepted-requires
-    balance-refused-requires
-    returns
-    element-copy-out-open
-    balance-among-requires
+balance-spec = tie.close (tie.spec (λ c κs. search needs) (λ c κs. search needs) returns (λ c. search needs) balance-among-requires
     returns-2)

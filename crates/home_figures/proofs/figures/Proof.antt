@@ -9,17 +9,8 @@ use native.Mathlib.Omega.{arith}
 use Rattle.home_figures.proofs.figures.Statement.{statement}
 use Rattle.home_figures.proofs.figures.Tie as tie
 
-accepted-requires : tie.Need-accepted-requires
-accepted-requires c κs = search needs
-
 returns : tie.Need-returns
 returns c = rw (sym (c .before .accepted .ensures) ∙ not-true _ (c .if1 .taken))
-
-element-copy-out-supply : tie.Need-element-copy-out-supply
-element-copy-out-supply c = search needs
-
-element-copy-out-pool : tie.Need-element-copy-out-pool
-element-copy-out-pool c = search needs
 
 -- the state is accepted past the test
 accepted-at : (c : tie.Else1) → acceptsHome (c .before .before .before .before .before .args .t1 .words) ≡ true
@@ -32,12 +23,4 @@ returns-2 : tie.Need-returns-2
 returns-2 c = home-figures-passed _ (accepted-at (c .before .before))
 
 pub figures-spec : {M : Type 1} → statement M
-figures-spec =
-    tie.close
-    (tie.spec
-    accepted-requires
-    returns
-    element-copy-out-supply
-    element-copy-out-pool
-    sub-t12
-    returns-2)
+figures-spec = tie.close (tie.spec (λ c κs. search needs) returns (λ c. search needs) (λ c. search needs) sub-t12 returns-2)

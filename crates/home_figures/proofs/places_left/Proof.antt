@@ -9,17 +9,8 @@ use native.Mathlib.Omega.{arith}
 use Rattle.home_figures.proofs.places_left.Statement.{statement}
 use Rattle.home_figures.proofs.places_left.Tie as tie
 
-accepted-requires : tie.Need-accepted-requires
-accepted-requires c κs = search needs
-
-new-requires : tie.Need-new-requires
-new-requires c κs = search needs
-
 returns : tie.Need-returns
 returns c = home-places-refused _ (sym (c .before .before .accepted .ensures) ∙ not-true _ (c .before .if1 .taken)) (c .new .ensures)
-
-element-copy-out-home : tie.Need-element-copy-out-home
-element-copy-out-home c = search needs
 
 -- the state is accepted past the test
 accepted-at : (c : tie.Else1) → acceptsHome (c .before .before .before .before .before .args .t1 .words) ≡ true
@@ -32,6 +23,4 @@ returns-2 : tie.Need-returns-2
 returns-2 c = home-places-passed _ (accepted-at (c .before))
 
 pub places-left-spec : {M : Type 1} → statement M
-places-left-spec =
-    tie.close
-    (tie.spec accepted-requires new-requires returns element-copy-out-home sub-t13 returns-2)
+places-left-spec = tie.close (tie.spec (λ c κs. search needs) (λ c κs. search needs) returns (λ c. search needs) sub-t13 returns-2)

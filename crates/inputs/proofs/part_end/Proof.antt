@@ -8,14 +8,8 @@ use Rattle.inputs.proofs.Parts.{rest-end}
 use Rattle.inputs.proofs.part_end.Statement.{statement}
 use Rattle.inputs.proofs.part_end.Tie as tie
 
-sub-if1 : tie.Need-sub-if1
-sub-if1 c = search needs
-
 returns : tie.Need-returns
 returns c = rest-end (c .before .args .size) (c .before .args .at) (c .before .args .n) (c .if1 .taken)
-
-add-result : tie.Need-add-result
-add-result c = search needs
 
 returns-2 : tie.Need-returns-2
 returns-2 c =
@@ -23,4 +17,4 @@ returns-2 c =
     ap (λ (t : Bool). cond t (a .n) (a .at + a .size)) (sym (lt-leb (a .n - a .at) (a .size) (c .if1 .left)))
 
 pub part-end-spec : {M : Type 1} → statement M
-part-end-spec = tie.close (tie.spec sub-if1 returns add-result returns-2)
+part-end-spec = tie.close (tie.spec (λ c. search needs) returns (λ c. search needs) returns-2)

@@ -3,8 +3,5 @@ use borrow.Author.Needs.{needs}
 use Rattle.journal_listing.proofs.first_run.Statement.{statement}
 use Rattle.journal_listing.proofs.first_run.Tie as tie
 
-returns : tie.Need-returns
-returns c = search needs
-
 pub first-run-spec : {M : Type 1} → statement M
-first-run-spec = tie.close (tie.spec returns)
+first-run-spec = tie.close (tie.spec (λ c. search needs))

@@ -15,15 +15,6 @@ use Rattle.journal_listing.proofs.list.Tie as tie
 slice-aggregate-read-full : tie.Need-slice-aggregate-read-full
 slice-aggregate-read-full c = sym (length-replicate {A = ℕ} 1024 0)
 
-read-full-requires : tie.Need-read-full-requires
-read-full-requires c κs = search needs
-
-array-share-prefix-opening : tie.Need-array-share-prefix-opening
-array-share-prefix-opening c = search needs
-
-slice-aggregate-list-start : tie.Need-slice-aggregate-list-start
-slice-aggregate-list-start c = search needs
-
 slice-aggregate-list-start-2 : tie.Need-slice-aggregate-list-start-2
 slice-aggregate-list-start-2 c = sym (length-replicate {A = ℕ} 114688 0)
 
@@ -56,12 +47,6 @@ array-share-prefix-out c = begun-at (c .before) .fits
 slice-aggregate-write-all : tie.Need-slice-aggregate-write-all
 slice-aggregate-write-all c = sym (length-take-le _ _ (begun-at (c .before .before) .fits))
 
-write-all-requires : tie.Need-write-all-requires
-write-all-requires c κs = search needs
-
-opening-alone-requires : tie.Need-opening-alone-requires
-opening-alone-requires c κs = search needs
-
 returns : tie.Need-returns
 returns c =
     listed-alone (begun-at (c .before .before .before .before .before)) (c .before .before .write-all .result) (c .before
@@ -92,21 +77,6 @@ returns-3 c =
     (c .before .list-opened .ensures)
 
 pub list-spec : {M : Type 1} → statement M
-list-spec =
-    tie.close
-    (tie.spec
-    slice-aggregate-read-full
-    read-full-requires
-    array-share-prefix-opening
-    slice-aggregate-list-start
-    slice-aggregate-list-start-2
-    list-start-requires
-    array-share-prefix-out
-    slice-aggregate-write-all
-    write-all-requires
-    opening-alone-requires
-    returns
-    returns-2
-    slice-aggregate-list-opened
-    list-opened-requires
-    returns-3)
+list-spec = tie.close (tie.spec slice-aggregate-read-full (λ c κs. search needs) (λ c. search needs) (λ c. search needs)
+    slice-aggregate-list-start-2 list-start-requires array-share-prefix-out slice-aggregate-write-all (λ c κs. search needs)
+    (λ c κs. search needs) returns returns-2 slice-aggregate-list-opened list-opened-requires returns-3)

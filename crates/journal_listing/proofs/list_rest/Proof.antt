@@ -30,9 +30,6 @@ Inv-loop source target input₀ digits out₀ state₀ index₀ last₀ turns₀
 abbrev μ-loop : tie.MeasureT-loop
 μ-loop source target input₀ digits out₀ state₀ index₀ last₀ turns₀ input out state index last turns = turns
 
-no-turn-requires : tie.Need-no-turn-requires Inv-loop μ-loop
-no-turn-requires c κs = search needs
-
 loop-holds : tie.Need-loop-holds Inv-loop μ-loop
 loop-holds c =
     let o = c .before .before .before .before in
@@ -126,20 +123,5 @@ returns-2 c =
     (l .inv .7 (turns-end (l .last .run) (l .turns) (l .inv .0) (l .inv .6) (omega (arith, c .loop-test .left))))
 
 pub list-rest-spec : {M : Type 1} → statement M
-list-rest-spec =
-    tie.close
-    (tie.spec
-    Inv-loop
-    μ-loop
-    no-turn-requires
-    loop-holds
-    same-length
-    same-length-2
-    returns
-    turn-requires
-    sub-turns
-    loop-less
-    loop-again
-    same-length-3
-    same-length-4
-    returns-2)
+list-rest-spec = tie.close (tie.spec Inv-loop μ-loop (λ c κs. search needs) loop-holds same-length same-length-2 returns turn-requires
+    sub-turns loop-less loop-again same-length-3 same-length-4 returns-2)

@@ -7,9 +7,6 @@ use mathlib.Core.Path.{ap}
 use Rattle.journal_listing.proofs.no_turn.Statement.{statement}
 use Rattle.journal_listing.proofs.no_turn.Tie as tie
 
-first-run-requires : tie.Need-first-run-requires
-first-run-requires c κs = search needs
-
 -- the turn before the first, with any run
 abbrev with-run : Run → TurnResult
 with-run run = record { run = run; read = 0; text = 0; written = true }
@@ -18,4 +15,4 @@ returns : tie.Need-returns
 returns c = ap with-run (c .first-run .ensures)
 
 pub no-turn-spec : {M : Type 1} → statement M
-no-turn-spec = tie.close (tie.spec first-run-requires returns)
+no-turn-spec = tie.close (tie.spec (λ c κs. search needs) returns)

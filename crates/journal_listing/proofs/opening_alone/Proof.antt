@@ -6,9 +6,6 @@ use mathlib.Core.Path.{ap}
 use Rattle.journal_listing.proofs.opening_alone.Statement.{statement}
 use Rattle.journal_listing.proofs.opening_alone.Tie as tie
 
-no-turn-requires : tie.Need-no-turn-requires
-no-turn-requires c κs = search needs
-
 returns : tie.Need-returns
 returns c =
     let a = c .before .args in
@@ -17,4 +14,4 @@ returns c =
     ap with-last (c .no-turn .ensures)
 
 pub opening-alone-spec : {M : Type 1} → statement M
-opening-alone-spec = tie.close (tie.spec no-turn-requires returns)
+opening-alone-spec = tie.close (tie.spec (λ c κs. search needs) returns)

@@ -3,8 +3,5 @@ use borrow.Author.Needs.{needs}
 use Rattle.journal_listing.proofs.resumed.Statement.{statement}
 use Rattle.journal_listing.proofs.resumed.Tie as tie
 
-returns : tie.Need-returns
-returns c = search needs
-
 pub resumed-spec : {M : Type 1} → statement M
-resumed-spec = tie.close (tie.spec returns)
+resumed-spec = tie.close (tie.spec (λ c. search needs))

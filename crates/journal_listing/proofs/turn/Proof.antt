@@ -10,15 +10,6 @@ use native.Mathlib.Omega.{arith}
 use Rattle.journal_listing.proofs.turn.Statement.{statement}
 use Rattle.journal_listing.proofs.turn.Tie as tie
 
-read-full-requires : tie.Need-read-full-requires
-read-full-requires c κs = search needs
-
-slice-reshare-prefix-list-chunk : tie.Need-slice-reshare-prefix-list-chunk
-slice-reshare-prefix-list-chunk c = search needs
-
-slice-aggregate-list-chunk : tie.Need-slice-aggregate-list-chunk
-slice-aggregate-list-chunk c = search needs
-
 list-chunk-requires : tie.Need-list-chunk-requires
 list-chunk-requires c κs =
     let o = c .before .before .before .before .before .before .before .before .before .before in (
@@ -31,26 +22,8 @@ list-chunk-requires c κs =
       o .pre .5,
     )
 
-slice-reshare-prefix-write-all : tie.Need-slice-reshare-prefix-write-all
-slice-reshare-prefix-write-all c = search needs
-
 slice-aggregate-write-all : tie.Need-slice-aggregate-write-all
 slice-aggregate-write-all c = sym (length-take-le _ _ (c .before .before .before .list-chunk .ensures .1 .1 .2))
-
-write-all-requires : tie.Need-write-all-requires
-write-all-requires c κs = search needs
-
-goes-on-requires : tie.Need-goes-on-requires
-goes-on-requires c κs = search needs
-
-resumed-requires : tie.Need-resumed-requires
-resumed-requires c κs = search needs
-
-same-length : tie.Need-same-length
-same-length c = search needs
-
-same-length-2 : tie.Need-same-length-2
-same-length-2 c = search needs
 
 returns : tie.Need-returns
 returns c =
@@ -68,18 +41,6 @@ returns c =
     )
 
 pub turn-spec : {M : Type 1} → statement M
-turn-spec =
-    tie.close
-    (tie.spec
-    read-full-requires
-    slice-reshare-prefix-list-chunk
-    slice-aggregate-list-chunk
-    list-chunk-requires
-    slice-reshare-prefix-write-all
-    slice-aggregate-write-all
-    write-all-requires
-    goes-on-requires
-    resumed-requires
-    same-length
-    same-length-2
-    returns)
+turn-spec = tie.close (tie.spec (λ c κs. search needs) (λ c. search needs) (λ c. search needs) list-chunk-requires (λ c. search needs)
+    slice-aggregate-write-all (λ c κs. search needs) (λ c κs. search needs) (λ c κs. search needs) (λ c. search needs)
+    (λ c. search needs) returns)

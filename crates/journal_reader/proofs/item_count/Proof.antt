@@ -10,15 +10,6 @@ use Rattle.journal_reader.specs.Judged.{countOf}
 use Rattle.journal_reader.proofs.item_count.Statement.{statement}
 use Rattle.journal_reader.proofs.item_count.Tie as tie
 
-judge-requires : tie.Need-judge-requires
-judge-requires c κs = search needs
-
-enum-told : tie.Need-enum-told
-enum-told c = search needs
-
-enum-told-2 : tie.Need-enum-told-2
-enum-told-2 c = search needs
-
 returns : tie.Need-returns
 unfolding countOf
 returns c =
@@ -28,9 +19,6 @@ returns c =
     let e = sym (c .before .before .judge .ensures) ∙ c .enum-told2 .given .1 in
     let n = refused-instead (blockRefusal b (a .k) (a .before)) (a .k) _ _ (statedCount b) 0 e in
     λ i. record { answer = c .before .before .judge .ensures i; count = sym n i }
-
-stated-count-requires : tie.Need-stated-count-requires
-stated-count-requires c κs = search needs
 
 returns-2 : tie.Need-returns-2
 unfolding countOf
@@ -44,6 +32,5 @@ returns-2 c =
     λ i. record { answer = c3 .judge .ensures i; count = n i }
 
 pub item-count-spec : {M : Type 1} → statement M
-item-count-spec =
-    tie.close
-    (tie.spec judge-requires enum-told enum-told-2 returns stated-count-requires returns-2)
+item-count-spec = tie.close (tie.spec (λ c κs. search needs) (λ c. search needs) (λ c. search needs) returns (λ c κs. search needs)
+    returns-2)

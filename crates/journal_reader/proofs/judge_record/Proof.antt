@@ -7,18 +7,6 @@ use Rattle.journal_reader.specs.Judged.{recordRefusal}
 use Rattle.journal_reader.proofs.judge_record.Statement.{statement}
 use Rattle.journal_reader.proofs.judge_record.Tie as tie
 
-block-refusal-requires : tie.Need-block-refusal-requires
-block-refusal-requires c κs = search needs
-
-place-refusal-requires : tie.Need-place-refusal-requires
-place-refusal-requires c κs = search needs
-
-first-refusal-requires : tie.Need-first-refusal-requires
-first-refusal-requires c κs = search needs
-
-new-requires : tie.Need-new-requires
-new-requires c κs = search needs
-
 returns : tie.Need-returns
 unfolding recordRefusal
 returns c =
@@ -29,11 +17,5 @@ returns c =
     (c .before .first-refusal .ensures ∙ ap₂ orElse (c3 .block-refusal .ensures) (c .before .before .place-refusal .ensures))
 
 pub judge-record-spec : {M : Type 1} → statement M
-judge-record-spec =
-    tie.close
-    (tie.spec
-    block-refusal-requires
-    place-refusal-requires
-    first-refusal-requires
-    new-requires
+judge-record-spec = tie.close (tie.spec (λ c κs. search needs) (λ c κs. search needs) (λ c κs. search needs) (λ c κs. search needs)
     returns)

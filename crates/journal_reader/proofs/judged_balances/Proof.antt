@@ -17,34 +17,10 @@ Inv-loop block n out₀ i₀ out i = (i ≤ n) × (n ≤ 56) × (out ≡ balance
 abbrev μ-loop : tie.MeasureT-loop
 μ-loop block n out₀ i₀ out i = n - i
 
-stated-count-requires : tie.Need-stated-count-requires Inv-loop μ-loop
-stated-count-requires c κs = search needs
-
 loop-holds : tie.Need-loop-holds Inv-loop μ-loop
 unfolding balancesIn
 loop-holds c =
     (search needs, omega (arith, c .stated-count .ensures), refl)
-
-mul-u64-at : tie.Need-mul-u64-at Inv-loop μ-loop
-mul-u64-at c = search needs
-
-add-u64-at : tie.Need-add-u64-at Inv-loop μ-loop
-add-u64-at c = search needs
-
-u64-at-requires : tie.Need-u64-at-requires Inv-loop μ-loop
-u64-at-requires c κs = search needs
-
-mul-out : tie.Need-mul-out Inv-loop μ-loop
-mul-out c = search needs
-
-array-write-out : tie.Need-array-write-out Inv-loop μ-loop
-array-write-out c = search needs
-
-add-i : tie.Need-add-i Inv-loop μ-loop
-add-i c = search needs
-
-loop-less : tie.Need-loop-less Inv-loop μ-loop
-loop-less c = search needs
 
 loop-again : tie.Need-loop-again Inv-loop μ-loop
 loop-again c =
@@ -63,19 +39,5 @@ returns c =
     l .inv .2 ∙ ap (λ (i : ℕ). balancesIn i b ++ replicate (56 - i) 0) z
 
 pub judged-balances-spec : {M : Type 1} → statement M
-judged-balances-spec =
-    tie.close
-    (tie.spec
-    Inv-loop
-    μ-loop
-    stated-count-requires
-    loop-holds
-    mul-u64-at
-    add-u64-at
-    u64-at-requires
-    mul-out
-    array-write-out
-    add-i
-    loop-less
-    loop-again
-    returns)
+judged-balances-spec = tie.close (tie.spec Inv-loop μ-loop (λ c κs. search needs) loop-holds (λ c. search needs) (λ c. search needs)
+    (λ c κs. search needs) (λ c. search needs) (λ c. search needs) (λ c. search needs) (λ c. search needs) loop-again returns)

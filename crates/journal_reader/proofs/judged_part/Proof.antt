@@ -8,24 +8,6 @@ use Rattle.block_format.specs.Blocks.{recordPart}
 use Rattle.journal_reader.proofs.judged_part.Statement.{statement}
 use Rattle.journal_reader.proofs.judged_part.Tie as tie
 
-mul-a : tie.Need-mul-a
-mul-a c = search needs
-
-add-a : tie.Need-add-a
-add-a c = search needs
-
-add-e : tie.Need-add-e
-add-e c = search needs
-
-sub-result : tie.Need-sub-result
-sub-result c = search needs
-
-part-result-start : tie.Need-part-result-start
-part-result-start c = search needs
-
-part-result-end : tie.Need-part-result-end
-part-result-end c = search needs
-
 returns : tie.Need-returns
 unfolding recordPart
 returns c =
@@ -34,5 +16,5 @@ returns c =
     ap (λ (n : ℕ). take n (drop a (c .before .args .block .now))) z
 
 pub judged-part-spec : {M : Type 1} → statement M
-judged-part-spec =
-    tie.close (tie.spec mul-a add-a add-e sub-result part-result-start part-result-end returns)
+judged-part-spec = tie.close (tie.spec (λ c. search needs) (λ c. search needs) (λ c. search needs) (λ c. search needs)
+    (λ c. search needs) (λ c. search needs) returns)

@@ -13,18 +13,6 @@ use Rattle.answers.specs.declared.Answer.the-variants.{Passed}
 use Rattle.journal_reader.proofs.opening_balances.Statement.{statement}
 use Rattle.journal_reader.proofs.opening_balances.Tie as tie
 
-block-refusal-requires : tie.Need-block-refusal-requires
-block-refusal-requires c κs = search needs
-
-refusal-if-requires : tie.Need-refusal-if-requires
-refusal-if-requires c κs = search needs
-
-first-refusal-requires : tie.Need-first-refusal-requires
-first-refusal-requires c κs = search needs
-
-new-requires : tie.Need-new-requires
-new-requires c κs = search needs
-
 returns : tie.Need-returns
 unfolding openingOf balancesRefusal
 returns c =
@@ -41,9 +29,6 @@ returns c =
     ∙ ap (λ (m : ℕ). unlessRefused m (balanceTable b) (replicate accountLimit 0)) e in
     let told = c .new .ensures ∙ ap (λ (m : ℕ). answer m (a .k)) e in
     λ i. record { answer = told i; count = count i; balances = table i }
-
-stated-count-requires : tie.Need-stated-count-requires
-stated-count-requires c κs = search needs
 
 judged-balances-requires : tie.Need-judged-balances-requires
 unfolding balancesRefusal
@@ -70,14 +55,5 @@ returns-2 c =
     rw e (λ i. record { answer = Passed; count = c .before .stated-count .ensures i; balances = c .judged-balances .ensures i })
 
 pub opening-balances-spec : {M : Type 1} → statement M
-opening-balances-spec =
-    tie.close
-    (tie.spec
-    block-refusal-requires
-    refusal-if-requires
-    first-refusal-requires
-    new-requires
-    returns
-    stated-count-requires
-    judged-balances-requires
-    returns-2)
+opening-balances-spec = tie.close (tie.spec (λ c κs. search needs) (λ c κs. search needs) (λ c κs. search needs) (λ c κs. search needs)
+    returns (λ c κs. search needs) judged-balances-requires returns-2)

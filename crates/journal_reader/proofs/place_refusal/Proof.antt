@@ -10,18 +10,6 @@ use Rattle.journal_reader.specs.Judged.{placeRefusal}
 use Rattle.journal_reader.proofs.place_refusal.Statement.{statement}
 use Rattle.journal_reader.proofs.place_refusal.Tie as tie
 
-refusal-if-requires : tie.Need-refusal-if-requires
-refusal-if-requires c κs = search needs
-
-stated-count-requires : tie.Need-stated-count-requires
-stated-count-requires c κs = search needs
-
-refusal-if-requires-2 : tie.Need-refusal-if-requires-2
-refusal-if-requires-2 c κs = search needs
-
-first-refusal-requires : tie.Need-first-refusal-requires
-first-refusal-requires c κs = search needs
-
 returns : tie.Need-returns
 unfolding placeRefusal
 returns c =
@@ -34,11 +22,5 @@ returns c =
     c .first-refusal .ensures ∙ ap₂ orElse (c3 .refusal-if .ensures) count ∙ refuse-else (ltb (a .k) 2) 4 _ (omega arith)
 
 pub place-refusal-spec : {M : Type 1} → statement M
-place-refusal-spec =
-    tie.close
-    (tie.spec
-    refusal-if-requires
-    stated-count-requires
-    refusal-if-requires-2
-    first-refusal-requires
+place-refusal-spec = tie.close (tie.spec (λ c κs. search needs) (λ c κs. search needs) (λ c κs. search needs) (λ c κs. search needs)
     returns)

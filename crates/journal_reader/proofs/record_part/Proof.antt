@@ -10,24 +10,6 @@ use Rattle.journal_reader.specs.Judged.{recordRefusal, partOf}
 use Rattle.journal_reader.proofs.record_part.Statement.{statement}
 use Rattle.journal_reader.proofs.record_part.Tie as tie
 
-judge-record-requires : tie.Need-judge-record-requires
-judge-record-requires c κs = search needs
-
-enum-told : tie.Need-enum-told
-enum-told c = search needs
-
-enum-told-2 : tie.Need-enum-told-2
-enum-told-2 c = search needs
-
-sub-result : tie.Need-sub-result
-sub-result c = search needs
-
-part-result-start : tie.Need-part-result-start
-part-result-start c = search needs
-
-part-result-end : tie.Need-part-result-end
-part-result-end c = search needs
-
 returns : tie.Need-returns
 unfolding partOf
 returns c =
@@ -60,15 +42,5 @@ returns-2 c =
     rw (z, c .judged-part .ensures)
 
 pub record-part-spec : {M : Type 1} → statement M
-record-part-spec =
-    tie.close
-    (tie.spec
-    judge-record-requires
-    enum-told
-    enum-told-2
-    sub-result
-    part-result-start
-    part-result-end
-    returns
-    judged-part-requires
-    returns-2)
+record-part-spec = tie.close (tie.spec (λ c κs. search needs) (λ c. search needs) (λ c. search needs) (λ c. search needs)
+    (λ c. search needs) (λ c. search needs) returns judged-part-requires returns-2)

@@ -19,12 +19,6 @@ loop-holds : tie.Need-loop-holds Inv-loop μ-loop
 loop-holds c =
     (search needs, refl, fill-none _ 0)
 
-slice-write-s : tie.Need-slice-write-s Inv-loop μ-loop
-slice-write-s c = search needs
-
-add-i : tie.Need-add-i Inv-loop μ-loop
-add-i c = search needs
-
 loop-less : tie.Need-loop-less Inv-loop μ-loop
 loop-less c =
     simp length-set (omega arith)
@@ -36,9 +30,6 @@ loop-again c =
     let e = ap (λ (o : List ℕ). set o (l .i) 0) (l .inv .2) in
     (simp length-set (omega arith), simp length-set (l .inv .1), e ∙ fill-more (l .i) 0 d (omega arith))
 
-same-length : tie.Need-same-length Inv-loop μ-loop
-same-length c = search needs
-
 returns : tie.Need-returns Inv-loop μ-loop
 returns c =
     let d = c .before .before .args .s .now in
@@ -47,15 +38,5 @@ returns c =
     l .inv .2 ∙ ap₂ (λ (n : ℕ) (o : List ℕ). replicate n 0 ++ o) z (drop-of-length-le d {i = l .i} (omega arith)) ∙ append-nil _
 
 pub clear-spec : {M : Type 1} → statement M
-clear-spec =
-    tie.close
-    (tie.spec
-    Inv-loop
-    μ-loop
-    loop-holds
-    slice-write-s
-    add-i
-    loop-less
-    loop-again
-    same-length
-    returns)
+clear-spec = tie.close (tie.spec Inv-loop μ-loop loop-holds (λ c. search needs) (λ c. search needs) loop-less loop-again
+    (λ c. search needs) returns)

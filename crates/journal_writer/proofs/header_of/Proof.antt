@@ -6,21 +6,6 @@ use Rattle.wire.specs.BigEndian.{bytesOf}
 use Rattle.journal_writer.proofs.header_of.Statement.{statement}
 use Rattle.journal_writer.proofs.header_of.Tie as tie
 
-u32-bytes-requires : tie.Need-u32-bytes-requires
-u32-bytes-requires c κs = search needs
-
-array-read-t8 : tie.Need-array-read-t8
-array-read-t8 c = search needs
-
-array-read-t11 : tie.Need-array-read-t11
-array-read-t11 c = search needs
-
-array-read-t14 : tie.Need-array-read-t14
-array-read-t14 c = search needs
-
-array-read-t17 : tie.Need-array-read-t17
-array-read-t17 c = search needs
-
 returns : tie.Need-returns
 unfolding bytesOf
 returns c =
@@ -29,12 +14,5 @@ returns c =
     getD (n i) 0 0 ∷ getD (n i) 1 0 ∷ getD (n i) 2 0 ∷ getD (n i) 3 0 ∷ c .before .pre i ∷ c .before .args .count ∷ replicate 26 0
 
 pub header-of-spec : {M : Type 1} → statement M
-header-of-spec =
-    tie.close
-    (tie.spec
-    u32-bytes-requires
-    array-read-t8
-    array-read-t11
-    array-read-t14
-    array-read-t17
-    returns)
+header-of-spec = tie.close (tie.spec (λ c κs. search needs) (λ c. search needs) (λ c. search needs) (λ c. search needs)
+    (λ c. search needs) returns)

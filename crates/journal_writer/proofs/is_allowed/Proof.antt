@@ -22,16 +22,10 @@ unfolding allowed
 returns-2 c =
     sym (every-not 1 _ (lt-leb _ _ (c .if2 .taken)))
 
-kind-of-block-requires : tie.Need-kind-of-block-requires
-kind-of-block-requires c κs = search needs
-
 returns-3 : tie.Need-returns-3
 unfolding allowed
 returns-3 c =
     sym (every-not 2 _ (ne-eqb _ _ (λ q. c .if3 .taken (q ∙ sym (c .before .kind-of-block .ensures)))))
-
-item-size-requires : tie.Need-item-size-requires
-item-size-requires c κs = search needs
 
 rem-if4 : tie.Need-rem-if4
 rem-if4 c =
@@ -63,9 +57,6 @@ div-result c =
     let c7 = c .before .before .before .before .before .before .before in
     omega (arith, size-some (c7 .args .k), c .before .before .item-size .ensures)
 
-item-limit-requires : tie.Need-item-limit-requires
-item-limit-requires c κs = search needs
-
 returns-6 : tie.Need-returns-6
 unfolding allowed
 returns-6 c =
@@ -87,18 +78,5 @@ returns-6 c =
     ∙ every-one _)
 
 pub is-allowed-spec : {M : Type 1} → statement M
-is-allowed-spec =
-    tie.close
-    (tie.spec
-    returns
-    returns-2
-    kind-of-block-requires
-    returns-3
-    item-size-requires
-    rem-if4
-    returns-4
-    div-if5
-    returns-5
-    div-result
-    item-limit-requires
-    returns-6)
+is-allowed-spec = tie.close (tie.spec returns returns-2 (λ c κs. search needs) returns-3 (λ c κs. search needs) rem-if4 returns-4
+    div-if5 returns-5 div-result (λ c κs. search needs) returns-6)

@@ -11,33 +11,9 @@ use Rattle.sha256_core.specs.Sha256.{sha256}
 use Rattle.journal_writer.proofs.seal.Statement.{statement}
 use Rattle.journal_writer.proofs.seal.Tie as tie
 
-slice-reshare-prefix-digest : tie.Need-slice-reshare-prefix-digest
-slice-reshare-prefix-digest c = search needs
-
 slice-aggregate-digest : tie.Need-slice-aggregate-digest
 slice-aggregate-digest c =
     omega (arith, length-take 480 (c .before .before .args .out .now))
-
-digest-requires : tie.Need-digest-requires
-digest-requires c κs = search needs
-
-slice-aggregate-copy : tie.Need-slice-aggregate-copy
-slice-aggregate-copy c = search needs
-
-sub-copy : tie.Need-sub-copy
-sub-copy c = search needs
-
-part-copy-start : tie.Need-part-copy-start
-part-copy-start c = search needs
-
-part-copy-end : tie.Need-part-copy-end
-part-copy-end c = search needs
-
-copy-requires : tie.Need-copy-requires
-copy-requires c κs = search needs
-
-same-length : tie.Need-same-length
-same-length c = search needs
 
 returns : tie.Need-returns
 returns c =
@@ -51,16 +27,5 @@ returns c =
     ∙ ap (λ (y : List ℕ). take 480 o ++ y) e
 
 pub seal-spec : {M : Type 1} → statement M
-seal-spec =
-    tie.close
-    (tie.spec
-    slice-reshare-prefix-digest
-    slice-aggregate-digest
-    digest-requires
-    slice-aggregate-copy
-    sub-copy
-    part-copy-start
-    part-copy-end
-    copy-requires
-    same-length
-    returns)
+seal-spec = tie.close (tie.spec (λ c. search needs) slice-aggregate-digest (λ c κs. search needs) (λ c. search needs)
+    (λ c. search needs) (λ c. search needs) (λ c. search needs) (λ c κs. search needs) (λ c. search needs) returns)

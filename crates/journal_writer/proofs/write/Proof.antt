@@ -13,12 +13,6 @@ use Rattle.sha256_core.specs.Sha256.{sha256}
 use Rattle.journal_writer.proofs.write.Statement.{statement}
 use Rattle.journal_writer.proofs.write.Tie as tie
 
-is-allowed-requires : tie.Need-is-allowed-requires
-is-allowed-requires c κs = search needs
-
-item-size-requires : tie.Need-item-size-requires
-item-size-requires c κs = search needs
-
 div-count : tie.Need-div-count
 div-count c =
     let c5 = c .before .before .before .before .before in
@@ -69,9 +63,6 @@ seal-requires c κs =
     allowed-facts (length (a .out .now)) (a .k) (a .kind) (length (a .items .now)) (sym (c8 .is-allowed .ensures) ∙ c7 .if1 .taken) in
     omega (arith, c3 .lay .kept .0, f .long)
 
-same-length : tie.Need-same-length
-same-length c = search needs
-
 returns : tie.Need-returns
 unfolding written journalBlock body
 returns c =
@@ -104,17 +95,5 @@ returns-2 c =
     (ap (λ (n : ℕ). answer n (a .k)) (sym z), ap (λ (n : ℕ). unlessRefused n (journalBlock (a .k) (a .items .now)) o) (sym z))
 
 pub write-spec : {M : Type 1} → statement M
-write-spec =
-    tie.close
-    (tie.spec
-    is-allowed-requires
-    item-size-requires
-    div-count
-    cast-count
-    cast-header-of
-    header-of-requires
-    lay-requires
-    seal-requires
-    same-length
-    returns
-    returns-2)
+write-spec = tie.close (tie.spec (λ c κs. search needs) (λ c κs. search needs) div-count cast-count cast-header-of header-of-requires
+    lay-requires seal-requires (λ c. search needs) returns returns-2)

@@ -24,12 +24,6 @@ room-3 c = room-after 1 101 (c .put-byte .ensures) (omega arith) (room-2 (c .bef
 room-4 : (c : tie.After-put-decimal2) → c .put-decimal2 .result + 81 ≤ length (c .put-decimal2 .last .0)
 room-4 c = room-after 20 81 (c .put-decimal2 .ensures) (decimal-short _) (room-3 (c .before .before .before .before))
 
-slice-aggregate-put-bytes : tie.Need-slice-aggregate-put-bytes
-slice-aggregate-put-bytes c = search needs
-
-put-bytes-requires : tie.Need-put-bytes-requires
-put-bytes-requires c κs = search needs
-
 put-decimal-requires : tie.Need-put-decimal-requires
 put-decimal-requires c κs = omega (arith, room-1 (c .before .before .before))
 
@@ -41,9 +35,6 @@ put-decimal-requires-2 c κs = omega (arith, room-3 (c .before .before .before))
 
 put-byte-requires-2 : tie.Need-put-byte-requires-2
 put-byte-requires-2 c κs = omega (arith, room-4 (c .before .before .before))
-
-same-length : tie.Need-same-length
-same-length c = search needs
 
 returns : tie.Need-returns
 unfolding faultLine
@@ -58,14 +49,5 @@ returns c =
     put-put (put-put refusal block) (p5 .put-byte2 .ensures)
 
 pub put-fault-spec : {M : Type 1} → statement M
-put-fault-spec =
-    tie.close
-    (tie.spec
-    slice-aggregate-put-bytes
-    put-bytes-requires
-    put-decimal-requires
-    put-byte-requires
-    put-decimal-requires-2
-    put-byte-requires-2
-    same-length
-    returns)
+put-fault-spec = tie.close (tie.spec (λ c. search needs) (λ c κs. search needs) put-decimal-requires put-byte-requires
+    put-decimal-requires-2 put-byte-requires-2 (λ c. search needs) returns)

@@ -32,9 +32,6 @@ room-5 c = room-after 1 21 (c .put-byte3 .ensures) (omega arith) (room-4 (c .bef
 room-6 : (c : tie.After-put-decimal3) → c .put-decimal3 .result + 1 ≤ length (c .put-decimal3 .last .0)
 room-6 c = room-after 20 1 (c .put-decimal3 .ensures) (decimal-short _) (room-5 (c .before .before .before .before))
 
-put-byte-requires : tie.Need-put-byte-requires
-put-byte-requires c κs = search needs
-
 put-decimal-requires : tie.Need-put-decimal-requires
 put-decimal-requires c κs = omega (arith, room-1 (c .before .before .before))
 
@@ -53,9 +50,6 @@ put-decimal-requires-3 c κs = omega (arith, room-5 (c .before .before .before))
 put-byte-requires-4 : tie.Need-put-byte-requires-4
 put-byte-requires-4 c κs = omega (arith, room-6 (c .before .before .before))
 
-same-length : tie.Need-same-length
-same-length c = search needs
-
 returns : tie.Need-returns
 unfolding figuresText
 returns c =
@@ -72,15 +66,5 @@ returns c =
     put-put (put-put (put-put home far) flight) (p7 .put-byte4 .ensures)
 
 pub put-figures-spec : {M : Type 1} → statement M
-put-figures-spec =
-    tie.close
-    (tie.spec
-    put-byte-requires
-    put-decimal-requires
-    put-byte-requires-2
-    put-decimal-requires-2
-    put-byte-requires-3
-    put-decimal-requires-3
-    put-byte-requires-4
-    same-length
-    returns)
+put-figures-spec = tie.close (tie.spec (λ c κs. search needs) put-decimal-requires put-byte-requires-2 put-decimal-requires-2
+    put-byte-requires-3 put-decimal-requires-3 put-byte-requires-4 (λ c. search needs) returns)

@@ -24,31 +24,13 @@ room-in c =
     let l = c .before .loop in
     number-room (s .args .bytes .now) (l .i) (omega arith) (l .inv .2) (s .pre .0)
 
-shared-slice-read-high : tie.Need-shared-slice-read-high Inv-loop μ-loop
-shared-slice-read-high c = search needs
-
-high-requires : tie.Need-high-requires Inv-loop μ-loop
-high-requires c κs = search needs
-
 put-byte-requires : tie.Need-put-byte-requires Inv-loop μ-loop
 put-byte-requires c κs = omega (arith, room-in (c .before .before .before))
-
-shared-slice-read-low : tie.Need-shared-slice-read-low Inv-loop μ-loop
-shared-slice-read-low c = search needs
-
-low-requires : tie.Need-low-requires Inv-loop μ-loop
-low-requires c κs = search needs
 
 put-byte-requires-2 : tie.Need-put-byte-requires-2 Inv-loop μ-loop
 put-byte-requires-2 c κs =
     let b = c .before .before .before .before .before in
     omega (arith, b .put-byte .ensures .next, b .put-byte .ensures .size, room-in (b .before .before .before .before))
-
-add-i : tie.Need-add-i Inv-loop μ-loop
-add-i c = search needs
-
-loop-less : tie.Need-loop-less Inv-loop μ-loop
-loop-less c = search needs
 
 loop-again : tie.Need-loop-again Inv-loop μ-loop
 loop-again c =
@@ -64,29 +46,12 @@ loop-again c =
     let p2 = b .put-byte2 .ensures in
     (omega arith, omega arith, number-next bytes (l .i) (l .inv .0) (omega arith) high low (l .inv .2) p1 p2)
 
-same-length : tie.Need-same-length Inv-loop μ-loop
-same-length c = search needs
-
 returns : tie.Need-returns Inv-loop μ-loop
 returns c =
     let l = c .before .loop in
     number-whole (c .before .before .before .before .args .bytes .now) (l .i) (omega arith) (l .inv .2)
 
 pub put-number-spec : {M : Type 1} → statement M
-put-number-spec =
-    tie.close
-    (tie.spec
-    Inv-loop
-    μ-loop
-    loop-holds
-    shared-slice-read-high
-    high-requires
-    put-byte-requires
-    shared-slice-read-low
-    low-requires
-    put-byte-requires-2
-    add-i
-    loop-less
-    loop-again
-    same-length
-    returns)
+put-number-spec = tie.close (tie.spec Inv-loop μ-loop loop-holds (λ c. search needs) (λ c κs. search needs) put-byte-requires
+    (λ c. search needs) (λ c κs. search needs) put-byte-requires-2 (λ c. search needs) (λ c. search needs) loop-again
+    (λ c. search needs) returns)

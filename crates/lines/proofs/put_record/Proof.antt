@@ -32,9 +32,6 @@ room-4 c = room-after 1 90 (c .put-byte2 .ensures) (omega arith) (room-3 (c .bef
 room-5 : (c : tie.After-put-decimal2) → c .put-decimal2 .result + 70 ≤ length (c .put-decimal2 .last .0)
 room-5 c = room-after 20 70 (c .put-decimal2 .ensures) (decimal-short _) (room-4 (c .before .before .before .before))
 
-put-decimal-requires : tie.Need-put-decimal-requires
-put-decimal-requires c κs = search needs
-
 put-byte-requires : tie.Need-put-byte-requires
 put-byte-requires c κs = omega (arith, room-1 (c .before .before .before))
 
@@ -60,9 +57,6 @@ put-bytes-requires c κs =
     let p1 = p2 .before .before .before .before in
     omega (arith, room-5 p5, p1 .before .before .before .before .before .pre .3)
 
-same-length : tie.Need-same-length
-same-length c = search needs
-
 returns : tie.Need-returns
 unfolding recordLine
 returns c =
@@ -77,14 +71,5 @@ returns c =
     put-put (put-put (put-put (p1 .put-decimal .ensures) number) answer) (p6 .put-bytes .ensures)
 
 pub put-record-spec : {M : Type 1} → statement M
-put-record-spec =
-    tie.close
-    (tie.spec
-    put-decimal-requires
-    put-byte-requires
-    put-number-requires
-    put-byte-requires-2
-    put-decimal-requires-2
-    put-bytes-requires
-    same-length
-    returns)
+put-record-spec = tie.close (tie.spec (λ c κs. search needs) put-byte-requires put-number-requires put-byte-requires-2
+    put-decimal-requires-2 put-bytes-requires (λ c. search needs) returns)

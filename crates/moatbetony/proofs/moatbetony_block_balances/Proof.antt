@@ -6,17 +6,10 @@ use Rattle.moatbetony.specs.Told.{told}
 use Rattle.moatbetony.proofs.moatbetony_block_balances.Statement.{statement}
 use Rattle.moatbetony.proofs.moatbetony_block_balances.Tie as tie
 
-opening-balances-requires : tie.Need-opening-balances-requires
-opening-balances-requires c κs = search needs
-
-tell-requires : tie.Need-tell-requires
-tell-requires c κs = search needs
-
 returns : tie.Need-returns
 returns c =
     let e = c .before .before .opening-balances .ensures in
     λ i. record { answer = (c .tell .ensures ∙ ap (λ (x : Balances). told (x .answer)) e) i; count = e i .count; balances = e i .balances }
 
 pub moatbetony-block-balances-spec : {M : Type 1} → statement M
-moatbetony-block-balances-spec =
-    tie.close (tie.spec opening-balances-requires tell-requires returns)
+moatbetony-block-balances-spec = tie.close (tie.spec (λ c κs. search needs) (λ c κs. search needs) returns)

@@ -6,16 +6,10 @@ use Rattle.moatbetony.specs.Told.{told}
 use Rattle.moatbetony.proofs.moatbetony_block_count.Statement.{statement}
 use Rattle.moatbetony.proofs.moatbetony_block_count.Tie as tie
 
-item-count-requires : tie.Need-item-count-requires
-item-count-requires c κs = search needs
-
-tell-requires : tie.Need-tell-requires
-tell-requires c κs = search needs
-
 returns : tie.Need-returns
 returns c =
     let e = c .before .item-count .ensures in
     λ i. record { answer = (c .tell .ensures ∙ ap (λ (x : Counted). told (x .answer)) e) i; count = e i .count }
 
 pub moatbetony-block-count-spec : {M : Type 1} → statement M
-moatbetony-block-count-spec = tie.close (tie.spec item-count-requires tell-requires returns)
+moatbetony-block-count-spec = tie.close (tie.spec (λ c κs. search needs) (λ c κs. search needs) returns)

@@ -5,14 +5,8 @@ use Rattle.moatbetony.specs.Told.{told}
 use Rattle.moatbetony.proofs.moatbetony_block_judge.Statement.{statement}
 use Rattle.moatbetony.proofs.moatbetony_block_judge.Tie as tie
 
-judge-requires : tie.Need-judge-requires
-judge-requires c κs = search needs
-
-tell-requires : tie.Need-tell-requires
-tell-requires c κs = search needs
-
 returns : tie.Need-returns
 returns c = c .tell .ensures ∙ ap told (c .before .judge .ensures)
 
 pub moatbetony-block-judge-spec : {M : Type 1} → statement M
-moatbetony-block-judge-spec = tie.close (tie.spec judge-requires tell-requires returns)
+moatbetony-block-judge-spec = tie.close (tie.spec (λ c κs. search needs) (λ c κs. search needs) returns)

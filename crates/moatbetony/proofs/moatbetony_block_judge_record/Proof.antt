@@ -5,15 +5,8 @@ use Rattle.moatbetony.specs.Told.{told}
 use Rattle.moatbetony.proofs.moatbetony_block_judge_record.Statement.{statement}
 use Rattle.moatbetony.proofs.moatbetony_block_judge_record.Tie as tie
 
-judge-record-requires : tie.Need-judge-record-requires
-judge-record-requires c κs = search needs
-
-tell-requires : tie.Need-tell-requires
-tell-requires c κs = search needs
-
 returns : tie.Need-returns
 returns c = c .tell .ensures ∙ ap told (c .before .judge-record .ensures)
 
 pub moatbetony-block-judge-record-spec : {M : Type 1} → statement M
-moatbetony-block-judge-record-spec =
-    tie.close (tie.spec judge-record-requires tell-requires returns)
+moatbetony-block-judge-record-spec = tie.close (tie.spec (λ c κs. search needs) (λ c κs. search needs) returns)

@@ -10,27 +10,12 @@ use Rattle.moatbetony.proofs.Telling.{part-passed, part-refused}
 use Rattle.moatbetony.proofs.moatbetony_block_record.Statement.{statement}
 use Rattle.moatbetony.proofs.moatbetony_block_record.Tie as tie
 
-judge-record-requires : tie.Need-judge-record-requires
-judge-record-requires c κs = search needs
-
-enum-told : tie.Need-enum-told
-enum-told c = search needs
-
-enum-told-2 : tie.Need-enum-told-2
-enum-told-2 c = search needs
-
-tell-requires : tie.Need-tell-requires
-tell-requires c κs = search needs
-
 returns : tie.Need-returns
 returns c =
     let c3 = c .before .before .before in
     let a = c3 .before .before .args in
     part-refused (a .block .now) (a .number) (a .before) (a .place) (c .tell .ensures) (c3 .judge-record .ensures) (c .before
     .enum-told2 .given .1)
-
-tell-requires-2 : tie.Need-tell-requires-2
-tell-requires-2 c κs = search needs
 
 mul-t9 : tie.Need-mul-t9
 mul-t9 c =
@@ -60,15 +45,5 @@ returns-2 c =
     part-passed b (a .number) (a .before) (a .place) (c .tell2 .ensures) (c3 .judge-record .ensures) z
 
 pub moatbetony-block-record-spec : {M : Type 1} → statement M
-moatbetony-block-record-spec =
-    tie.close
-    (tie.spec
-    judge-record-requires
-    enum-told
-    enum-told-2
-    tell-requires
-    returns
-    tell-requires-2
-    mul-t9
-    add-t10
-    returns-2)
+moatbetony-block-record-spec = tie.close (tie.spec (λ c κs. search needs) (λ c. search needs) (λ c. search needs) (λ c κs. search needs)
+    returns (λ c κs. search needs) mul-t9 add-t10 returns-2)

@@ -5,19 +5,10 @@ use Rattle.moatbetony.specs.Told.{told}
 use Rattle.moatbetony.proofs.moatbetony_block_write.Statement.{statement}
 use Rattle.moatbetony.proofs.moatbetony_block_write.Tie as tie
 
-write-requires : tie.Need-write-requires
-write-requires c κs = search needs
-
-tell-requires : tie.Need-tell-requires
-tell-requires c κs = search needs
-
-same-length : tie.Need-same-length
-same-length c = search needs
-
 returns : tie.Need-returns
 returns c =
     let e = c .before .before .before .write .ensures in
     (c .tell .ensures ∙ ap told (e .0), e .1)
 
 pub moatbetony-block-write-spec : {M : Type 1} → statement M
-moatbetony-block-write-spec = tie.close (tie.spec write-requires tell-requires same-length returns)
+moatbetony-block-write-spec = tie.close (tie.spec (λ c κs. search needs) (λ c κs. search needs) (λ c. search needs) returns)

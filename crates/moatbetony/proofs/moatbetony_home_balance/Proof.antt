@@ -6,16 +6,10 @@ use Rattle.moatbetony.specs.Told.{told}
 use Rattle.moatbetony.proofs.moatbetony_home_balance.Statement.{statement}
 use Rattle.moatbetony.proofs.moatbetony_home_balance.Tie as tie
 
-balance-requires : tie.Need-balance-requires
-balance-requires c κs = search needs
-
-tell-requires : tie.Need-tell-requires
-tell-requires c κs = search needs
-
 returns : tie.Need-returns
 returns c =
     let e = c .before .balance .ensures in
     λ i. record { answer = (c .tell .ensures ∙ ap (λ (x : Balance). told (x .answer)) e) i; balance = e i .balance }
 
 pub moatbetony-home-balance-spec : {M : Type 1} → statement M
-moatbetony-home-balance-spec = tie.close (tie.spec balance-requires tell-requires returns)
+moatbetony-home-balance-spec = tie.close (tie.spec (λ c κs. search needs) (λ c κs. search needs) returns)

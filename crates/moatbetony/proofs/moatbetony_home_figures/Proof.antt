@@ -6,16 +6,10 @@ use Rattle.moatbetony.specs.Told.{told}
 use Rattle.moatbetony.proofs.moatbetony_home_figures.Statement.{statement}
 use Rattle.moatbetony.proofs.moatbetony_home_figures.Tie as tie
 
-figures-requires : tie.Need-figures-requires
-figures-requires c κs = search needs
-
-tell-requires : tie.Need-tell-requires
-tell-requires c κs = search needs
-
 returns : tie.Need-returns
 returns c =
     let e = c .before .figures .ensures in
     λ i. record { answer = (c .tell .ensures ∙ ap (λ (x : HomeFigures). told (x .answer)) e) i; home = e i .home; pool = e i .pool }
 
 pub moatbetony-home-figures-spec : {M : Type 1} → statement M
-moatbetony-home-figures-spec = tie.close (tie.spec figures-requires tell-requires returns)
+moatbetony-home-figures-spec = tie.close (tie.spec (λ c κs. search needs) (λ c κs. search needs) returns)

@@ -6,12 +6,6 @@ use Rattle.pair_figures.specs.declared.PairFigures.{PairFigures}
 use Rattle.moatbetony.proofs.moatbetony_pair_figures.Statement.{statement}
 use Rattle.moatbetony.proofs.moatbetony_pair_figures.Tie as tie
 
-figures-requires : tie.Need-figures-requires
-figures-requires c κs = search needs
-
-tell-requires : tie.Need-tell-requires
-tell-requires c κs = search needs
-
 returns : tie.Need-returns
 returns c =
     let e = c .before .figures .ensures in
@@ -23,4 +17,4 @@ returns c =
     }
 
 pub moatbetony-pair-figures-spec : {M : Type 1} → statement M
-moatbetony-pair-figures-spec = tie.close (tie.spec figures-requires tell-requires returns)
+moatbetony-pair-figures-spec = tie.close (tie.spec (λ c κs. search needs) (λ c κs. search needs) returns)

@@ -5,16 +5,10 @@ use Rattle.moatbetony.specs.Told.{told}
 use Rattle.moatbetony.proofs.moatbetony_pair_open.Statement.{statement}
 use Rattle.moatbetony.proofs.moatbetony_pair_open.Tie as tie
 
-open-requires : tie.Need-open-requires
-open-requires c κs = search needs
-
-tell-requires : tie.Need-tell-requires
-tell-requires c κs = search needs
-
 returns : tie.Need-returns
 returns c =
     let e = c .before .before .«open» .ensures in
     λ i. record { answer = (c .tell .ensures ∙ ap told (e .0)) i; state = e .1 i }
 
 pub moatbetony-pair-open-spec : {M : Type 1} → statement M
-moatbetony-pair-open-spec = tie.close (tie.spec open-requires tell-requires returns)
+moatbetony-pair-open-spec = tie.close (tie.spec (λ c κs. search needs) (λ c κs. search needs) returns)

@@ -6,35 +6,16 @@ use Rattle.moatbetony.proofs.Telling.{record-unread}
 use Rattle.moatbetony.proofs.moatbetony_record_read.Statement.{statement}
 use Rattle.moatbetony.proofs.moatbetony_record_read.Tie as tie
 
-read-requires : tie.Need-read-requires
-read-requires c κs = search needs
-
-enum-known-r : tie.Need-enum-known-r
-enum-known-r c = search needs
-
-enum-told : tie.Need-enum-told
-enum-told c = search needs
-
-new-requires : tie.Need-new-requires
-new-requires c κs = search needs
-
-tell-requires : tie.Need-tell-requires
-tell-requires c κs = search needs
-
 returns : tie.Need-returns
 returns c =
     let c2 = c .before .before in
     record-unread (c .tell .ensures ∙ ap told (c .before .new .ensures))
     (sym (c2 .before .before .read .ensures) ∙ c2 .enum-told .given .1)
 
-tell-record-requires : tie.Need-tell-record-requires
-tell-record-requires c κs = search needs
-
 returns-2 : tie.Need-returns-2
 returns-2 c = c .tell-record .ensures ∙ ap recordTold (sym (sym (c .before .before .before .before .read .ensures) ∙ c .before
     .before .r .given .1))
 
 pub moatbetony-record-read-spec : {M : Type 1} → statement M
-moatbetony-record-read-spec =
-    tie.close
-    (tie.spec read-requires enum-known-r enum-told new-requires tell-requires returns tell-record-requires returns-2)
+moatbetony-record-read-spec = tie.close (tie.spec (λ c κs. search needs) (λ c. search needs) (λ c. search needs) (λ c κs. search needs)
+    (λ c κs. search needs) returns (λ c κs. search needs) returns-2)

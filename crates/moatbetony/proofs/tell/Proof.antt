@@ -5,12 +5,6 @@ use Rattle.moatbetony.specs.Told.{told}
 use Rattle.moatbetony.proofs.tell.Statement.{statement}
 use Rattle.moatbetony.proofs.tell.Tie as tie
 
-enum-told : tie.Need-enum-told
-enum-told c = search needs
-
-enum-known-a : tie.Need-enum-known-a
-enum-known-a c = search needs
-
 returns : tie.Need-returns
 returns c = ap told (sym (c .enum-told .given .1))
 
@@ -18,4 +12,4 @@ returns-2 : tie.Need-returns-2
 returns-2 c = ap told (sym (c .before .a .given .1))
 
 pub tell-spec : {M : Type 1} → statement M
-tell-spec = tie.close (tie.spec enum-told enum-known-a returns returns-2)
+tell-spec = tie.close (tie.spec (λ c. search needs) (λ c. search needs) returns returns-2)

@@ -5,21 +5,6 @@ use Rattle.ledgers.specs.Ledgers.{ledgerByte}
 use Rattle.moatbetony.proofs.tell_record.Statement.{statement}
 use Rattle.moatbetony.proofs.tell_record.Tie as tie
 
-tell-requires : tie.Need-tell-requires
-tell-requires c κs = search needs
-
-byte-requires : tie.Need-byte-requires
-byte-requires c κs = search needs
-
-ledger-requires : tie.Need-ledger-requires
-ledger-requires c κs = search needs
-
-byte-requires-2 : tie.Need-byte-requires-2
-byte-requires-2 c κs = search needs
-
-verdict-byte-requires : tie.Need-verdict-byte-requires
-verdict-byte-requires c κs = search needs
-
 returns : tie.Need-returns
 returns c =
     let r = c .before .before .before .before .before .args .r in
@@ -36,6 +21,5 @@ returns c =
     }
 
 pub tell-record-spec : {M : Type 1} → statement M
-tell-record-spec =
-    tie.close
-    (tie.spec tell-requires byte-requires ledger-requires byte-requires-2 verdict-byte-requires returns)
+tell-record-spec = tie.close (tie.spec (λ c κs. search needs) (λ c κs. search needs) (λ c κs. search needs) (λ c κs. search needs)
+    (λ c κs. search needs) returns)

@@ -16,24 +16,6 @@ use native.Mathlib.Omega.{arith}
 use Rattle.opening_listing.proofs.list_opening.Statement.{statement}
 use Rattle.opening_listing.proofs.list_opening.Tie as tie
 
-put-header-requires : tie.Need-put-header-requires
-put-header-requires c κs = search needs
-
-opening-balances-requires : tie.Need-opening-balances-requires
-opening-balances-requires c κs = search needs
-
-enum-told : tie.Need-enum-told
-enum-told c = search needs
-
-enum-told-2 : tie.Need-enum-told-2
-enum-told-2 c = search needs
-
-number-requires : tie.Need-number-requires
-number-requires c κs = search needs
-
-cast-put-fault : tie.Need-cast-put-fault
-cast-put-fault c = search needs
-
 -- block 0
 abbrev homeOf : tie.After-put-header → List ℕ
 homeOf c = c .before .before .before .before .before .args .home .now
@@ -49,12 +31,6 @@ room-at c = room-after 128 128 (c .put-header .ensures) header-short (c .before 
 put-fault-requires : tie.Need-put-fault-requires
 put-fault-requires c κs = room-at (c .before .before .before .before .before .before .before)
 
-stopped-requires : tie.Need-stopped-requires
-stopped-requires c κs = search needs
-
-same-length : tie.Need-same-length
-same-length c = search needs
-
 returns : tie.Need-returns
 returns c =
     let h = c .before .before .before .before .before .before .before .before .before .before .before in
@@ -65,21 +41,6 @@ returns c =
     fault-leaves (homeOf h) (farOf h) (c .stopped .result) _ 0 (at-home (homeOf h) (farOf h) (n .0) (n .1)) (h .put-header .ensures)
     (c .before .before .before .put-fault .ensures) (e .0) (e .1)
 
-opening-balances-requires-2 : tie.Need-opening-balances-requires-2
-opening-balances-requires-2 c κs = search needs
-
-enum-told-3 : tie.Need-enum-told-3
-enum-told-3 c = search needs
-
-enum-told-4 : tie.Need-enum-told-4
-enum-told-4 c = search needs
-
-number-requires-2 : tie.Need-number-requires-2
-number-requires-2 c κs = search needs
-
-cast-put-fault-2 : tie.Need-cast-put-fault-2
-cast-put-fault-2 c = search needs
-
 -- block 0 was passed
 home-at : (c : tie.After-enum-told) → Handed (homeOf (c .before .before .before .before .before)) 0 0 (c .before .before
     .opening-balances .result)
@@ -88,12 +49,6 @@ home-at c = handed (homeOf (c .before .before .before .before .before)) 0 0 (ome
 
 put-fault-requires-2 : tie.Need-put-fault-requires-2
 put-fault-requires-2 c κs = room-at (c .before .before .before .before .before .before .before .before .before .before)
-
-stopped-requires-2 : tie.Need-stopped-requires-2
-stopped-requires-2 c κs = search needs
-
-same-length-2 : tie.Need-same-length-2
-same-length-2 c = search needs
 
 returns-2 : tie.Need-returns-2
 returns-2 c =
@@ -141,9 +96,6 @@ first-row-requires : tie.Need-first-row-requires
 first-row-requires c κs = c .before .before .before .before .before .before .before .before .before .before .before .before .before
     .before .before .before .before .before .pre .1
 
-cast-put-fault-3 : tie.Need-cast-put-fault-3
-cast-put-fault-3 c = search needs
-
 -- the refusal is that of the balances in both blocks
 refusal-at : (c : tie.After-first-row)
     → c .first-row .result .refusal ≡ pairOpeningRefusal (balancesOf (homeOf (headed (c .before .before .before .before .before
@@ -154,9 +106,6 @@ refusal-at c = c .first-row .ensures .0 ∙ ap₂ pairOpeningRefusal (first-at (
 put-fault-requires-3 : tie.Need-put-fault-requires-3
 put-fault-requires-3 c κs = room-at (c .before .before .before .before .before .before .before .before .before .before .before .before
     .before .before .before .before .before .before)
-
-stopped-requires-3 : tie.Need-stopped-requires-3
-stopped-requires-3 c κs = search needs
 
 same-length-3 : tie.Need-same-length-3
 same-length-3 c =
@@ -200,38 +149,9 @@ returns-4 c =
     (w .1 ∙ ap₂ pairOpenedWords a b)
 
 pub list-opening-spec : {M : Type 1} → statement M
-list-opening-spec =
-    tie.close
-    (tie.spec
-    put-header-requires
-    opening-balances-requires
-    enum-told
-    enum-told-2
-    number-requires
-    cast-put-fault
-    put-fault-requires
-    stopped-requires
-    same-length
-    returns
-    opening-balances-requires-2
-    enum-told-3
-    enum-told-4
-    number-requires-2
-    cast-put-fault-2
-    put-fault-requires-2
-    stopped-requires-2
-    same-length-2
-    returns-2
-    array-share-prefix-homes
-    slice-aggregate-first-row
-    array-share-prefix-fars
-    slice-aggregate-first-row-2
-    first-row-requires
-    cast-put-fault-3
-    put-fault-requires-3
-    stopped-requires-3
-    same-length-3
-    returns-3
-    put-open-requires
-    same-length-4
-    returns-4)
+list-opening-spec = tie.close (tie.spec (λ c κs. search needs) (λ c κs. search needs) (λ c. search needs) (λ c. search needs)
+    (λ c κs. search needs) (λ c. search needs) put-fault-requires (λ c κs. search needs) (λ c. search needs) returns
+    (λ c κs. search needs) (λ c. search needs) (λ c. search needs) (λ c κs. search needs) (λ c. search needs) put-fault-requires-2
+    (λ c κs. search needs) (λ c. search needs) returns-2 array-share-prefix-homes slice-aggregate-first-row array-share-prefix-fars
+    slice-aggregate-first-row-2 first-row-requires (λ c. search needs) put-fault-requires-3 (λ c κs. search needs) same-length-3
+    returns-3 put-open-requires same-length-4 returns-4)

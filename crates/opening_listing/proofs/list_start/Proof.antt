@@ -9,9 +9,6 @@ use native.Mathlib.Omega.{arith}
 use Rattle.opening_listing.proofs.list_start.Statement.{statement}
 use Rattle.opening_listing.proofs.list_start.Tie as tie
 
-part-end-requires : tie.Need-part-end-requires
-part-end-requires c κs = search needs
-
 -- block 0 ends within the bytes
 middle-at : (c : tie.After-part-end) → c .part-end .result ≤ length (c .before .before .before .args .bytes .now)
 middle-at c = rw (c .part-end .ensures) (part-within 512 0 (length (c .before .before .before .args .bytes .now)) (omega arith) .1)
@@ -37,12 +34,6 @@ part-list-opening-start c = omega (arith, end-at (c .before) .0)
 part-list-opening-end : tie.Need-part-list-opening-end
 part-list-opening-end c = omega (arith, end-at (c .before) .1)
 
-list-opening-requires : tie.Need-list-opening-requires
-list-opening-requires c κs = search needs
-
-same-length : tie.Need-same-length
-same-length c = search needs
-
 returns : tie.Need-returns
 returns c =
     let m = c .before .before .before .before .before .before .before .before in
@@ -54,15 +45,5 @@ returns c =
     rw (p, q) at (c .before .before .list-opening .ensures)
 
 pub list-start-spec : {M : Type 1} → statement M
-list-start-spec =
-    tie.close
-    (tie.spec
-    part-end-requires
-    part-end-requires-2
-    slice-aggregate-list-opening
-    sub-list-opening
-    part-list-opening-start
-    part-list-opening-end
-    list-opening-requires
-    same-length
-    returns)
+list-start-spec = tie.close (tie.spec (λ c κs. search needs) part-end-requires-2 slice-aggregate-list-opening sub-list-opening
+    part-list-opening-start part-list-opening-end (λ c κs. search needs) (λ c. search needs) returns)

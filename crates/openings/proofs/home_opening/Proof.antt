@@ -14,9 +14,6 @@ use Rattle.exact_sums.proofs.Sums.{added-after, added-value, wide-fits, wide-pa
 use Rattle.openings.proofs.home_opening.Statement.{statement}
 use Rattle.openings.proofs.home_opening.Tie as tie
 
-is-count-allowed-requires : tie.Need-is-count-allowed-requires
-is-count-allowed-requires c κs = search needs
-
 returns : tie.Need-returns
 returns c =
     let n = sym (c .before .is-count-allowed .ensures) ∙ not-true _ (c .if1 .taken) in
@@ -25,9 +22,6 @@ returns c =
 -- home has a number of accounts that is allowed
 home-allowed : (c : tie.Else1) → countAllowed (length (c .before .before .before .args .balances .now)) ≡ true
 home-allowed c = sym (c .before .is-count-allowed .ensures) ∙ not-false _ (c .if1 .left)
-
-is-count-allowed-requires-2 : tie.Need-is-count-allowed-requires-2
-is-count-allowed-requires-2 c κs = search needs
 
 returns-2 : tie.Need-returns-2
 returns-2 c =
@@ -74,14 +68,5 @@ returns-4 c =
     )
 
 pub home-opening-spec : {M : Type 1} → statement M
-home-opening-spec =
-    tie.close
-    (tie.spec
-    is-count-allowed-requires
-    returns
-    is-count-allowed-requires-2
-    returns-2
-    add-balances-requires
-    add-requires
-    returns-3
-    returns-4)
+home-opening-spec = tie.close (tie.spec (λ c κs. search needs) returns (λ c κs. search needs) returns-2 add-balances-requires
+    add-requires returns-3 returns-4)

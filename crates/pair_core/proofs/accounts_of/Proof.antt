@@ -8,15 +8,6 @@ use native.Mathlib.Omega.{arith}
 use Rattle.pair_core.proofs.accounts_of.Statement.{statement}
 use Rattle.pair_core.proofs.accounts_of.Tie as tie
 
-ledger-index-requires : tie.Need-ledger-index-requires
-ledger-index-requires c κs = search needs
-
-add-result : tie.Need-add-result
-add-result c = search needs
-
-mul-result : tie.Need-mul-result
-mul-result c = search needs
-
 shared-slice-read-result : tie.Need-shared-slice-read-result
 shared-slice-read-result c =
     let o = c .before .before .before in
@@ -30,6 +21,4 @@ returns c =
     ap (accountsOn s) (c .before .ledger-index .ensures .0) ∙ sym (accounts-on s (h .long) (h .bounds) (o .args .l))
 
 pub accounts-of-spec : {M : Type 1} → statement M
-accounts-of-spec =
-    tie.close
-    (tie.spec ledger-index-requires add-result mul-result shared-slice-read-result returns)
+accounts-of-spec = tie.close (tie.spec (λ c κs. search needs) (λ c. search needs) (λ c. search needs) shared-slice-read-result returns)

@@ -8,9 +8,6 @@ use native.Mathlib.Omega.{arith}
 use Rattle.pair_core.proofs.adds_up.Statement.{statement}
 use Rattle.pair_core.proofs.adds_up.Tie as tie
 
-shared-slice-read-add-balances : tie.Need-shared-slice-read-add-balances
-shared-slice-read-add-balances c = search needs
-
 -- the bounds
 bounds-at : (c : tie.Start) → Bounds (c .args .s .now)
 bounds-at c = bounds-of (c .args .s .now) (c .pre .1)
@@ -21,18 +18,6 @@ add-balances-requires c κs =
     let f = accounts-fit (o .args .s .now) (bounds-at o) 0 (omega arith) .1 in
     (omega (arith, o .pre .0, f), omega arith, omega (arith, f))
 
-add-add-balances : tie.Need-add-add-balances
-add-add-balances c = search needs
-
-add-add-balances-2 : tie.Need-add-add-balances-2
-add-add-balances-2 c = search needs
-
-mul-add-balances : tie.Need-mul-add-balances
-mul-add-balances c = search needs
-
-shared-slice-read-add-balances-2 : tie.Need-shared-slice-read-add-balances-2
-shared-slice-read-add-balances-2 c = search needs
-
 add-balances-requires-2 : tie.Need-add-balances-requires-2
 add-balances-requires-2 c κs =
     let o = c .before .before .before .before in
@@ -40,15 +25,6 @@ add-balances-requires-2 c κs =
     let g = accounts-fit (o .args .s .now) (bounds-at o) 1 (omega arith) .1 in
     let a = c .before .add-balances .ensures in
     (omega (arith, o .pre .0, g), a .low-fits, omega (arith, a .high-most, f, g))
-
-shared-slice-read-add-crossings : tie.Need-shared-slice-read-add-crossings
-shared-slice-read-add-crossings c = search needs
-
-shared-slice-read-add : tie.Need-shared-slice-read-add
-shared-slice-read-add c = search needs
-
-add-requires : tie.Need-add-requires
-add-requires c κs = search needs
 
 add-crossings-requires : tie.Need-add-crossings-requires
 add-crossings-requires c κs =
@@ -65,15 +41,6 @@ add-crossings-requires c κs =
       supply .low-fits,
       omega (arith, supply .high-most, n),
     )
-
-add-add-crossings : tie.Need-add-add-crossings
-add-add-crossings c = search needs
-
-mul-add-crossings : tie.Need-mul-add-crossings
-mul-add-crossings c = search needs
-
-shared-slice-read-add-crossings-2 : tie.Need-shared-slice-read-add-crossings-2
-shared-slice-read-add-crossings-2 c = search needs
 
 add-crossings-requires-2 : tie.Need-add-crossings-requires-2
 add-crossings-requires-2 c κs =
@@ -116,23 +83,6 @@ returns-2 c =
     low-compared _ _ _ _ (sent .low-fits) (received .low-fits) (added-value sent) (added-value received) (c .before .before .if1 .left)
 
 pub adds-up-spec : {M : Type 1} → statement M
-adds-up-spec =
-    tie.close
-    (tie.spec
-    shared-slice-read-add-balances
-    add-balances-requires
-    add-add-balances
-    add-add-balances-2
-    mul-add-balances
-    shared-slice-read-add-balances-2
-    add-balances-requires-2
-    shared-slice-read-add-crossings
-    shared-slice-read-add
-    add-requires
-    add-crossings-requires
-    add-add-crossings
-    mul-add-crossings
-    shared-slice-read-add-crossings-2
-    add-crossings-requires-2
-    returns
-    returns-2)
+adds-up-spec = tie.close (tie.spec (λ c. search needs) add-balances-requires (λ c. search needs) (λ c. search needs) (λ c. search needs)
+    (λ c. search needs) add-balances-requires-2 (λ c. search needs) (λ c. search needs) (λ c κs. search needs) add-crossings-requires
+    (λ c. search needs) (λ c. search needs) (λ c. search needs) add-crossings-requires-2 returns returns-2)

@@ -24,9 +24,6 @@ unfolding testsOf
 returns c = tests-refused (c .before .before .before .args .s .now) (small-at (c .before .before)) (every-not 0 _ (ne-eqb _ _ (c .if1
     .taken))) refl
 
-is-bounded-requires : tie.Need-is-bounded-requires
-is-bounded-requires c κs = search needs
-
 returns-2 : tie.Need-returns-2
 unfolding testsOf
 returns-2 c =
@@ -68,9 +65,6 @@ is-held-requires c κs =
       p .1 0 (omega arith),
     )
 
-same-length : tie.Need-same-length
-same-length c = search needs
-
 returns-5 : tie.Need-returns-5
 unfolding testsOf
 returns-5 c =
@@ -90,9 +84,6 @@ is-held-requires-2 c κs =
       omega arith,
       second-empty (o .args .s .now) k (o .pre .1 1 (omega arith)),
     )
-
-same-length-2 : tie.Need-same-length-2
-same-length-2 c = search needs
 
 returns-6 : tie.Need-returns-6
 unfolding testsOf
@@ -139,9 +130,6 @@ is-ledger-backed-requires c κs =
       indexed-at d,
     )
 
-same-length-3 : tie.Need-same-length-3
-same-length-3 c = search needs
-
 returns-7 : tie.Need-returns-7
 unfolding testsOf
 returns-7 c =
@@ -163,9 +151,6 @@ is-ledger-backed-requires-2 c κs =
       indexed-at d,
     )
 
-same-length-4 : tie.Need-same-length-4
-same-length-4 c = search needs
-
 returns-8 : tie.Need-returns-8
 unfolding testsOf
 returns-8 c =
@@ -183,9 +168,6 @@ adds-up-requires c κs = (
   bounded-at (c .before .before .before .before
       .before .before .before .before .before .before .before .before .before .before .before .before .before .before .before .before),
 )
-
-same-length-5 : tie.Need-same-length-5
-same-length-5 c = search needs
 
 returns-9 : tie.Need-returns-9
 unfolding testsOf
@@ -217,28 +199,7 @@ returns-9 c =
     (e, (λ q. record { accepted = sym e ∙ q; index-long = long-at d ∙ o .pre .0; indexed = indexed-at d }, long-at d))
 
 pub is-accepted-spec : {M : Type 1} → statement M
-is-accepted-spec =
-    tie.close
-    (tie.spec
-    returns
-    is-bounded-requires
-    returns-2
-    is-zero-beyond-requires
-    returns-3
-    is-zero-beyond-requires-2
-    returns-4
-    is-held-requires
-    same-length
-    returns-5
-    is-held-requires-2
-    same-length-2
-    returns-6
-    is-ledger-backed-requires
-    same-length-3
-    returns-7
-    is-ledger-backed-requires-2
-    same-length-4
-    returns-8
-    adds-up-requires
-    same-length-5
-    returns-9)
+is-accepted-spec = tie.close (tie.spec returns (λ c κs. search needs) returns-2 is-zero-beyond-requires returns-3
+    is-zero-beyond-requires-2 returns-4 is-held-requires (λ c. search needs) returns-5 is-held-requires-2 (λ c. search needs) returns-6
+    is-ledger-backed-requires (λ c. search needs) returns-7 is-ledger-backed-requires-2 (λ c. search needs) returns-8 adds-up-requires
+    (λ c. search needs) returns-9)

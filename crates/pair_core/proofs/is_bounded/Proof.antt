@@ -8,54 +8,21 @@ use mathlib.Core.Path.{_∙_, sym}
 use Rattle.pair_core.proofs.is_bounded.Statement.{statement}
 use Rattle.pair_core.proofs.is_bounded.Tie as tie
 
-shared-slice-read-is-count-allowed : tie.Need-shared-slice-read-is-count-allowed
-shared-slice-read-is-count-allowed c = search needs
-
-is-count-allowed-requires : tie.Need-is-count-allowed-requires
-is-count-allowed-requires c κs = search needs
-
 returns : tie.Need-returns
 unfolding pairBounds
 returns c = sym (every-not 0 _ (sym (c .before .is-count-allowed .ensures) ∙ not-true _ (c .if1 .taken)))
-
-add-is-count-allowed : tie.Need-add-is-count-allowed
-add-is-count-allowed c = search needs
-
-mul-is-count-allowed : tie.Need-mul-is-count-allowed
-mul-is-count-allowed c = search needs
-
-shared-slice-read-is-count-allowed-2 : tie.Need-shared-slice-read-is-count-allowed-2
-shared-slice-read-is-count-allowed-2 c = search needs
-
-is-count-allowed-requires-2 : tie.Need-is-count-allowed-requires-2
-is-count-allowed-requires-2 c κs = search needs
 
 returns-2 : tie.Need-returns-2
 unfolding pairBounds
 returns-2 c = sym (every-not 1 _ (sym (c .before .is-count-allowed2 .ensures) ∙ not-true _ (c .if2 .taken)))
 
-shared-slice-read-if3 : tie.Need-shared-slice-read-if3
-shared-slice-read-if3 c = search needs
-
 returns-3 : tie.Need-returns-3
 unfolding pairBounds
 returns-3 c = sym (every-not 2 _ (lt-leb _ _ (c .if3 .taken)))
 
-add-if4 : tie.Need-add-if4
-add-if4 c = search needs
-
-mul-if4 : tie.Need-mul-if4
-mul-if4 c = search needs
-
-shared-slice-read-if4 : tie.Need-shared-slice-read-if4
-shared-slice-read-if4 c = search needs
-
 returns-4 : tie.Need-returns-4
 unfolding pairBounds
 returns-4 c = sym (every-not 3 _ (lt-leb _ _ (c .if4 .taken)))
-
-shared-slice-read-result : tie.Need-shared-slice-read-result
-shared-slice-read-result c = search needs
 
 returns-5 : tie.Need-returns-5
 unfolding pairBounds supplyAllowed
@@ -70,22 +37,6 @@ returns-5 c =
     ∙ every-one _)
 
 pub is-bounded-spec : {M : Type 1} → statement M
-is-bounded-spec =
-    tie.close
-    (tie.spec
-    shared-slice-read-is-count-allowed
-    is-count-allowed-requires
-    returns
-    add-is-count-allowed
-    mul-is-count-allowed
-    shared-slice-read-is-count-allowed-2
-    is-count-allowed-requires-2
-    returns-2
-    shared-slice-read-if3
-    returns-3
-    add-if4
-    mul-if4
-    shared-slice-read-if4
-    returns-4
-    shared-slice-read-result
-    returns-5)
+is-bounded-spec = tie.close (tie.spec (λ c. search needs) (λ c κs. search needs) returns (λ c. search needs) (λ c. search needs)
+    (λ c. search needs) (λ c κs. search needs) returns-2 (λ c. search needs) returns-3 (λ c. search needs) (λ c. search needs)
+    (λ c. search needs) returns-4 (λ c. search needs) returns-5)

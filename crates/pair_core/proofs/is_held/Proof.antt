@@ -8,42 +8,6 @@ use native.Mathlib.Omega.{arith}
 use Rattle.pair_core.proofs.is_held.Statement.{statement}
 use Rattle.pair_core.proofs.is_held.Tie as tie
 
-mul-hold-indexed : tie.Need-mul-hold-indexed
-mul-hold-indexed c = search needs
-
-mul-hold-indexed-2 : tie.Need-mul-hold-indexed-2
-mul-hold-indexed-2 c = search needs
-
-add-hold-indexed : tie.Need-add-hold-indexed
-add-hold-indexed c = search needs
-
-mul-hold-indexed-3 : tie.Need-mul-hold-indexed-3
-mul-hold-indexed-3 c = search needs
-
-shared-slice-read-hold-indexed : tie.Need-shared-slice-read-hold-indexed
-shared-slice-read-hold-indexed c = search needs
-
-add-hold-indexed-2 : tie.Need-add-hold-indexed-2
-add-hold-indexed-2 c = search needs
-
-mul-hold-indexed-4 : tie.Need-mul-hold-indexed-4
-mul-hold-indexed-4 c = search needs
-
-shared-slice-read-hold-indexed-2 : tie.Need-shared-slice-read-hold-indexed-2
-shared-slice-read-hold-indexed-2 c = search needs
-
-sub-hold-indexed : tie.Need-sub-hold-indexed
-sub-hold-indexed c = search needs
-
-add-hold-indexed-3 : tie.Need-add-hold-indexed-3
-add-hold-indexed-3 c = search needs
-
-mul-hold-indexed-5 : tie.Need-mul-hold-indexed-5
-mul-hold-indexed-5 c = search needs
-
-shared-slice-read-hold-indexed-3 : tie.Need-shared-slice-read-hold-indexed-3
-shared-slice-read-hold-indexed-3 c = search needs
-
 hold-indexed-requires : tie.Need-hold-indexed-requires
 hold-indexed-requires c κs =
     let o = c .before .before .before .before .before .before in
@@ -60,9 +24,6 @@ hold-indexed-requires c κs =
       accounts-fit s b (1 - l) (omega (arith, p .3)) .1,
     )
 
-same-length : tie.Need-same-length
-same-length c = search needs
-
 returns : tie.Need-returns
 returns c =
     let h = c .before .before .hold-indexed .ensures in
@@ -71,21 +32,6 @@ returns c =
     (h .0, (h .1 .0, kept-longer (indexOn (o .args .l) + indexLength) (omega (arith, m)) (h .1 .1)))
 
 pub is-held-spec : {M : Type 1} → statement M
-is-held-spec =
-    tie.close
-    (tie.spec
-    mul-hold-indexed
-    mul-hold-indexed-2
-    add-hold-indexed
-    mul-hold-indexed-3
-    shared-slice-read-hold-indexed
-    add-hold-indexed-2
-    mul-hold-indexed-4
-    shared-slice-read-hold-indexed-2
-    sub-hold-indexed
-    add-hold-indexed-3
-    mul-hold-indexed-5
-    shared-slice-read-hold-indexed-3
-    hold-indexed-requires
-    same-length
-    returns)
+is-held-spec = tie.close (tie.spec (λ c. search needs) (λ c. search needs) (λ c. search needs) (λ c. search needs) (λ c. search needs)
+    (λ c. search needs) (λ c. search needs) (λ c. search needs) (λ c. search needs) (λ c. search needs) (λ c. search needs)
+    (λ c. search needs) hold-indexed-requires (λ c. search needs) returns)

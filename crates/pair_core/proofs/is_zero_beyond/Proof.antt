@@ -8,21 +8,6 @@ use native.Mathlib.Omega.{arith}
 use Rattle.pair_core.proofs.is_zero_beyond.Statement.{statement}
 use Rattle.pair_core.proofs.is_zero_beyond.Tie as tie
 
-add-accounts : tie.Need-add-accounts
-add-accounts c = search needs
-
-mul-accounts : tie.Need-mul-accounts
-mul-accounts c = search needs
-
-shared-slice-read-accounts : tie.Need-shared-slice-read-accounts
-shared-slice-read-accounts c = search needs
-
-mul-zeros : tie.Need-mul-zeros
-mul-zeros c = search needs
-
-add-zeros : tie.Need-add-zeros
-add-zeros c = search needs
-
 -- the ledger has at most as many accounts as it can have
 fits-at : (c : tie.Start) → accountsOn (c .args .s .now) (c .args .l) ≤ accountLimit
 fits-at c = accounts-fit (c .args .s .now) (bounds-of (c .args .s .now) (c .pre .1)) (c .args .l) (c .pre .2) .1
@@ -41,15 +26,5 @@ unfolding zeroBeyond
 returns c = c .zeros .ensures
 
 pub is-zero-beyond-spec : {M : Type 1} → statement M
-is-zero-beyond-spec =
-    tie.close
-    (tie.spec
-    add-accounts
-    mul-accounts
-    shared-slice-read-accounts
-    mul-zeros
-    add-zeros
-    add-zeros-2
-    sub-zeros
-    zeros-requires
-    returns)
+is-zero-beyond-spec = tie.close (tie.spec (λ c. search needs) (λ c. search needs) (λ c. search needs) (λ c. search needs)
+    (λ c. search needs) add-zeros-2 sub-zeros zeros-requires returns)

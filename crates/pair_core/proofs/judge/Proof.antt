@@ -11,18 +11,6 @@ use native.Mathlib.Omega.{arith}
 use Rattle.pair_core.proofs.judge.Statement.{statement}
 use Rattle.pair_core.proofs.judge.Tie as tie
 
-ledger-requires : tie.Need-ledger-requires
-ledger-requires c κs = search needs
-
-ledger-index-requires : tie.Need-ledger-index-requires
-ledger-index-requires c κs = search needs
-
-add-count : tie.Need-add-count
-add-count c = search needs
-
-mul-count : tie.Need-mul-count
-mul-count c = search needs
-
 -- the state is accepted
 sound-at : (c : tie.Start) → PairSound (c .args .s .now)
 sound-at c = sound-of (c .args .s .now) (c .pre .0 .accepted)
@@ -35,30 +23,6 @@ shared-slice-read-count c = omega (
       .1,
 )
 
-sender-ledger-requires : tie.Need-sender-ledger-requires
-sender-ledger-requires c κs = search needs
-
-accounts-of-requires : tie.Need-accounts-of-requires
-accounts-of-requires c κs = search needs
-
-receiver-ledger-requires : tie.Need-receiver-ledger-requires
-receiver-ledger-requires c κs = search needs
-
-accounts-of-requires-2 : tie.Need-accounts-of-requires-2
-accounts-of-requires-2 c κs = search needs
-
-last-refusal-requires : tie.Need-last-refusal-requires
-last-refusal-requires c κs = search needs
-
-refusal-if-requires : tie.Need-refusal-if-requires
-refusal-if-requires c κs = search needs
-
-mul-is-used : tie.Need-mul-is-used
-mul-is-used c = search needs
-
-mul-is-used-2 : tie.Need-mul-is-used-2
-mul-is-used-2 c = search needs
-
 is-used-requires : tie.Need-is-used-requires
 is-used-requires c κs =
     let o = c .before .before .before .before .before .before .before .before .before .before .before in
@@ -70,12 +34,6 @@ is-used-requires c κs =
       omega (arith, index-within s (h .long) (h .bounds) l p, o .pre .0 .index-long),
       o .pre .0 .indexed l p,
     )
-
-first-refusal-requires : tie.Need-first-refusal-requires
-first-refusal-requires c κs = search needs
-
-first-refusals-requires : tie.Need-first-refusals-requires
-first-refusals-requires c κs = search needs
 
 returns : tie.Need-returns
 returns c =
@@ -95,23 +53,7 @@ returns c =
     (c .first-refusals .ensures)
 
 pub judge-spec : {M : Type 1} → statement M
-judge-spec =
-    tie.close
-    (tie.spec
-    ledger-requires
-    ledger-index-requires
-    add-count
-    mul-count
-    shared-slice-read-count
-    sender-ledger-requires
-    accounts-of-requires
-    receiver-ledger-requires
-    accounts-of-requires-2
-    last-refusal-requires
-    refusal-if-requires
-    mul-is-used
-    mul-is-used-2
-    is-used-requires
-    first-refusal-requires
-    first-refusals-requires
-    returns)
+judge-spec = tie.close (tie.spec (λ c κs. search needs) (λ c κs. search needs) (λ c. search needs) (λ c. search needs)
+    shared-slice-read-count (λ c κs. search needs) (λ c κs. search needs) (λ c κs. search needs) (λ c κs. search needs)
+    (λ c κs. search needs) (λ c κs. search needs) (λ c. search needs) (λ c. search needs) is-used-requires (λ c κs. search needs)
+    (λ c κs. search needs) returns)

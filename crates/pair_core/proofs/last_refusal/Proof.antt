@@ -15,24 +15,6 @@ use native.Mathlib.Omega.{arith}
 use Rattle.pair_core.proofs.last_refusal.Statement.{statement}
 use Rattle.pair_core.proofs.last_refusal.Tie as tie
 
-ledger-requires : tie.Need-ledger-requires
-ledger-requires c κs = search needs
-
-ledger-index-requires : tie.Need-ledger-index-requires
-ledger-index-requires c κs = search needs
-
-is-receiving-requires : tie.Need-is-receiving-requires
-is-receiving-requires c κs = search needs
-
-sub-o : tie.Need-sub-o
-sub-o c = search needs
-
-add-count : tie.Need-add-count
-add-count c = search needs
-
-mul-count : tie.Need-mul-count
-mul-count c = search needs
-
 -- the state is accepted
 sound-at : (c : tie.Start) → PairSound (c .args .s .now)
 sound-at c = sound-of (c .args .s .now) (c .pre .0 .accepted)
@@ -44,12 +26,6 @@ ledger-at c = c .ledger-index .ensures .0 ∙ ap ledgerByte (c .before .ledger .
 
 shared-slice-read-count : tie.Need-shared-slice-read-count
 shared-slice-read-count c = omega (arith, sound-at (c .before .before .before .before .before .before .before) .long)
-
-mul-is-backed : tie.Need-mul-is-backed
-mul-is-backed c = search needs
-
-mul-is-backed-2 : tie.Need-mul-is-backed-2
-mul-is-backed-2 c = search needs
 
 is-backed-requires : tie.Need-is-backed-requires
 is-backed-requires c κs =
@@ -63,9 +39,6 @@ is-backed-requires c κs =
       o .pre .0 .indexed m p,
       omega arith,
     )
-
-refusal-if-requires : tie.Need-refusal-if-requires
-refusal-if-requires c κs = search needs
 
 returns : tie.Need-returns
 returns c =
@@ -81,18 +54,6 @@ returns c =
     (sym (c .before .before .before .before .is-receiving .ensures) ∙ c .before .before .before .if1 .taken) (1 - c .before .before
     .before .before .before .ledger-index .result)
     (ap (λ (l : ℕ). 1 - l) (ledger-at (c .before .before .before .before .before)))
-
-mul-funds-refusal : tie.Need-mul-funds-refusal
-mul-funds-refusal c = search needs
-
-add-funds-refusal : tie.Need-add-funds-refusal
-add-funds-refusal c = search needs
-
-add-funds-refusal-2 : tie.Need-add-funds-refusal-2
-add-funds-refusal-2 c = search needs
-
-mul-funds-refusal-2 : tie.Need-mul-funds-refusal-2
-mul-funds-refusal-2 c = search needs
 
 shared-slice-read-funds-refusal : tie.Need-shared-slice-read-funds-refusal
 shared-slice-read-funds-refusal c = omega (
@@ -123,25 +84,7 @@ returns-2 c =
     ∙ last-paid s (a .r) (a .r .kind) (sym (c .before .before .before .is-receiving .ensures) ∙ c .before .before .if1 .left)
 
 pub last-refusal-spec : {M : Type 1} → statement M
-last-refusal-spec =
-    tie.close
-    (tie.spec
-    ledger-requires
-    ledger-index-requires
-    is-receiving-requires
-    sub-o
-    add-count
-    mul-count
-    shared-slice-read-count
-    mul-is-backed
-    mul-is-backed-2
-    is-backed-requires
-    refusal-if-requires
-    returns
-    mul-funds-refusal
-    add-funds-refusal
-    add-funds-refusal-2
-    mul-funds-refusal-2
-    shared-slice-read-funds-refusal
-    funds-refusal-requires
-    returns-2)
+last-refusal-spec = tie.close (tie.spec (λ c κs. search needs) (λ c κs. search needs) (λ c κs. search needs) (λ c. search needs)
+    (λ c. search needs) (λ c. search needs) shared-slice-read-count (λ c. search needs) (λ c. search needs) is-backed-requires
+    (λ c κs. search needs) returns (λ c. search needs) (λ c. search needs) (λ c. search needs) (λ c. search needs)
+    shared-slice-read-funds-refusal funds-refusal-requires returns-2)

@@ -13,30 +13,6 @@ use native.Mathlib.Omega.{arith}
 use Rattle.pair_core.proofs.pass.Statement.{statement}
 use Rattle.pair_core.proofs.pass.Tie as tie
 
-ledger-requires : tie.Need-ledger-requires
-ledger-requires c κs = search needs
-
-ledger-index-requires : tie.Need-ledger-index-requires
-ledger-index-requires c κs = search needs
-
-add-count : tie.Need-add-count
-add-count c = search needs
-
-mul-count : tie.Need-mul-count
-mul-count c = search needs
-
-element-copy-out-count : tie.Need-element-copy-out-count
-element-copy-out-count c = search needs
-
-mul-store : tie.Need-mul-store
-mul-store c = search needs
-
-add-store : tie.Need-add-store
-add-store c = search needs
-
-mul-store-2 : tie.Need-mul-store-2
-mul-store-2 c = search needs
-
 -- the state is accepted
 sound-at : (c : tie.Start) → PairSound (c .args .state .now)
 sound-at c = sound-of (c .args .state .now) (c .pre .0)
@@ -76,15 +52,6 @@ store-requires c κs =
 add-state : tie.Need-add-state
 add-state c = omega (arith, passes-at (c .before .before .before) .room)
 
-add-state-2 : tie.Need-add-state-2
-add-state-2 c = search needs
-
-mul-state : tie.Need-mul-state
-mul-state c = search needs
-
-element-write-state : tie.Need-element-write-state
-element-write-state c = search needs
-
 returns : tie.Need-returns
 unfolding pairWith
 returns c =
@@ -95,22 +62,6 @@ returns c =
     .before .before .before))
 
 pub pass-spec : {M : Type 1} → statement M
-pass-spec =
-    tie.close
-    (tie.spec
-    ledger-requires
-    ledger-index-requires
-    add-count
-    mul-count
-    element-copy-out-count
-    mul-store
-    add-store
-    mul-store-2
-    mul-store-3
-    add-store-2
-    store-requires
-    add-state
-    add-state-2
-    mul-state
-    element-write-state
-    returns)
+pass-spec = tie.close (tie.spec (λ c κs. search needs) (λ c κs. search needs) (λ c. search needs) (λ c. search needs)
+    (λ c. search needs) (λ c. search needs) (λ c. search needs) (λ c. search needs) mul-store-3 add-store-2 store-requires add-state
+    (λ c. search needs) (λ c. search needs) (λ c. search needs) returns)

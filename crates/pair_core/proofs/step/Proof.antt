@@ -18,15 +18,6 @@ use native.Mathlib.Omega.{arith}
 use Rattle.pair_core.proofs.step.Statement.{statement}
 use Rattle.pair_core.proofs.step.Tie as tie
 
-read-requires : tie.Need-read-requires
-read-requires c κs = search needs
-
-enum-known-r : tie.Need-enum-known-r
-enum-known-r c = search needs
-
-enum-told : tie.Need-enum-told
-enum-told c = search needs
-
 returns : tie.Need-returns
 returns c =
     let o = c .before .before .before .before in
@@ -67,21 +58,6 @@ returns-2 c =
     (ap (pairJudge capacity (pairViewOf s .pair)) (reads-at (c .before .before .before .before .before .before .before)) ∙ sym (j
     .judge .ensures)) (c .if1 .taken)
 
-ledger-requires : tie.Need-ledger-requires
-ledger-requires c κs = search needs
-
-ledger-index-requires : tie.Need-ledger-index-requires
-ledger-index-requires c κs = search needs
-
-add-count : tie.Need-add-count
-add-count c = search needs
-
-mul-count : tie.Need-mul-count
-mul-count c = search needs
-
-element-copy-out-count : tie.Need-element-copy-out-count
-element-copy-out-count c = search needs
-
 -- the record passes
 passes-at : (c : tie.Else1) → pairJudge capacity (pairViewOf (c .before .before .before .before .before .before .before .before .before
     .before .before .before .args .state .now) .pair) (Read (c .before .before .before .before .before .before .before .before .r
@@ -114,9 +90,6 @@ pass-requires c κs = let f = formed-at (c .before .before .before .before .befo
   passes-at (c .before .before .before .before),
 )
 
-mul-add-number : tie.Need-mul-add-number
-mul-add-number c = search needs
-
 add-number-requires : tie.Need-add-number-requires
 add-number-requires c κs =
     let m = room-at (c .before .before .before .before) in (
@@ -147,22 +120,6 @@ returns-3 c =
     (c .add-number .ensures)
 
 pub step-spec : {M : Type 1} → statement M
-step-spec =
-    tie.close
-    (tie.spec
-    read-requires
-    enum-known-r
-    enum-told
-    returns
-    of-requires
-    judge-requires
-    returns-2
-    ledger-requires
-    ledger-index-requires
-    add-count
-    mul-count
-    element-copy-out-count
-    pass-requires
-    mul-add-number
-    add-number-requires
-    returns-3)
+step-spec = tie.close (tie.spec (λ c κs. search needs) (λ c. search needs) (λ c. search needs) returns of-requires judge-requires
+    returns-2 (λ c κs. search needs) (λ c κs. search needs) (λ c. search needs) (λ c. search needs) (λ c. search needs) pass-requires
+    (λ c. search needs) add-number-requires returns-3)

@@ -7,14 +7,8 @@ use mathlib.Core.Path.{refl}
 use Rattle.pair_figures.proofs.accepted.Statement.{statement}
 use Rattle.pair_figures.proofs.accepted.Tie as tie
 
-slice-aggregate-is-accepted : tie.Need-slice-aggregate-is-accepted
-slice-aggregate-is-accepted c = search needs
-
 is-accepted-requires : tie.Need-is-accepted-requires
 is-accepted-requires c κs = (refl, λ l q. index-none (c .before .before .args .words .now) (recordsOn l) (2 * indexLength) (indexOn l))
 
-returns : tie.Need-returns
-returns c = search needs
-
 pub accepted-spec : {M : Type 1} → statement M
-accepted-spec = tie.close (tie.spec slice-aggregate-is-accepted is-accepted-requires returns)
+accepted-spec = tie.close (tie.spec (λ c. search needs) is-accepted-requires (λ c. search needs))

@@ -9,17 +9,8 @@ use native.Mathlib.Omega.{arith}
 use Rattle.pair_figures.proofs.balance.Statement.{statement}
 use Rattle.pair_figures.proofs.balance.Tie as tie
 
-accepted-requires : tie.Need-accepted-requires
-accepted-requires c κs = search needs
-
-balance-refused-requires : tie.Need-balance-refused-requires
-balance-refused-requires c κs = search needs
-
 returns : tie.Need-returns
 returns c = c .balance-refused .ensures ∙ rw (sym (c .before .before .accepted .ensures) ∙ not-true _ (c .before .if1 .taken))
-
-balance-refused-requires-2 : tie.Need-balance-refused-requires-2
-balance-refused-requires-2 c κs = search needs
 
 -- the state is accepted past the test
 accepted-at : (c : tie.Else1) → acceptsPair (c .before .before .before .before .before .args .t1 .words) ≡ true
@@ -27,21 +18,6 @@ accepted-at c = sym (c .before .accepted .ensures) ∙ not-false _ (c .if1 .left
 
 returns-2 : tie.Need-returns-2
 returns-2 c = c .balance-refused2 .ensures ∙ no-such-ledger _ (accepted-at (c .before .before)) _ _ (omega arith)
-
-add-open : tie.Need-add-open
-add-open c = search needs
-
-mul-open : tie.Need-mul-open
-mul-open c = search needs
-
-element-copy-out-open : tie.Need-element-copy-out-open
-element-copy-out-open c = search needs
-
-mul-balance-among : tie.Need-mul-balance-among
-mul-balance-among c = search needs
-
-add-balance-among : tie.Need-add-balance-among
-add-balance-among c = search needs
 
 balance-among-requires : tie.Need-balance-among-requires
 balance-among-requires c κs =
@@ -53,18 +29,6 @@ returns-3 c = c .balance-among .ensures ∙ pair-balance-passed _ (accepted-at (
     (omega arith)
 
 pub balance-spec : {M : Type 1} → statement M
-balance-spec =
-    tie.close
-    (tie.spec
-    accepted-requires
-    balance-refused-requires
-    returns
-    balance-refused-requires-2
-    returns-2
-    add-open
-    mul-open
-    element-copy-out-open
-    mul-balance-among
-    add-balance-among
-    balance-among-requires
+balance-spec = tie.close (tie.spec (λ c κs. search needs) (λ c κs. search needs) returns (λ c κs. search needs) returns-2
+    (λ c. search needs) (λ c. search needs) (λ c. search needs) (λ c. search needs) (λ c. search needs) balance-among-requires
     returns-3)

@@ -12,26 +12,8 @@ use native.Mathlib.Omega.{arith}
 use Rattle.pair_figures.proofs.figures.Statement.{statement}
 use Rattle.pair_figures.proofs.figures.Tie as tie
 
-accepted-requires : tie.Need-accepted-requires
-accepted-requires c κs = search needs
-
 returns : tie.Need-returns
 returns c = rw (sym (c .before .accepted .ensures) ∙ not-true _ (c .if1 .taken))
-
-element-copy-out-supply : tie.Need-element-copy-out-supply
-element-copy-out-supply c = search needs
-
-element-copy-out-homes : tie.Need-element-copy-out-homes
-element-copy-out-homes c = search needs
-
-add-fars : tie.Need-add-fars
-add-fars c = search needs
-
-mul-fars : tie.Need-mul-fars
-mul-fars c = search needs
-
-element-copy-out-fars : tie.Need-element-copy-out-fars
-element-copy-out-fars c = search needs
 
 -- the words that are asked
 abbrev wordsAt : tie.Else1 → List ℕ
@@ -45,9 +27,6 @@ add-balances-requires : tie.Need-add-balances-requires
 add-balances-requires c κs =
     let w = pair-on-ledger _ (accepted-at (c .before .before .before .before .before .before)) 0 (omega arith) in
     (w .0, omega arith, omega (arith, w .1))
-
-add-add-balances : tie.Need-add-add-balances
-add-add-balances c = search needs
 
 -- home's sum comes past the test
 abbrev pastHome : tie.After-add-balances → tie.Else1
@@ -87,19 +66,5 @@ returns-2 c =
     pair-figures-passed _ (accepted-at (pastHome h)) _ _ (home-at h) (far-at (c .before .before))
 
 pub figures-spec : {M : Type 1} → statement M
-figures-spec =
-    tie.close
-    (tie.spec
-    accepted-requires
-    returns
-    element-copy-out-supply
-    element-copy-out-homes
-    add-fars
-    mul-fars
-    element-copy-out-fars
-    add-balances-requires
-    add-add-balances
-    add-balances-requires-2
-    sub-t16
-    sub-t28
-    returns-2)
+figures-spec = tie.close (tie.spec (λ c κs. search needs) returns (λ c. search needs) (λ c. search needs) (λ c. search needs)
+    (λ c. search needs) (λ c. search needs) add-balances-requires (λ c. search needs) add-balances-requires-2 sub-t16 sub-t28 returns-2)

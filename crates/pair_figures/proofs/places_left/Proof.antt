@@ -9,26 +9,8 @@ use native.Mathlib.Omega.{arith}
 use Rattle.pair_figures.proofs.places_left.Statement.{statement}
 use Rattle.pair_figures.proofs.places_left.Tie as tie
 
-accepted-requires : tie.Need-accepted-requires
-accepted-requires c κs = search needs
-
-new-requires : tie.Need-new-requires
-new-requires c κs = search needs
-
 returns : tie.Need-returns
 returns c = pair-places-refused _ (sym (c .before .before .accepted .ensures) ∙ not-true _ (c .before .if1 .taken)) (c .new .ensures)
-
-element-copy-out-home : tie.Need-element-copy-out-home
-element-copy-out-home c = search needs
-
-add-far : tie.Need-add-far
-add-far c = search needs
-
-mul-far : tie.Need-mul-far
-mul-far c = search needs
-
-element-copy-out-far : tie.Need-element-copy-out-far
-element-copy-out-far c = search needs
 
 -- the state is accepted past the test
 accepted-at : (c : tie.Else1) → acceptsPair (c .before .before .before .before .before .args .t1 .words) ≡ true
@@ -44,16 +26,5 @@ returns-2 : tie.Need-returns-2
 returns-2 c = pair-places-passed _ (accepted-at (c .before .before))
 
 pub places-left-spec : {M : Type 1} → statement M
-places-left-spec =
-    tie.close
-    (tie.spec
-    accepted-requires
-    new-requires
-    returns
-    element-copy-out-home
-    add-far
-    mul-far
-    element-copy-out-far
-    sub-t13
-    sub-t14
-    returns-2)
+places-left-spec = tie.close (tie.spec (λ c κs. search needs) (λ c κs. search needs) returns (λ c. search needs) (λ c. search needs)
+    (λ c. search needs) (λ c. search needs) sub-t13 sub-t14 returns-2)

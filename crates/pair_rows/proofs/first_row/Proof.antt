@@ -8,9 +8,6 @@ use native.Mathlib.Omega.{arith}
 use Rattle.pair_rows.proofs.first_row.Statement.{statement}
 use Rattle.pair_rows.proofs.first_row.Tie as tie
 
-pair-opening-requires : tie.Need-pair-opening-requires
-pair-opening-requires c κs = search needs
-
 returns : tie.Need-returns
 returns c = (c .before .before .pair-opening .ensures .0, λ e. absurd (c .if1 .taken e))
 
@@ -59,12 +56,4 @@ returns-2 c =
     )
 
 pub first-row-spec : {M : Type 1} → statement M
-first-row-spec =
-    tie.close
-    (tie.spec
-    pair-opening-requires
-    returns
-    write-opening-requires
-    add-balances-requires
-    sub-t11
-    returns-2)
+first-row-spec = tie.close (tie.spec (λ c κs. search needs) returns write-opening-requires add-balances-requires sub-t11 returns-2)

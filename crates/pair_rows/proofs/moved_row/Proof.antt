@@ -8,9 +8,6 @@ use native.Mathlib.Omega.{arith}
 use Rattle.pair_rows.proofs.moved_row.Statement.{statement}
 use Rattle.pair_rows.proofs.moved_row.Tie as tie
 
-enum-told : tie.Need-enum-told
-enum-told c = search needs
-
 -- what it takes, home has
 home-pays : (c : tie.After-enum-told) → c .before .before .args .taken ≤ c .before .before .args .last .home
 home-pays c = subst (λ (l : Ledger). c .before .before .args .taken ≤ totalIn (c .before .before .args .last) l) (c .enum-told .given
@@ -19,17 +16,11 @@ home-pays c = subst (λ (l : Ledger). c .before .before .args .taken ≤ totalIn
 sub-home : tie.Need-sub-home
 sub-home c = home-pays (c .before)
 
-add-home : tie.Need-add-home
-add-home c = search needs
-
 sub-t9 : tie.Need-sub-t9
 sub-t9 c = omega (arith, home-pays (c .before), c .before .before .before .pre .1)
 
 sub-t10 : tie.Need-sub-t10
 sub-t10 c = omega (arith, home-pays (c .before .before), c .before .before .before .before .pre .1)
-
-enum-told-2 : tie.Need-enum-told-2
-enum-told-2 c = search needs
 
 -- or far has
 far-pays : (c : tie.After-enum-told2) → c .before .before .args .taken ≤ c .before .before .args .last .far
@@ -38,9 +29,6 @@ far-pays c = subst (λ (l : Ledger). c .before .before .args .taken ≤ totalIn 
 
 sub-far : tie.Need-sub-far
 sub-far c = far-pays (c .before)
-
-add-far : tie.Need-add-far
-add-far c = search needs
 
 sub-t11 : tie.Need-sub-t11
 sub-t11 c = omega (arith, far-pays (c .before .before), c .before .before .before .before .pre .1)
@@ -55,18 +43,5 @@ returns-2 : tie.Need-returns-2
 returns-2 c = rw (c .before .before .enum-told2 .given .1) refl
 
 pub moved-row-spec : {M : Type 1} → statement M
-moved-row-spec =
-    tie.close
-    (tie.spec
-    enum-told
-    sub-home
-    add-home
-    sub-t9
-    sub-t10
-    enum-told-2
-    sub-far
-    add-far
-    sub-t11
-    sub-t12
-    returns
-    returns-2)
+moved-row-spec = tie.close (tie.spec (λ c. search needs) sub-home (λ c. search needs) sub-t9 sub-t10 (λ c. search needs) sub-far
+    (λ c. search needs) sub-t11 sub-t12 returns returns-2)

@@ -8,12 +8,6 @@ use mathlib.Core.Path.{_∙_, _≡_, sym}
 use Rattle.pair_rows.proofs.next_row.Statement.{statement}
 use Rattle.pair_rows.proofs.next_row.Tie as tie
 
-element-copy-out-supply : tie.Need-element-copy-out-supply
-element-copy-out-supply c = search needs
-
-step-requires : tie.Need-step-requires
-step-requires c κs = search needs
-
 returns : tie.Need-returns
 returns c =
     let o = c .before .before .before .before .before .before in
@@ -21,15 +15,6 @@ returns c =
     row-tells (o .args .state .now) (o .args .bytes .now)
     (row-refused (o .args .state .now) (o .args .index .now) (o .args .bytes .now) (o .args .last) (o .pre) _ (e .0) (c .if1 .taken))
     (e .1 .0) (e .1 .1)
-
-read-requires : tie.Need-read-requires
-read-requires c κs = search needs
-
-enum-known-r : tie.Need-enum-known-r
-enum-known-r c = search needs
-
-enum-told : tie.Need-enum-told
-enum-told c = search needs
 
 -- the record passes
 passes-at : (c : tie.Else1) → 0 ≡ pairWordsChecker .judge (c .before .before .before .before .before .before .args .state .now) (c
@@ -41,15 +26,6 @@ returns-2 c =
     let o = c .before .before .before .before .before .before .before .before .before in
     read-or-refused (o .args .state .now) (o .args .index .now) (o .args .bytes .now) (o .args .last) (o .pre)
     (sym (c .before .before .read .ensures) ∙ c .enum-told .given .1) (passes-at (c .before .before .before))
-
-ledger-requires : tie.Need-ledger-requires
-ledger-requires c κs = search needs
-
-taken-by-requires : tie.Need-taken-by-requires
-taken-by-requires c κs = search needs
-
-given-by-requires : tie.Need-given-by-requires
-given-by-requires c κs = search needs
 
 -- the next row by what it takes and gives
 moves-at : (c : tie.After-known-told) → RowMoves (supplyOf (c .before .before .before .before .before .before .before .before .before
@@ -82,18 +58,5 @@ returns-3 c =
     (e .1 .0) (e .1 .1)
 
 pub next-row-spec : {M : Type 1} → statement M
-next-row-spec =
-    tie.close
-    (tie.spec
-    element-copy-out-supply
-    step-requires
-    returns
-    read-requires
-    enum-known-r
-    enum-told
-    returns-2
-    ledger-requires
-    taken-by-requires
-    given-by-requires
-    moved-row-requires
-    returns-3)
+next-row-spec = tie.close (tie.spec (λ c. search needs) (λ c κs. search needs) returns (λ c κs. search needs) (λ c. search needs)
+    (λ c. search needs) returns-2 (λ c κs. search needs) (λ c κs. search needs) (λ c κs. search needs) moved-row-requires returns-3)

@@ -6,18 +6,6 @@ use Rattle.tables.specs.Columns.{balanceAt}
 use Rattle.record_refusals.proofs.balance_at.Statement.{statement}
 use Rattle.record_refusals.proofs.balance_at.Tie as tie
 
-as-index-requires : tie.Need-as-index-requires
-as-index-requires c κs = search needs
-
-add-result : tie.Need-add-result
-add-result c = search needs
-
-mul-result : tie.Need-mul-result
-mul-result c = search needs
-
-shared-slice-read-result : tie.Need-shared-slice-read-result
-shared-slice-read-result c = search needs
-
 returns : tie.Need-returns
 unfolding balanceAt
 returns c =
@@ -34,6 +22,5 @@ returns-2 c =
     rw (le-ltb (a .i) (a .n) (omega arith))
 
 pub balance-at-spec : {M : Type 1} → statement M
-balance-at-spec =
-    tie.close
-    (tie.spec as-index-requires add-result mul-result shared-slice-read-result returns returns-2)
+balance-at-spec = tie.close (tie.spec (λ c κs. search needs) (λ c. search needs) (λ c. search needs) (λ c. search needs) returns
+    returns-2)

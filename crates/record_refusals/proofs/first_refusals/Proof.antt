@@ -11,36 +11,6 @@ use Rattle.tables.specs.Columns.{firstBy}
 use Rattle.record_refusals.proofs.first_refusals.Statement.{statement}
 use Rattle.record_refusals.proofs.first_refusals.Tie as tie
 
-as-index-requires : tie.Need-as-index-requires
-as-index-requires c κs = search needs
-
-refusal-if-requires : tie.Need-refusal-if-requires
-refusal-if-requires c κs = search needs
-
-as-index-requires-2 : tie.Need-as-index-requires-2
-as-index-requires-2 c κs = search needs
-
-refusal-if-requires-2 : tie.Need-refusal-if-requires-2
-refusal-if-requires-2 c κs = search needs
-
-refusal-if-requires-3 : tie.Need-refusal-if-requires-3
-refusal-if-requires-3 c κs = search needs
-
-refusal-if-requires-4 : tie.Need-refusal-if-requires-4
-refusal-if-requires-4 c κs = search needs
-
-first-refusal-requires : tie.Need-first-refusal-requires
-first-refusal-requires c κs = search needs
-
-first-refusal-requires-2 : tie.Need-first-refusal-requires-2
-first-refusal-requires-2 c κs = search needs
-
-first-refusal-requires-3 : tie.Need-first-refusal-requires-3
-first-refusal-requires-3 c κs = search needs
-
-first-refusal-requires-4 : tie.Need-first-refusal-requires-4
-first-refusal-requires-4 c κs = search needs
-
 returns : tie.Need-returns
 unfolding firstBy
 returns c =
@@ -69,17 +39,6 @@ returns c =
     c .first-refusal4 .ensures ∙ ap₂ orElse sender e22 ∙ refuse-else noSender 22 (refuse noReceiver 22 from23) (omega arith)
 
 pub first-refusals-spec : {M : Type 1} → statement M
-first-refusals-spec =
-    tie.close
-    (tie.spec
-    as-index-requires
-    refusal-if-requires
-    as-index-requires-2
-    refusal-if-requires-2
-    refusal-if-requires-3
-    refusal-if-requires-4
-    first-refusal-requires
-    first-refusal-requires-2
-    first-refusal-requires-3
-    first-refusal-requires-4
-    returns)
+first-refusals-spec = tie.close (tie.spec (λ c κs. search needs) (λ c κs. search needs) (λ c κs. search needs) (λ c κs. search needs)
+    (λ c κs. search needs) (λ c κs. search needs) (λ c κs. search needs) (λ c κs. search needs) (λ c κs. search needs)
+    (λ c κs. search needs) returns)

@@ -8,12 +8,6 @@ use Rattle.tables.specs.Columns.{fundsAt}
 use Rattle.record_refusals.proofs.funds_refusal.Statement.{statement}
 use Rattle.record_refusals.proofs.funds_refusal.Tie as tie
 
-balance-at-requires : tie.Need-balance-at-requires
-balance-at-requires c κs = search needs
-
-refusal-if-requires : tie.Need-refusal-if-requires
-refusal-if-requires c κs = search needs
-
 returns : tie.Need-returns
 unfolding fundsAt
 returns c =
@@ -22,4 +16,4 @@ returns c =
     c .refusal-if .ensures ∙ ap (λ (b : ℕ). refuse (ltb b (a .r .amount)) 25 0) (c .before .before .balance-at .ensures)
 
 pub funds-refusal-spec : {M : Type 1} → statement M
-funds-refusal-spec = tie.close (tie.spec balance-at-requires refusal-if-requires returns)
+funds-refusal-spec = tie.close (tie.spec (λ c κs. search needs) (λ c κs. search needs) returns)

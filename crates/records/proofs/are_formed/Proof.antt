@@ -75,5 +75,4 @@ returns-8 c =
     )
 
 pub are-formed-spec : {M : Type 1} → statement M
-are-formed-spec =
-    tie.close (tie.spec returns returns-2 returns-3 returns-4 returns-5 returns-6 returns-7 returns-8)
+are-formed-spec = tie.close (tie.spec returns returns-2 returns-3 returns-4 returns-5 returns-6 returns-7 returns-8)

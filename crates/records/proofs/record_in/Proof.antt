@@ -6,18 +6,6 @@ use Rattle.records.specs.Records.{recordIn, within}
 use Rattle.records.proofs.record_in.Statement.{statement}
 use Rattle.records.proofs.record_in.Tie as tie
 
-ledger-at-requires : tie.Need-ledger-at-requires
-ledger-at-requires c κs = search needs
-
-kind-at-requires : tie.Need-kind-at-requires
-kind-at-requires c κs = search needs
-
-cast-t9 : tie.Need-cast-t9
-cast-t9 c = search needs
-
-cast-t10 : tie.Need-cast-t10
-cast-t10 c = search needs
-
 returns : tie.Need-returns
 unfolding recordIn
 returns c =
@@ -29,4 +17,4 @@ returns c =
     rw k
 
 pub record-in-spec : {M : Type 1} → statement M
-record-in-spec = tie.close (tie.spec ledger-at-requires kind-at-requires cast-t9 cast-t10 returns)
+record-in-spec = tie.close (tie.spec (λ c κs. search needs) (λ c κs. search needs) (λ c. search needs) (λ c. search needs) returns)

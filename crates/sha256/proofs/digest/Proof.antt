@@ -11,38 +11,11 @@ use Rattle.sha256_core.specs.Sha256.{zeroCount, padded, block, hashed, hashByte
 use Rattle.sha256.proofs.digest.Statement.{statement}
 use Rattle.sha256.proofs.digest.Tie as tie
 
-constants-requires : tie.Need-constants-requires
-constants-requires c κs = search needs
-
-whole-blocks-requires : tie.Need-whole-blocks-requires
-whole-blocks-requires c κs = search needs
-
-mul-from : tie.Need-mul-from
-mul-from c = search needs
-
-sub-last-bytes : tie.Need-sub-last-bytes
-sub-last-bytes c = search needs
-
-part-last-bytes-start : tie.Need-part-last-bytes-start
-part-last-bytes-start c = search needs
-
-part-last-bytes-end : tie.Need-part-last-bytes-end
-part-last-bytes-end c = search needs
-
-last-bytes-requires : tie.Need-last-bytes-requires
-last-bytes-requires c κs = search needs
-
-array-share-prefix-b : tie.Need-array-share-prefix-b
-array-share-prefix-b c = search needs
-
 slice-aggregate-compress : tie.Need-slice-aggregate-compress
 slice-aggregate-compress c = sym (length-take-le 64 (c .before .last-bytes .result) (omega arith))
 
 compress-requires : tie.Need-compress-requires
 compress-requires c κs = (length-take-le 64 (c .before .before .last-bytes .result) (omega arith), search needs)
-
-hash-bytes-requires : tie.Need-hash-bytes-requires
-hash-bytes-requires c κs = search needs
 
 -- the message, and the bytes of the last blocks
 abbrev message : tie.After-compress → List ℕ
@@ -80,21 +53,6 @@ returns c =
     let n : length m / 64 + 1 ≡ length (padded m) / 64 = omega (arith, block-count m) in
     c .hash-bytes .ensures ∙ ap hashBytes (after-first p ∙ ap (hashed (padded m)) n)
 
-sub-compress : tie.Need-sub-compress
-sub-compress c = search needs
-
-part-compress-start : tie.Need-part-compress-start
-part-compress-start c = search needs
-
-part-compress-end : tie.Need-part-compress-end
-part-compress-end c = search needs
-
-compress-requires-2 : tie.Need-compress-requires-2
-compress-requires-2 c κs = search needs
-
-hash-bytes-requires-2 : tie.Need-hash-bytes-requires-2
-hash-bytes-requires-2 c κs = search needs
-
 returns-2 : tie.Need-returns-2
 unfolding sha256
 returns-2 c =
@@ -108,24 +66,7 @@ returns-2 c =
     ∙ ap hashBytes (hashed-next (padded m) (length m / 64 + 1) (after-first p) b e ∙ ap (hashed (padded m)) n)
 
 pub digest-spec : {M : Type 1} → statement M
-digest-spec =
-    tie.close
-    (tie.spec
-    constants-requires
-    whole-blocks-requires
-    mul-from
-    sub-last-bytes
-    part-last-bytes-start
-    part-last-bytes-end
-    last-bytes-requires
-    array-share-prefix-b
-    slice-aggregate-compress
-    compress-requires
-    hash-bytes-requires
-    returns
-    sub-compress
-    part-compress-start
-    part-compress-end
-    compress-requires-2
-    hash-bytes-requires-2
-    returns-2)
+digest-spec = tie.close (tie.spec (λ c κs. search needs) (λ c κs. search needs) (λ c. search needs) (λ c. search needs)
+    (λ c. search needs) (λ c. search needs) (λ c κs. search needs) (λ c. search needs) slice-aggregate-compress compress-requires
+    (λ c κs. search needs) returns (λ c. search needs) (λ c. search needs) (λ c. search needs) (λ c κs. search needs)
+    (λ c κs. search needs) returns-2)

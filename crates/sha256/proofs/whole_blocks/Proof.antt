@@ -15,36 +15,9 @@ Inv-loop message k n s₀ i₀ s i = (i ≤ n) × (s ≡ hashed (padded message)
 abbrev μ-loop : tie.MeasureT-loop
 μ-loop message k n s₀ i₀ s i = n - i
 
-initial-hash-requires : tie.Need-initial-hash-requires Inv-loop μ-loop
-initial-hash-requires c κs = search needs
-
 loop-holds : tie.Need-loop-holds Inv-loop μ-loop
 unfolding hashed
 loop-holds c = (search needs, c .initial-hash .ensures)
-
-mul-a : tie.Need-mul-a Inv-loop μ-loop
-mul-a c = search needs
-
-add-e : tie.Need-add-e Inv-loop μ-loop
-add-e c = search needs
-
-sub-compress : tie.Need-sub-compress Inv-loop μ-loop
-sub-compress c = search needs
-
-part-compress-start : tie.Need-part-compress-start Inv-loop μ-loop
-part-compress-start c = search needs
-
-part-compress-end : tie.Need-part-compress-end Inv-loop μ-loop
-part-compress-end c = search needs
-
-compress-requires : tie.Need-compress-requires Inv-loop μ-loop
-compress-requires c κs = search needs
-
-add-i : tie.Need-add-i Inv-loop μ-loop
-add-i c = search needs
-
-loop-less : tie.Need-loop-less Inv-loop μ-loop
-loop-less c = search needs
 
 loop-again : tie.Need-loop-again Inv-loop μ-loop
 loop-again c =
@@ -63,20 +36,6 @@ returns c =
     c .before .loop .inv .1 ∙ ap (hashed (padded m)) n
 
 pub whole-blocks-spec : {M : Type 1} → statement M
-whole-blocks-spec =
-    tie.close
-    (tie.spec
-    Inv-loop
-    μ-loop
-    initial-hash-requires
-    loop-holds
-    mul-a
-    add-e
-    sub-compress
-    part-compress-start
-    part-compress-end
-    compress-requires
-    add-i
-    loop-less
-    loop-again
-    returns)
+whole-blocks-spec = tie.close (tie.spec Inv-loop μ-loop (λ c κs. search needs) loop-holds (λ c. search needs) (λ c. search needs)
+    (λ c. search needs) (λ c. search needs) (λ c. search needs) (λ c κs. search needs) (λ c. search needs) (λ c. search needs)
+    loop-again returns)

@@ -5,45 +5,6 @@ use Rattle.sha256_core.proofs.Laws.{compressed-by-sixteen}
 use Rattle.sha256_core.proofs.compress.Statement.{statement}
 use Rattle.sha256_core.proofs.compress.Tie as tie
 
-load-requires : tie.Need-load-requires
-load-requires c κs = search needs
-
-constants-from-requires : tie.Need-constants-from-requires
-constants-from-requires c κs = search needs
-
-sixteen-requires : tie.Need-sixteen-requires
-sixteen-requires c κs = search needs
-
-next-words-requires : tie.Need-next-words-requires
-next-words-requires c κs = search needs
-
-constants-from-requires-2 : tie.Need-constants-from-requires-2
-constants-from-requires-2 c κs = search needs
-
-sixteen-requires-2 : tie.Need-sixteen-requires-2
-sixteen-requires-2 c κs = search needs
-
-next-words-requires-2 : tie.Need-next-words-requires-2
-next-words-requires-2 c κs = search needs
-
-constants-from-requires-3 : tie.Need-constants-from-requires-3
-constants-from-requires-3 c κs = search needs
-
-sixteen-requires-3 : tie.Need-sixteen-requires-3
-sixteen-requires-3 c κs = search needs
-
-next-words-requires-3 : tie.Need-next-words-requires-3
-next-words-requires-3 c κs = search needs
-
-constants-from-requires-4 : tie.Need-constants-from-requires-4
-constants-from-requires-4 c κs = search needs
-
-sixteen-requires-4 : tie.Need-sixteen-requires-4
-sixteen-requires-4 c κs = search needs
-
-add-words-requires : tie.Need-add-words-requires
-add-words-requires c κs = search needs
-
 returns : tie.Need-returns
 returns c =
     let r4 = c .before in
@@ -71,20 +32,6 @@ returns c =
     (r4 .sixteen4 .ensures)
 
 pub compress-spec : {M : Type 1} → statement M
-compress-spec =
-    tie.close
-    (tie.spec
-    load-requires
-    constants-from-requires
-    sixteen-requires
-    next-words-requires
-    constants-from-requires-2
-    sixteen-requires-2
-    next-words-requires-2
-    constants-from-requires-3
-    sixteen-requires-3
-    next-words-requires-3
-    constants-from-requires-4
-    sixteen-requires-4
-    add-words-requires
-    returns)
+compress-spec = tie.close (tie.spec (λ c κs. search needs) (λ c κs. search needs) (λ c κs. search needs) (λ c κs. search needs)
+    (λ c κs. search needs) (λ c κs. search needs) (λ c κs. search needs) (λ c κs. search needs) (λ c κs. search needs)
+    (λ c κs. search needs) (λ c κs. search needs) (λ c κs. search needs) (λ c κs. search needs) returns)

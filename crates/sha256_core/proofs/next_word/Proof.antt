@@ -4,32 +4,10 @@ use Rattle.sha256_core.specs.Sixteen.{nextOf}
 use Rattle.sha256_core.proofs.next_word.Statement.{statement}
 use Rattle.sha256_core.proofs.next_word.Tie as tie
 
-small-sigma1-requires : tie.Need-small-sigma1-requires
-small-sigma1-requires c κs = search needs
-
-wrapping-add-u32-requires : tie.Need-wrapping-add-u32-requires
-wrapping-add-u32-requires c κs = search needs
-
-small-sigma0-requires : tie.Need-small-sigma0-requires
-small-sigma0-requires c κs = search needs
-
-wrapping-add-u32-requires-2 : tie.Need-wrapping-add-u32-requires-2
-wrapping-add-u32-requires-2 c κs = search needs
-
-wrapping-add-u32-requires-3 : tie.Need-wrapping-add-u32-requires-3
-wrapping-add-u32-requires-3 c κs = search needs
-
 returns : tie.Need-returns
 unfolding nextOf
 returns c = cc
 
 pub next-word-spec : {M : Type 1} → statement M
-next-word-spec =
-    tie.close
-    (tie.spec
-    small-sigma1-requires
-    wrapping-add-u32-requires
-    small-sigma0-requires
-    wrapping-add-u32-requires-2
-    wrapping-add-u32-requires-3
-    returns)
+next-word-spec = tie.close (tie.spec (λ c κs. search needs) (λ c κs. search needs) (λ c κs. search needs) (λ c κs. search needs)
+    (λ c κs. search needs) returns)

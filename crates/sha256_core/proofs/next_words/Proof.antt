@@ -3,54 +3,6 @@ use borrow.Author.Needs.{needs}
 use Rattle.sha256_core.proofs.next_words.Statement.{statement}
 use Rattle.sha256_core.proofs.next_words.Tie as tie
 
-next-word-requires : tie.Need-next-word-requires
-next-word-requires c κs = search needs
-
-next-word-requires-2 : tie.Need-next-word-requires-2
-next-word-requires-2 c κs = search needs
-
-next-word-requires-3 : tie.Need-next-word-requires-3
-next-word-requires-3 c κs = search needs
-
-next-word-requires-4 : tie.Need-next-word-requires-4
-next-word-requires-4 c κs = search needs
-
-next-word-requires-5 : tie.Need-next-word-requires-5
-next-word-requires-5 c κs = search needs
-
-next-word-requires-6 : tie.Need-next-word-requires-6
-next-word-requires-6 c κs = search needs
-
-next-word-requires-7 : tie.Need-next-word-requires-7
-next-word-requires-7 c κs = search needs
-
-next-word-requires-8 : tie.Need-next-word-requires-8
-next-word-requires-8 c κs = search needs
-
-next-word-requires-9 : tie.Need-next-word-requires-9
-next-word-requires-9 c κs = search needs
-
-next-word-requires-10 : tie.Need-next-word-requires-10
-next-word-requires-10 c κs = search needs
-
-next-word-requires-11 : tie.Need-next-word-requires-11
-next-word-requires-11 c κs = search needs
-
-next-word-requires-12 : tie.Need-next-word-requires-12
-next-word-requires-12 c κs = search needs
-
-next-word-requires-13 : tie.Need-next-word-requires-13
-next-word-requires-13 c κs = search needs
-
-next-word-requires-14 : tie.Need-next-word-requires-14
-next-word-requires-14 c κs = search needs
-
-next-word-requires-15 : tie.Need-next-word-requires-15
-next-word-requires-15 c κs = search needs
-
-next-word-requires-16 : tie.Need-next-word-requires-16
-next-word-requires-16 c κs = search needs
-
 returns : tie.Need-returns
 returns c =
     let c3 = c .before .before .before in
@@ -79,23 +31,7 @@ returns c =
     }
 
 pub next-words-spec : {M : Type 1} → statement M
-next-words-spec =
-    tie.close
-    (tie.spec
-    next-word-requires
-    next-word-requires-2
-    next-word-requires-3
-    next-word-requires-4
-    next-word-requires-5
-    next-word-requires-6
-    next-word-requires-7
-    next-word-requires-8
-    next-word-requires-9
-    next-word-requires-10
-    next-word-requires-11
-    next-word-requires-12
-    next-word-requires-13
-    next-word-requires-14
-    next-word-requires-15
-    next-word-requires-16
-    returns)
+next-words-spec = tie.close (tie.spec (λ c κs. search needs) (λ c κs. search needs) (λ c κs. search needs) (λ c κs. search needs)
+    (λ c κs. search needs) (λ c κs. search needs) (λ c κs. search needs) (λ c κs. search needs) (λ c κs. search needs)
+    (λ c κs. search needs) (λ c κs. search needs) (λ c κs. search needs) (λ c κs. search needs) (λ c κs. search needs)
+    (λ c κs. search needs) (λ c κs. search needs) returns)

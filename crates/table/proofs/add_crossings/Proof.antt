@@ -34,15 +34,6 @@ loop-holds c =
       halves-none _ _ (sum-none (flowAt 3 (a .words .now) (a .from)) 0),
     )
 
-words-at-requires : tie.Need-words-at-requires Inv-loop μ-loop
-words-at-requires c κs = search needs
-
-counted-requires : tie.Need-counted-requires Inv-loop μ-loop
-counted-requires c κs = search needs
-
-counted-requires-2 : tie.Need-counted-requires-2 Inv-loop μ-loop
-counted-requires-2 c κs = search needs
-
 -- what is counted is the flow at the loop's place
 sent-is : (c : tie.After-counted2 Inv-loop μ-loop) → c .before .counted .result ≡ flowAt 2 (c .before .before .before .before .before
     .before .args .words .now) (c .before .before .before .before .before .before .args .from) (c .before .before .before .before .loop
@@ -116,12 +107,6 @@ add-received-low c =
       )) (l .inv .2 .low-most) (half-low _);
     }
 
-add-i : tie.Need-add-i Inv-loop μ-loop
-add-i c = search needs
-
-loop-less : tie.Need-loop-less Inv-loop μ-loop
-loop-less c = search needs
-
 loop-again : tie.Need-loop-again Inv-loop μ-loop
 loop-again c =
     let l = c .before .before .before .before .loop in
@@ -167,22 +152,6 @@ returns c =
     )
 
 pub add-crossings-spec : {M : Type 1} → statement M
-add-crossings-spec =
-    tie.close
-    (tie.spec
-    Inv-loop
-    μ-loop
-    loop-holds
-    words-at-requires
-    counted-requires
-    counted-requires-2
-    add-sent-high
-    add-sent-low
-    add-received-high
-    add-received-low
-    add-i
-    loop-less
-    loop-again
-    add-halves-requires
-    add-halves-requires-2
-    returns)
+add-crossings-spec = tie.close (tie.spec Inv-loop μ-loop loop-holds (λ c κs. search needs) (λ c κs. search needs) (λ c κs. search needs)
+    add-sent-high add-sent-low add-received-high add-received-low (λ c. search needs) (λ c. search needs) loop-again add-halves-requires
+    add-halves-requires-2 returns)

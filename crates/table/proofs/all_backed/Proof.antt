@@ -23,12 +23,6 @@ loop-holds c =
     let z : a .m ≡ a .m - 0 = omega arith in
     (omega arith, ap (allAt _ 0) z)
 
-words-at-requires : tie.Need-words-at-requires Inv-loop μ-loop
-words-at-requires c κs = search needs
-
-is-backed-requires : tie.Need-is-backed-requires Inv-loop μ-loop
-is-backed-requires c κs = search needs
-
 -- the record at the loop's place is backed where the call says so
 backed-is : (c : tie.After-is-backed Inv-loop μ-loop) → backedAt (c .before .before .before .before .before .before .args .words .now)
     (c .before .before .before .before .before .before .args .from) (c .before .before .before .before .before .before .args .o) (c
@@ -44,12 +38,6 @@ returns c =
     sym (l .inv .1 ∙ all-here _ (l .i) (c .before .before .before .before .before .before .before .args .m) (c .before .before .before
     .loop-test .taken) (backed-is (c .before) ∙ not-true _ (c .if1 .taken)))
 
-add-i : tie.Need-add-i Inv-loop μ-loop
-add-i c = search needs
-
-loop-less : tie.Need-loop-less Inv-loop μ-loop
-loop-less c = search needs
-
 loop-again : tie.Need-loop-again Inv-loop μ-loop
 loop-again c =
     let l = c .before .before .before .before .loop in (
@@ -64,16 +52,5 @@ returns-2 c =
     sym (l .inv .1 ∙ all-end _ (l .i) (c .before .before .before .before .args .m) (omega arith))
 
 pub all-backed-spec : {M : Type 1} → statement M
-all-backed-spec =
-    tie.close
-    (tie.spec
-    Inv-loop
-    μ-loop
-    loop-holds
-    words-at-requires
-    is-backed-requires
-    returns
-    add-i
-    loop-less
-    loop-again
-    returns-2)
+all-backed-spec = tie.close (tie.spec Inv-loop μ-loop loop-holds (λ c κs. search needs) (λ c κs. search needs) returns
+    (λ c. search needs) (λ c. search needs) loop-again returns-2)

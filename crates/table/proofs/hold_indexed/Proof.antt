@@ -37,15 +37,6 @@ Inv-loop words index₀ from base n l own other bases senders receivers i₀ ind
 abbrev μ-loop : tie.MeasureT-loop
 μ-loop words index₀ from base n l own other bases senders receivers i₀ index i = n - i
 
-head-bases-requires : tie.Need-head-bases-requires Inv-loop μ-loop
-head-bases-requires c κs = search needs
-
-sender-limits-requires : tie.Need-sender-limits-requires Inv-loop μ-loop
-sender-limits-requires c κs = search needs
-
-receiver-limits-requires : tie.Need-receiver-limits-requires Inv-loop μ-loop
-receiver-limits-requires c κs = search needs
-
 loop-holds : tie.Need-loop-holds Inv-loop μ-loop
 loop-holds c =
     let o = c .before .before .before .before .before in
@@ -91,18 +82,6 @@ returns c =
     let z = i .loop .inv .1 ∙ all-here _ (i .loop .i) (o .args .n) (w .before .loop-test .taken) e in
     (rw z, (λ h. absurd (never-both-tests (sym h)), i .loop .inv .2))
 
-low-bits-requires : tie.Need-low-bits-requires Inv-loop μ-loop
-low-bits-requires c κs = search needs
-
-add-if2 : tie.Need-add-if2 Inv-loop μ-loop
-add-if2 c = search needs
-
-mul-if2 : tie.Need-mul-if2 Inv-loop μ-loop
-mul-if2 c = search needs
-
-slice-read-if2 : tie.Need-slice-read-if2 Inv-loop μ-loop
-slice-read-if2 c = search needs
-
 is-used-requires : tie.Need-is-used-requires Inv-loop μ-loop
 is-used-requires c κs =
     let i = c .before .before .before .before .before .before .before .before .before .before .before in
@@ -134,12 +113,6 @@ add-number-requires c κs =
     let o = i .before .before .before .before .before .before in
     let t = c .before .before .before .before .before .before .before .before .before .before .loop-test .taken in
     (omega (arith, o .pre .1, t, i .loop .inv .2 .long), omega (arith, o .pre .2, t))
-
-add-i : tie.Need-add-i Inv-loop μ-loop
-add-i c = search needs
-
-loop-less : tie.Need-loop-less Inv-loop μ-loop
-loop-less c = search needs
 
 loop-again : tie.Need-loop-again Inv-loop μ-loop
 loop-again c =
@@ -188,29 +161,7 @@ returns-3 c =
     (rw (a, b), (λ h. rw z at (i .loop .inv .3), i .loop .inv .2))
 
 pub hold-indexed-spec : {M : Type 1} → statement M
-hold-indexed-spec =
-    tie.close
-    (tie.spec
-    Inv-loop
-    μ-loop
-    head-bases-requires
-    sender-limits-requires
-    receiver-limits-requires
-    loop-holds
-    words-at-requires
-    may-hold-requires
-    same-length
-    returns
-    low-bits-requires
-    add-if2
-    mul-if2
-    slice-read-if2
-    is-used-requires
-    same-length-2
-    returns-2
-    add-number-requires
-    add-i
-    loop-less
-    loop-again
-    same-length-3
-    returns-3)
+hold-indexed-spec = tie.close (tie.spec Inv-loop μ-loop (λ c κs. search needs) (λ c κs. search needs) (λ c κs. search needs) loop-holds
+    words-at-requires may-hold-requires same-length returns (λ c κs. search needs) (λ c. search needs) (λ c. search needs)
+    (λ c. search needs) is-used-requires same-length-2 returns-2 add-number-requires (λ c. search needs) (λ c. search needs) loop-again
+    same-length-3 returns-3)

@@ -14,12 +14,6 @@ returns : tie.Need-returns
 unfolding backedBy
 returns c = sym (not-asked _ _ (ne-eqb _ _ (c .if1 .taken)))
 
-sending-head-requires : tie.Need-sending-head-requires
-sending-head-requires c κs = search needs
-
-is-sent-requires : tie.Need-is-sent-requires
-is-sent-requires c κs = search needs
-
 returns-2 : tie.Need-returns-2
 unfolding backedBy
 returns-2 c =
@@ -30,4 +24,4 @@ returns-2 c =
     ∙ sym (asked _ _ (eq-eqb _ _ (c .before .before .if1 .left)))
 
 pub is-backed-spec : {M : Type 1} → statement M
-is-backed-spec = tie.close (tie.spec returns sending-head-requires is-sent-requires returns-2)
+is-backed-spec = tie.close (tie.spec returns (λ c κs. search needs) (λ c κs. search needs) returns-2)

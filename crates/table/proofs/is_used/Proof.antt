@@ -14,21 +14,6 @@ Inv-loop words index from base n x at₀ steps₀ at steps = WalkFor words from 
 abbrev μ-loop : tie.MeasureT-loop
 μ-loop words index from base n x at₀ steps₀ at steps = at
 
-low-bits-requires : tie.Need-low-bits-requires Inv-loop μ-loop
-low-bits-requires c κs = search needs
-
-add-as-index : tie.Need-add-as-index Inv-loop μ-loop
-add-as-index c = search needs
-
-mul-as-index : tie.Need-mul-as-index Inv-loop μ-loop
-mul-as-index c = search needs
-
-shared-slice-read-as-index : tie.Need-shared-slice-read-as-index Inv-loop μ-loop
-shared-slice-read-as-index c = search needs
-
-as-index-requires : tie.Need-as-index-requires Inv-loop μ-loop
-as-index-requires c κs = search needs
-
 loop-holds : tie.Need-loop-holds Inv-loop μ-loop
 loop-holds c =
     let o = c .before .before .before .before .before in
@@ -38,24 +23,6 @@ loop-holds c =
     .from)) _ (low .result) (low .ensures) (c
     .as-index .ensures)
 
-sub-j : tie.Need-sub-j Inv-loop μ-loop
-sub-j c = search needs
-
-mul-if1 : tie.Need-mul-if1 Inv-loop μ-loop
-mul-if1 c = search needs
-
-add-if1 : tie.Need-add-if1 Inv-loop μ-loop
-add-if1 c = search needs
-
-add-if1-2 : tie.Need-add-if1-2 Inv-loop μ-loop
-add-if1-2 c = search needs
-
-mul-if1-2 : tie.Need-mul-if1-2 Inv-loop μ-loop
-mul-if1-2 c = search needs
-
-shared-slice-read-if1 : tie.Need-shared-slice-read-if1 Inv-loop μ-loop
-shared-slice-read-if1 c = search needs
-
 returns : tie.Need-returns Inv-loop μ-loop
 returns c =
     let o = c .before .before .before .before .before .before .before .before .before in
@@ -64,30 +31,6 @@ returns c =
     sym (walk-found (a .words .now) (a .from) (a .index .now) (a .base) (a .n) (o .pre .2) _ (a .x) (numbered (a .x) (a .words .now) (a
     .from)) (l .at) (l .inv) (c .before .before
     .loop-test .taken) (eq-eqb _ _ (c .if1 .taken)))
-
-scanned-requires : tie.Need-scanned-requires Inv-loop μ-loop
-scanned-requires c κs = search needs
-
-returns-2 : tie.Need-returns-2 Inv-loop μ-loop
-returns-2 c = search needs
-
-add-as-index-2 : tie.Need-add-as-index-2 Inv-loop μ-loop
-add-as-index-2 c = search needs
-
-add-as-index-3 : tie.Need-add-as-index-3 Inv-loop μ-loop
-add-as-index-3 c = search needs
-
-mul-as-index-2 : tie.Need-mul-as-index-2 Inv-loop μ-loop
-mul-as-index-2 c = search needs
-
-shared-slice-read-as-index-2 : tie.Need-shared-slice-read-as-index-2 Inv-loop μ-loop
-shared-slice-read-as-index-2 c = search needs
-
-as-index-requires-2 : tie.Need-as-index-requires-2 Inv-loop μ-loop
-as-index-requires-2 c κs = search needs
-
-add-steps : tie.Need-add-steps Inv-loop μ-loop
-add-steps c = search needs
 
 loop-less : tie.Need-loop-less Inv-loop μ-loop
 loop-less c =
@@ -118,32 +61,7 @@ returns-3 c =
     .from)) (l .at) (l .inv) (omega arith))
 
 pub is-used-spec : {M : Type 1} → statement M
-is-used-spec =
-    tie.close
-    (tie.spec
-    Inv-loop
-    μ-loop
-    low-bits-requires
-    add-as-index
-    mul-as-index
-    shared-slice-read-as-index
-    as-index-requires
-    loop-holds
-    sub-j
-    mul-if1
-    add-if1
-    add-if1-2
-    mul-if1-2
-    shared-slice-read-if1
-    returns
-    scanned-requires
-    returns-2
-    add-as-index-2
-    add-as-index-3
-    mul-as-index-2
-    shared-slice-read-as-index-2
-    as-index-requires-2
-    add-steps
-    loop-less
-    loop-again
-    returns-3)
+is-used-spec = tie.close (tie.spec Inv-loop μ-loop (λ c κs. search needs) (λ c. search needs) (λ c. search needs) (λ c. search needs)
+    (λ c κs. search needs) loop-holds (λ c. search needs) (λ c. search needs) (λ c. search needs) (λ c. search needs)
+    (λ c. search needs) (λ c. search needs) returns (λ c κs. search needs) (λ c. search needs) (λ c. search needs) (λ c. search needs)
+    (λ c. search needs) (λ c. search needs) (λ c κs. search needs) (λ c. search needs) loop-less loop-again returns-3)

@@ -14,24 +14,6 @@ use native.Mathlib.Omega.{arith}
 use Rattle.table.proofs.may_hold.Statement.{statement}
 use Rattle.table.proofs.may_hold.Tie as tie
 
-kind-in-requires : tie.Need-kind-in-requires
-kind-in-requires c κs = search needs
-
-mul-if1 : tie.Need-mul-if1
-mul-if1 c = search needs
-
-element-copy-out-if1 : tie.Need-element-copy-out-if1
-element-copy-out-if1 c = search needs
-
-mul-wrapping-sub-u64 : tie.Need-mul-wrapping-sub-u64
-mul-wrapping-sub-u64 c = search needs
-
-element-copy-out-wrapping-sub-u64 : tie.Need-element-copy-out-wrapping-sub-u64
-element-copy-out-wrapping-sub-u64 c = search needs
-
-wrapping-sub-u64-requires : tie.Need-wrapping-sub-u64-requires
-wrapping-sub-u64-requires c κs = search needs
-
 -- the kind of the head
 abbrev kindOf : tie.After-wrapping-sub-u64 → ℕ
 kindOf c = c .before .before .before .before .args .w .head / 2 ^ 56 % 4
@@ -75,15 +57,6 @@ returns c =
     sym (every-not 0 _ (le-ltb (d .wrapping-sub-u64 .result) (getD (d .before .before .before .before .args .senders .now) (kindOf d)
     0) (omega (arith, sender-at d, c .if1 .taken)))) ∙ tests-are d
 
-mul-if2 : tie.Need-mul-if2
-mul-if2 c = search needs
-
-element-copy-out-if2 : tie.Need-element-copy-out-if2
-element-copy-out-if2 c = search needs
-
-receiver-in-requires : tie.Need-receiver-in-requires
-receiver-in-requires c κs = search needs
-
 returns-2 : tie.Need-returns-2
 unfolding below
 returns-2 c =
@@ -124,20 +97,6 @@ returns-5 c =
     ∙ every-one _) ∙ tests-are d
 
 pub may-hold-spec : {M : Type 1} → statement M
-may-hold-spec =
-    tie.close
-    (tie.spec
-    kind-in-requires
-    mul-if1
-    element-copy-out-if1
-    mul-wrapping-sub-u64
-    element-copy-out-wrapping-sub-u64
-    wrapping-sub-u64-requires
-    returns
-    mul-if2
-    element-copy-out-if2
-    receiver-in-requires
-    returns-2
-    returns-3
-    returns-4
-    returns-5)
+may-hold-spec = tie.close (tie.spec (λ c κs. search needs) (λ c. search needs) (λ c. search needs) (λ c. search needs)
+    (λ c. search needs) (λ c κs. search needs) returns (λ c. search needs) (λ c. search needs) (λ c κs. search needs) returns-2
+    returns-3 returns-4 returns-5)

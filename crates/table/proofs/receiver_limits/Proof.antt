@@ -3,8 +3,5 @@ use borrow.Author.Needs.{needs}
 use Rattle.table.proofs.receiver_limits.Statement.{statement}
 use Rattle.table.proofs.receiver_limits.Tie as tie
 
-returns : tie.Need-returns
-returns c = search needs
-
 pub receiver-limits-spec : {M : Type 1} → statement M
-receiver-limits-spec = tie.close (tie.spec returns)
+receiver-limits-spec = tie.close (tie.spec (λ c. search needs))

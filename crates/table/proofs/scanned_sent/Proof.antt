@@ -22,20 +22,11 @@ loop-holds c =
     let z : a .n ≡ a .n - 0 = omega arith in
     (omega arith, ap (anyAt _ 0) z)
 
-sent-at-requires : tie.Need-sent-at-requires Inv-loop μ-loop
-sent-at-requires c κs = search needs
-
 returns : tie.Need-returns Inv-loop μ-loop
 returns c =
     let l = c .before .before .before .loop in
     let a = c .before .before .before .before .before .args in
     sym (l .inv .1 ∙ any-here _ (l .i) (a .n) (search needs) (sym (c .before .sent-at .ensures) ∙ c .if1 .taken))
-
-add-i : tie.Need-add-i Inv-loop μ-loop
-add-i c = search needs
-
-loop-less : tie.Need-loop-less Inv-loop μ-loop
-loop-less c = search needs
 
 loop-again : tie.Need-loop-again Inv-loop μ-loop
 loop-again c =
@@ -51,15 +42,5 @@ returns-2 c =
     sym (l .inv .1 ∙ any-end _ (l .i) (a .n) (omega arith))
 
 pub scanned-sent-spec : {M : Type 1} → statement M
-scanned-sent-spec =
-    tie.close
-    (tie.spec
-    Inv-loop
-    μ-loop
-    loop-holds
-    sent-at-requires
-    returns
-    add-i
-    loop-less
-    loop-again
-    returns-2)
+scanned-sent-spec = tie.close (tie.spec Inv-loop μ-loop loop-holds (λ c κs. search needs) returns (λ c. search needs)
+    (λ c. search needs) loop-again returns-2)

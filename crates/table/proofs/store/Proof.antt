@@ -8,24 +8,6 @@ use mathlib.Core.Path.{_∙_, ap}
 use Rattle.table.proofs.store.Statement.{statement}
 use Rattle.table.proofs.store.Tie as tie
 
-as-index-requires : tie.Need-as-index-requires
-as-index-requires c κs = search needs
-
-add-from : tie.Need-add-from
-add-from c = search needs
-
-as-index-requires-2 : tie.Need-as-index-requires-2
-as-index-requires-2 c κs = search needs
-
-add-to : tie.Need-add-to
-add-to c = search needs
-
-taken-by-requires : tie.Need-taken-by-requires
-taken-by-requires c κs = search needs
-
-given-by-requires : tie.Need-given-by-requires
-given-by-requires c κs = search needs
-
 move-amounts-requires : tie.Need-move-amounts-requires
 move-amounts-requires c κs =
     let o = c .before .before .before .before .before .before in
@@ -37,12 +19,6 @@ move-amounts-requires c κs =
           .before .as-index .ensures,
     )
     (o .pre .0, o .pre .1, o .pre .3, o .pre .4)
-
-put-words-requires : tie.Need-put-words-requires
-put-words-requires c κs = search needs
-
-same-length : tie.Need-same-length
-same-length c = search needs
 
 returns : tie.Need-returns
 unfolding stored
@@ -62,16 +38,5 @@ returns c =
     .balances) (a .r))
 
 pub store-spec : {M : Type 1} → statement M
-store-spec =
-    tie.close
-    (tie.spec
-    as-index-requires
-    add-from
-    as-index-requires-2
-    add-to
-    taken-by-requires
-    given-by-requires
-    move-amounts-requires
-    put-words-requires
-    same-length
-    returns)
+store-spec = tie.close (tie.spec (λ c κs. search needs) (λ c. search needs) (λ c κs. search needs) (λ c. search needs)
+    (λ c κs. search needs) (λ c κs. search needs) move-amounts-requires (λ c κs. search needs) (λ c. search needs) returns)

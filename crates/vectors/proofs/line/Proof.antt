@@ -10,49 +10,10 @@ use borrow.Author.Needs.{needs}
 use Rattle.vectors.proofs.line.Statement.{statement}
 use Rattle.vectors.proofs.line.Tie as tie
 
-slice-aggregate-copy : tie.Need-slice-aggregate-copy
-slice-aggregate-copy c = search needs
-
-copy-requires : tie.Need-copy-requires
-copy-requires c κs = search needs
-
-array-write-out : tie.Need-array-write-out
-array-write-out c = search needs
-
-add-from : tie.Need-add-from
-add-from c = search needs
-
-digest-requires : tie.Need-digest-requires
-digest-requires c κs = search needs
-
-hex-requires : tie.Need-hex-requires
-hex-requires c κs = search needs
-
-slice-aggregate-copy-2 : tie.Need-slice-aggregate-copy-2
-slice-aggregate-copy-2 c = search needs
-
-sub-copy : tie.Need-sub-copy
-sub-copy c = search needs
-
-part-out-start : tie.Need-part-out-start
-part-out-start c = search needs
-
 part-out-end : tie.Need-part-out-end
 part-out-end c =
     let c4 = c .before .before .before .before in
     simp length-set (omega (arith, c4 .copy .kept .1 .0))
-
-copy-requires-2 : tie.Need-copy-requires-2
-copy-requires-2 c κs = search needs
-
-add-end : tie.Need-add-end
-add-end c = search needs
-
-array-write-out-2 : tie.Need-array-write-out-2
-array-write-out-2 c = search needs
-
-add-all : tie.Need-add-all
-add-all c = search needs
 
 -- the line of 82 bytes, with ys in it from index n + 1 on, keeps its length
 out-length :
@@ -73,31 +34,8 @@ array-share-prefix-out c =
 slice-aggregate-write-all : tie.Need-slice-aggregate-write-all
 slice-aggregate-write-all c = sym (length-take-le _ _ (array-share-prefix-out (c .before)))
 
-write-all-requires : tie.Need-write-all-requires
-write-all-requires c κs = search needs
-
-returns : tie.Need-returns
-returns c = search needs
-
 pub line-spec : {M : Type 1} → statement M
-line-spec =
-    tie.close
-    (tie.spec
-    slice-aggregate-copy
-    copy-requires
-    array-write-out
-    add-from
-    digest-requires
-    hex-requires
-    slice-aggregate-copy-2
-    sub-copy
-    part-out-start
-    part-out-end
-    copy-requires-2
-    add-end
-    array-write-out-2
-    add-all
-    array-share-prefix-out
-    slice-aggregate-write-all
-    write-all-requires
-    returns)
+line-spec = tie.close (tie.spec (λ c. search needs) (λ c κs. search needs) (λ c. search needs) (λ c. search needs)
+    (λ c κs. search needs) (λ c κs. search needs) (λ c. search needs) (λ c. search needs) (λ c. search needs) part-out-end
+    (λ c κs. search needs) (λ c. search needs) (λ c. search needs) (λ c. search needs) array-share-prefix-out slice-aggregate-write-all
+    (λ c κs. search needs) (λ c. search needs))

@@ -6,18 +6,8 @@ use borrow.Author.Needs.{needs}
 use Rattle.vectors.proofs.million.Statement.{statement}
 use Rattle.vectors.proofs.million.Tie as tie
 
-slice-aggregate-line : tie.Need-slice-aggregate-line
-slice-aggregate-line c = search needs
-
 slice-aggregate-line-2 : tie.Need-slice-aggregate-line-2
 slice-aggregate-line-2 c = sym (length-replicate {A = ℕ} 1000000 97)
 
-line-requires : tie.Need-line-requires
-line-requires c κs = search needs
-
-returns : tie.Need-returns
-returns c = search needs
-
 pub million-spec : {M : Type 1} → statement M
-million-spec =
-    tie.close (tie.spec slice-aggregate-line slice-aggregate-line-2 line-requires returns)
+million-spec = tie.close (tie.spec (λ c. search needs) slice-aggregate-line-2 (λ c κs. search needs) (λ c. search needs))

@@ -6,18 +6,6 @@ use Rattle.wire.specs.BigEndian.{value}
 use Rattle.exact_sums.proofs.Wide.add.Statement.{statement}
 use Rattle.exact_sums.proofs.Wide.add.Tie as tie
 
-add-add-half : tie.Need-add-add-half
-add-add-half c = search needs
-
-sub-add-half : tie.Need-sub-add-half
-sub-add-half c = search needs
-
-sub-add-half-2 : tie.Need-sub-add-half-2
-sub-add-half-2 c = search needs
-
-add-half-requires : tie.Need-add-half-requires
-add-half-requires c κs = search needs
-
 returns : tie.Need-returns
 returns c =
     let a = c .before .before .before .args in
@@ -28,20 +16,6 @@ returns c =
       high-most = omega (arith, e .high-most);
     }
 
-add-half-requires-2 : tie.Need-add-half-requires-2
-add-half-requires-2 c κs = search needs
-
-returns-2 : tie.Need-returns-2
-returns-2 c = search needs
-
 pub add-spec : {M : Type 1} → statement M
-add-spec =
-    tie.close
-    (tie.spec
-    add-add-half
-    sub-add-half
-    sub-add-half-2
-    add-half-requires
-    returns
-    add-half-requires-2
-    returns-2)
+add-spec = tie.close (tie.spec (λ c. search needs) (λ c. search needs) (λ c. search needs) (λ c κs. search needs) returns
+    (λ c κs. search needs) (λ c. search needs))

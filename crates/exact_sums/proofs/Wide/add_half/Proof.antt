@@ -6,18 +6,6 @@ use Rattle.wire.specs.BigEndian.{value}
 use Rattle.exact_sums.proofs.Wide.add_half.Statement.{statement}
 use Rattle.exact_sums.proofs.Wide.add_half.Tie as tie
 
-add-sum : tie.Need-add-sum
-add-sum c = search needs
-
-add-t5 : tie.Need-add-t5
-add-t5 c = search needs
-
-sub-t6 : tie.Need-sub-t6
-sub-t6 c = search needs
-
-sub-t7 : tie.Need-sub-t7
-sub-t7 c = search needs
-
 returns : tie.Need-returns
 returns c =
     let a = c .before .before .before .args in
@@ -29,4 +17,4 @@ returns-2 c =
     record { value = wide-low (a .self .high) (a .self .low) (a .x); low-fits = omega arith; high-most = omega arith }
 
 pub add-half-spec : {M : Type 1} → statement M
-add-half-spec = tie.close (tie.spec add-sum add-t5 sub-t6 sub-t7 returns returns-2)
+add-half-spec = tie.close (tie.spec (λ c. search needs) (λ c. search needs) (λ c. search needs) (λ c. search needs) returns returns-2)

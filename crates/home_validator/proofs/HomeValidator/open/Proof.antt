@@ -15,9 +15,6 @@ use native.Mathlib.Omega.{arith}
 use Rattle.home_validator.proofs.HomeValidator.open.Statement.{statement}
 use Rattle.home_validator.proofs.HomeValidator.open.Tie as tie
 
-home-opening-requires : tie.Need-home-opening-requires
-home-opening-requires c κs = search needs
-
 -- home's balances
 abbrev homesAt : tie.After-home-opening → List ℕ
 homesAt c = c .before .before .args .balances .now
@@ -38,9 +35,6 @@ returns c =
     let n : homeOpeningRefusal (homesAt c2) (farsAt c2) (farTotalAt c2) ≡ 0 → ⊥ = λ z. c .if1 .taken (e ∙ z) in
     (ap (λ (m : ℕ). Refused m 0) e ∙ answer-refused _ 0 n, instead-refused _ _ _ n)
 
-slice-aggregate-copy-numbers : tie.Need-slice-aggregate-copy-numbers
-slice-aggregate-copy-numbers c = search needs
-
 -- the opening is accepted
 none-at : (c : tie.Else1)
     → homeOpeningRefusal (homesAt (c .before .before)) (farsAt (c .before .before)) (farTotalAt (c .before .before)) ≡ 0
@@ -52,18 +46,6 @@ fit-at c = homes-fit (homesAt (c .before .before)) (farsAt (c .before .before)) 
 
 copy-numbers-requires : tie.Need-copy-numbers-requires
 copy-numbers-requires c κs = omega (arith, fit-at (c .before))
-
-array-write-words : tie.Need-array-write-words
-array-write-words c = search needs
-
-array-write-words-2 : tie.Need-array-write-words-2
-array-write-words-2 c = search needs
-
-array-write-words-3 : tie.Need-array-write-words-3
-array-write-words-3 c = search needs
-
-array-write-words-4 : tie.Need-array-write-words-4
-array-write-words-4 c = search needs
 
 returns-2 : tie.Need-returns-2
 unfolding homeZeroWords
@@ -81,15 +63,5 @@ returns-2 c =
     rw (none-at c3) (refl, ap {B = HomeValidator} (λ (w : List ℕ). record { words = w }) e)
 
 pub open-spec : {M : Type 1} → statement M
-open-spec =
-    tie.close
-    (tie.spec
-    home-opening-requires
-    returns
-    slice-aggregate-copy-numbers
-    copy-numbers-requires
-    array-write-words
-    array-write-words-2
-    array-write-words-3
-    array-write-words-4
-    returns-2)
+open-spec = tie.close (tie.spec (λ c κs. search needs) returns (λ c. search needs) copy-numbers-requires (λ c. search needs)
+    (λ c. search needs) (λ c. search needs) (λ c. search needs) returns-2)

@@ -15,9 +15,6 @@ use native.Mathlib.Omega.{arith}
 use Rattle.pair_validator.proofs.PairValidator.open.Statement.{statement}
 use Rattle.pair_validator.proofs.PairValidator.open.Tie as tie
 
-pair-opening-requires : tie.Need-pair-opening-requires
-pair-opening-requires c κs = search needs
-
 -- home's balances
 abbrev homesAt : tie.After-pair-opening → List ℕ
 homesAt c = c .before .before .before .args .homes .now
@@ -34,9 +31,6 @@ returns c =
     let n : pairOpeningRefusal (homesAt c2) (farsAt c2) ≡ 0 → ⊥ = λ z. c .if1 .taken (e ∙ z) in
     (ap (λ (m : ℕ). Refused m 0) e ∙ answer-refused _ 0 n, instead-refused _ _ _ n)
 
-slice-aggregate-copy-numbers : tie.Need-slice-aggregate-copy-numbers
-slice-aggregate-copy-numbers c = search needs
-
 -- the opening is accepted
 none-at : (c : tie.Else1) → pairOpeningRefusal (homesAt (c .before .before)) (farsAt (c .before .before)) ≡ 0
 none-at c = sym (c .before .before .pair-opening .ensures .0) ∙ c .if1 .left
@@ -51,31 +45,10 @@ far-at c = fars-fit (homesAt (c .before .before)) (farsAt (c .before .before)) (
 copy-numbers-requires : tie.Need-copy-numbers-requires
 copy-numbers-requires c κs = omega (arith, home-at (c .before))
 
-add-copy-numbers : tie.Need-add-copy-numbers
-add-copy-numbers c = search needs
-
-slice-aggregate-copy-numbers-2 : tie.Need-slice-aggregate-copy-numbers-2
-slice-aggregate-copy-numbers-2 c = search needs
-
 copy-numbers-requires-2 : tie.Need-copy-numbers-requires-2
 copy-numbers-requires-2 c κs =
     let n : length (c .before .before .copy-numbers .last .1 .1 .0) ≡ pairWords = search needs in
     omega (arith, n, far-at (c .before .before .before .before))
-
-array-write-words : tie.Need-array-write-words
-array-write-words c = search needs
-
-array-write-words-2 : tie.Need-array-write-words-2
-array-write-words-2 c = search needs
-
-add-words : tie.Need-add-words
-add-words c = search needs
-
-mul-words : tie.Need-mul-words
-mul-words c = search needs
-
-array-write-words-3 : tie.Need-array-write-words-3
-array-write-words-3 c = search needs
 
 returns-2 : tie.Need-returns-2
 unfolding pairZeroWords
@@ -89,19 +62,6 @@ returns-2 c =
     rw (none-at c6) (refl, ap {B = PairValidator} (λ (w : List ℕ). record { words = w }) e)
 
 pub open-spec : {M : Type 1} → statement M
-open-spec =
-    tie.close
-    (tie.spec
-    pair-opening-requires
-    returns
-    slice-aggregate-copy-numbers
-    copy-numbers-requires
-    add-copy-numbers
-    slice-aggregate-copy-numbers-2
-    copy-numbers-requires-2
-    array-write-words
-    array-write-words-2
-    add-words
-    mul-words
-    array-write-words-3
-    returns-2)
+open-spec = tie.close (tie.spec (λ c κs. search needs) returns (λ c. search needs) copy-numbers-requires (λ c. search needs)
+    (λ c. search needs) copy-numbers-requires-2 (λ c. search needs) (λ c. search needs) (λ c. search needs) (λ c. search needs)
+    (λ c. search needs) returns-2)

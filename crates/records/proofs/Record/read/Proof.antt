@@ -11,12 +11,6 @@ returns : tie.Need-returns
 unfolding reading
 returns c = rw (ne-eqb (length (c .before .before .args .s .now)) 32 (c .if1 .taken))
 
-of-requires : tie.Need-of-requires
-of-requires c κs = search needs
-
-read-requires : tie.Need-read-requires
-read-requires c κs = search needs
-
 returns-2 : tie.Need-returns-2
 unfolding reading
 returns-2 c =
@@ -25,4 +19,4 @@ returns-2 c =
     rw (eq-eqb (length s) 32 (c2 .if1 .left)) (c .read .ensures ∙ ap readingWords (c .before .of .ensures))
 
 pub read-spec : {M : Type 1} → statement M
-read-spec = tie.close (tie.spec returns of-requires read-requires returns-2)
+read-spec = tie.close (tie.spec returns (λ c κs. search needs) (λ c κs. search needs) returns-2)

@@ -3,18 +3,6 @@ use borrow.Author.Needs.{needs}
 use Rattle.records.proofs.Words.of.Statement.{statement}
 use Rattle.records.proofs.Words.of.Tie as tie
 
-u64-at-requires : tie.Need-u64-at-requires
-u64-at-requires c κs = search needs
-
-u64-at-requires-2 : tie.Need-u64-at-requires-2
-u64-at-requires-2 c κs = search needs
-
-u64-at-requires-3 : tie.Need-u64-at-requires-3
-u64-at-requires-3 c κs = search needs
-
-u64-at-requires-4 : tie.Need-u64-at-requires-4
-u64-at-requires-4 c κs = search needs
-
 returns : tie.Need-returns
 returns c =
     let c1 = c .before in
@@ -29,6 +17,4 @@ returns c =
     }
 
 pub of-spec : {M : Type 1} → statement M
-of-spec =
-    tie.close
-    (tie.spec u64-at-requires u64-at-requires-2 u64-at-requires-3 u64-at-requires-4 returns)
+of-spec = tie.close (tie.spec (λ c κs. search needs) (λ c κs. search needs) (λ c κs. search needs) (λ c κs. search needs) returns)

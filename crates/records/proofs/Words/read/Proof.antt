@@ -6,12 +6,6 @@ use Rattle.records.specs.Records.{formed, readingWords}
 use Rattle.records.proofs.Words.read.Statement.{statement}
 use Rattle.records.proofs.Words.read.Tie as tie
 
-are-formed-requires : tie.Need-are-formed-requires
-are-formed-requires c κs = search needs
-
-record-in-requires : tie.Need-record-in-requires
-record-in-requires c κs = search needs
-
 returns : tie.Need-returns
 unfolding readingWords
 returns c =
@@ -25,4 +19,4 @@ returns-2 c =
     rw e
 
 pub read-spec : {M : Type 1} → statement M
-read-spec = tie.close (tie.spec are-formed-requires record-in-requires returns returns-2)
+read-spec = tie.close (tie.spec (λ c κs. search needs) (λ c κs. search needs) returns returns-2)
