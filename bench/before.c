@@ -1,0 +1,168 @@
+/* Both validators beside those of an earlier build: see bench/before. */
+#define _GNU_SOURCE
+#include <stdint.h>
+#include <stdio.h>
+#include <stdlib.h>
+#include <string.h>
+#include <time.h>
+#include "moatbetony.h"
+#include "old_moatbetony.h"
+
+#define HELD (MOATBETONY_CAPACITY - 1)
+#define RUNS 401
+enum { OLD_RECORD, RECORD, TAKE, OLD_LIST, LIST, TAKE_LIST, TIMED };
+enum { CONSECUTIVE, RANDOM, SHARED, NUMBERS };
+static const char *const names[] = {"consecutive", "random", "shared"};
+
+static double times[TIMED][RUNS];
+static uint8_t list[64 * HELD];
+static uint8_t last[32];
+static char page[1 << 20] __attribute__((aligned(4096))); /* each call hands its state back at another place */
+static size_t place;
+static uint64_t seed;
+
+static double now(void)
+{
+    struct timespec t;
+    clock_gettime(CLOCK_MONOTONIC, &t);
+    return (double)t.tv_sec * 1e9 + (double)t.tv_nsec;
+}
+
+static uint64_t mixed(uint64_t k)
+{
+    uint64_t x = k * 0x9e3779b97f4a7c15u;
+    x = (x ^ x >> 30) * 0xbf58476d1ce4e5b9u;
+    x = (x ^ x >> 27) * 0x94d049bb133111ebu;
+    return x ^ x >> 31;
+}
+
+static uint64_t below(uint64_t n) { return mixed(++seed) % n; }
+
+static uint64_t number(int kind, uint64_t i) { return kind == SHARED ? (i << 12) + 5 : kind == RANDOM ? mixed(i) : i + 1; }
+
+static void put(uint8_t *bytes, uint64_t x)
+{
+    for (int i = 0; i < 8; i++)
+        bytes[i] = (uint8_t)(x >> (56 - 8 * i));
+}
+
+static void record(uint8_t *b, int kind, int ledger, uint64_t n)
+{
+    memset(b, 0, 32);
+    b[0] = (uint8_t)kind, b[1] = (uint8_t)ledger, b[3] = (uint8_t)below(56), b[5] = (uint8_t)below(56), b[24] = 1;
+    put(b + 8, n), put(b + 16, 1 + below(1000));
+}
+
+static int compare(const void *a, const void *b)
+{
+    double x = *(const double *)a, y = *(const double *)b;
+    return (x > y) - (x < y);
+}
+
+static double median(int what)
+{
+    qsort(times[what], RUNS, sizeof(double), compare);
+    return times[what][RUNS / 2];
+}
+
+static void must(int passed)
+{
+    if (!passed)
+        exit(1);
+}
+
+#define TIME(what, count, ...)                                                                                                             \
+    do {                                                                                                                                   \
+        double began = now();                                                                                                              \
+        for (int j = 0; j < (count); j++) {                                                                                                \
+            place = (place + 272) % 4096;                                                                                                  \
+            __VA_ARGS__;                                                                                                                   \
+        }                                                                                                                                  \
+        times[what][run] = (now() - began) / (count);                                                                                      \
+    } while (0)
+
+static void print(const char *validator, int numbers, size_t records)
+{
+    double old = median(OLD_RECORD), value = median(RECORD), in_place = median(TAKE);
+    double old_list = median(OLD_LIST) / (double)records, by_list = median(LIST) / (double)records;
+    double in_place_list = median(TAKE_LIST) / (double)records;
+    printf("%s, %s: record %.0f, by value %.0f (%.2f), in place %.0f (%.2f); a list's record %.1f, by value %.1f (%.2f), in place %.1f (%.2f)\n",
+        validator, names[numbers], old, value, value / old, in_place, in_place / old, old_list, by_list, by_list / old_list, in_place_list,
+        in_place_list / old_list);
+}
+
+static void home(const uint64_t *balances, int numbers)
+{
+    static moatbetony_home_t empty, full, lent;
+    static old_moatbetony_home_t old_empty, old_full;
+    seed = (uint64_t)1 << 32;
+    for (int i = 0; i < HELD; i++)
+        record(list + 32 * i, 1 + (int)below(3), 0, number(numbers, (uint64_t)i));
+    record(last, 3, 0, number(numbers, HELD + 6));
+    empty = moatbetony_home_open(balances, 56, 56, (uint64_t)56 << 40).state;
+    old_empty = old_moatbetony_home_open(balances, 56, 56, (uint64_t)56 << 40).state;
+    full = moatbetony_home_check_list(empty, list, 32 * HELD).state;
+    old_full = old_moatbetony_home_check_list(old_empty, list, 32 * HELD).state;
+    lent = full;
+    for (int run = 0; run < RUNS; run++) {
+        TIME(OLD_RECORD, 20, old_moatbetony_home_outcome_t *o = (void *)(page + place);
+             *o = old_moatbetony_home_check_record(old_full, last, 32); must((int)o->answer.passed));
+        TIME(RECORD, 20, moatbetony_home_outcome_t *o = (void *)(page + place); *o = moatbetony_home_check_record(full, last, 32);
+             must((int)o->answer.passed));
+        TIME(TAKE, 20, must((int)moatbetony_home_take(&lent, last, 32).passed); lent.pool = full.pool; lent.count = full.count;
+             lent.balances[last[5]] = full.balances[last[5]]);
+        TIME(OLD_LIST, 2, old_moatbetony_home_outcome_t *o = (void *)(page + place);
+             *o = old_moatbetony_home_check_list(old_empty, list, 32 * HELD); must((int)o->answer.passed));
+        TIME(LIST, 2, moatbetony_home_outcome_t *o = (void *)(page + place); *o = moatbetony_home_check_list(empty, list, 32 * HELD);
+             must((int)o->answer.passed));
+        TIME(TAKE_LIST, 2, moatbetony_home_t *s = (void *)(page + place); *s = empty;
+             must((int)moatbetony_home_take_list(s, list, 32 * HELD).passed));
+    }
+    print("home", numbers, HELD);
+}
+
+static void pair(const uint64_t *balances, int numbers)
+{
+    static moatbetony_pair_t empty, full, lent;
+    static old_moatbetony_pair_t old_empty, old_full;
+    seed = (uint64_t)1 << 33;
+    for (int i = 0; i < HELD; i++) { /* a home record, and its arrival or a far local under its number */
+        uint8_t *b = list + 64 * i;
+        record(b, 1 + (int)below(2), 0, number(numbers, (uint64_t)i));
+        memcpy(b + 32, b, 32);
+        b[32] = b[0] == 2 ? 3 : 1, b[33] = 1;
+    }
+    record(last, 1, 0, number(numbers, HELD + 6));
+    empty = moatbetony_pair_open(balances, 56, balances, 56).state;
+    old_empty = old_moatbetony_pair_open(balances, 56, balances, 56).state;
+    full = moatbetony_pair_check_list(empty, list, sizeof list).state;
+    old_full = old_moatbetony_pair_check_list(old_empty, list, sizeof list).state;
+    lent = full;
+    for (int run = 0; run < RUNS; run++) {
+        TIME(OLD_RECORD, 10, old_moatbetony_pair_outcome_t *o = (void *)(page + place);
+             *o = old_moatbetony_pair_check_record(old_full, last, 32); must((int)o->answer.passed));
+        TIME(RECORD, 10, moatbetony_pair_outcome_t *o = (void *)(page + place); *o = moatbetony_pair_check_record(full, last, 32);
+             must((int)o->answer.passed));
+        TIME(TAKE, 10, must((int)moatbetony_pair_take(&lent, last, 32).passed); lent.counts[0] = full.counts[0];
+             lent.balances[0][last[3]] = full.balances[0][last[3]]; lent.balances[0][last[5]] = full.balances[0][last[5]]);
+        TIME(OLD_LIST, 1, old_moatbetony_pair_outcome_t *o = (void *)(page + place);
+             *o = old_moatbetony_pair_check_list(old_empty, list, sizeof list); must((int)o->answer.passed));
+        TIME(LIST, 1, moatbetony_pair_outcome_t *o = (void *)(page + place); *o = moatbetony_pair_check_list(empty, list, sizeof list);
+             must((int)o->answer.passed));
+        TIME(TAKE_LIST, 1, moatbetony_pair_t *s = (void *)(page + place); *s = empty;
+             must((int)moatbetony_pair_take_list(s, list, sizeof list).passed));
+    }
+    print("pair", numbers, 2 * HELD);
+}
+
+int main(void)
+{
+    uint64_t balances[56];
+    for (int i = 0; i < 56; i++)
+        balances[i] = (uint64_t)1 << 40;
+    for (int numbers = 0; numbers < NUMBERS; numbers++) {
+        home(balances, numbers);
+        pair(balances, numbers);
+    }
+    return 0;
+}
