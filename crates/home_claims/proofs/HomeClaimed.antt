@@ -12,9 +12,10 @@ use Rattle.answers.specs.Answers.{answer}
 use Rattle.answers.specs.declared.Answer.the-variants.{Passed, Refused}
 use Rattle.home_core.proofs.Accept.{length-held, sound-accepts, sound-of}
 use Rattle.home_core.proofs.Passing.{next-of}
-use Rattle.home_core.specs.Layout.{acceptsHome, poolOf}
+use Rattle.home_core.specs.Layout.{acceptsHome, homeWordsChecker, poolOf}
 use Rattle.home_validator.proofs.HomeOpened.{home-opened-sound, home-opened-view, home-zero-refused}
-use Rattle.home_claims.specs.Claims.{HomeCallsAsRules, HomeFullWhenNoneLeft, HomeListsAndRefusals, HomeOpenedAsRules}
+use Rattle.home_claims.specs.Claims.{HomeCallsAsRules, HomeFullWhenNoneLeft, HomeInPlaceAsByValue, HomeListsAndRefusals}
+use Rattle.home_claims.specs.Claims.{HomeOpenedAsRules}
 use Rattle.home_claims.specs.Claims.{HomePlacesLeft, HomeStateAnswers, HomeStateWithin, HomeStatesAnswer}
 use Rattle.home_claims.specs.Claims.{HomeStatesStayAccepted, HomeStatesWithin, HomeThreeExactly, HomeZeroRefused}
 use Rattle.home_claims.specs.Claims.{homePassedOfRun, homePlacesLeft, homeStateOfRun}
@@ -93,6 +94,14 @@ home-opened-as-rules = home-opened-view
 pub home-calls-as-rules : HomeCallsAsRules
 unfolding HomeCallsAsRules
 home-calls-as-rules s a d = let g = agrees s d a in (g .answers, g .states)
+
+-- a call in place
+pub home-in-place-as-by-value : HomeInPlaceAsByValue
+unfolding HomeInPlaceAsByValue
+home-in-place-as-by-value s d =
+    let g = agree-call homeChecker homeWordsChecker (λ (x : HomeValidator). x .words) (λ (x : HomeValidator). Unit {0}) (λ x i. refl)
+    (λ x b i. refl) (λ x b i j. (tt, refl)) s d tt in
+    (sym (g .answers), sym (g .states))
 
 -- no judgement is 3
 judge-never-3 : (s : HomeValidator) (b : List ℕ) → homeChecker .judge s b ≡ 3 → ⊥

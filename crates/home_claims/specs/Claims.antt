@@ -8,7 +8,7 @@ use mathlib.Core.Path.{_≡_}
 use lib.ListN.{length}
 use Rattle.answers.specs.Answers.{answer}
 use Rattle.answers.specs.declared.Answer.the-variants.{Passed, Refused}
-use Rattle.home_core.specs.Layout.{acceptsHome}
+use Rattle.home_core.specs.Layout.{acceptsHome, homeWordsChecker}
 use Rattle.home_figures.specs.Figures.{homeFiguresOf, homePlacesOf}
 use Rattle.home_figures.specs.declared.HomePlaces.{HomePlaces}
 use Rattle.home_validator.specs.State.{homeChecker, homeOpenedState, homeViewOfState, homeZeroState}
@@ -40,6 +40,14 @@ HomeCallsAsRules =
     (s : HomeValidator) → acceptsHome (s .words) ≡ true → (d : Call)
     → (call homeChecker s d .answer ≡ call (homeValidator capacity) (homeViewOfState s) d .answer)
     × (homeViewOfState (call homeChecker s d .state) ≡ call (homeValidator capacity) (homeViewOfState s) d .state)
+
+-- a call in place has the answer of the call by value and leaves in the words what that hands back: so what is claimed here of the calls is
+-- claimed of those in place too, alone or in any order with the others
+unfoldable pub HomeInPlaceAsByValue : Type 0
+HomeInPlaceAsByValue =
+    (s : HomeValidator) (d : Call)
+    → (call homeWordsChecker (s .words) d .answer ≡ call homeChecker s d .answer)
+    × (call homeWordsChecker (s .words) d .state ≡ call homeChecker s d .state .words)
 
 -- 3 is answered in its condition, with the state as it came, and not otherwise
 unfoldable pub HomeThreeExactly : Type 0

@@ -17,9 +17,10 @@ use Rattle.ledgers.specs.declared.Ledger.the-variants.{Far, Home}
 use Rattle.pair_core.proofs.Accept.{sound-accepts, sound-of}
 use Rattle.pair_core.proofs.Ledgers.{byte-below, length-held, state-on}
 use Rattle.pair_core.proofs.Passing.{next-of}
-use Rattle.pair_core.specs.Layout.{acceptsPair}
+use Rattle.pair_core.specs.Layout.{acceptsPair, pairWordsChecker}
 use Rattle.pair_validator.proofs.PairOpened.{pair-opened-sound, pair-opened-view, pair-zero-refused}
-use Rattle.pair_claims.specs.Claims.{PairCallsAsRules, PairFullWhenNoneLeft, PairListsAndRefusals, PairOpenedAsRules}
+use Rattle.pair_claims.specs.Claims.{PairCallsAsRules, PairFullWhenNoneLeft, PairInPlaceAsByValue, PairListsAndRefusals}
+use Rattle.pair_claims.specs.Claims.{PairOpenedAsRules}
 use Rattle.pair_claims.specs.Claims.{PairPlacesLeft, PairStateFollowsRules, PairStatesConserved, PairStatesFollowRules}
 use Rattle.pair_claims.specs.Claims.{PairStatesStayAccepted, PairThreeExactly, PairZeroRefused, leftOn, pairPassedOfRun}
 use Rattle.pair_claims.specs.Claims.{pairPlacesLeft, pairStateOfRun}
@@ -92,6 +93,14 @@ pair-opened-as-rules = pair-opened-view
 pub pair-calls-as-rules : PairCallsAsRules
 unfolding PairCallsAsRules
 pair-calls-as-rules s a d = let g = agrees s d a in (g .answers, g .states)
+
+-- a call in place
+pub pair-in-place-as-by-value : PairInPlaceAsByValue
+unfolding PairInPlaceAsByValue
+pair-in-place-as-by-value s d =
+    let g = agree-call pairChecker pairWordsChecker (λ (x : PairValidator). x .words) (λ (x : PairValidator). Unit {0}) (λ x i. refl)
+    (λ x b i. refl) (λ x b i j. (tt, refl)) s d tt in
+    (sym (g .answers), sym (g .states))
 
 -- no judgement is 3
 judge-never-3 : (s : PairValidator) (b : List ℕ) → pairChecker .judge s b ≡ 3 → ⊥

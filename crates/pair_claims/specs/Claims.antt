@@ -12,7 +12,7 @@ use Rattle.ledgers.specs.Ledgers.{ledgerOf}
 use Rattle.ledgers.specs.Limits.{capacity}
 use Rattle.ledgers.specs.declared.Ledger.{Ledger}
 use Rattle.ledgers.specs.declared.Ledger.the-variants.{Far, Home}
-use Rattle.pair_core.specs.Layout.{acceptsPair}
+use Rattle.pair_core.specs.Layout.{acceptsPair, pairWordsChecker}
 use Rattle.pair_figures.specs.Figures.{pairFiguresOf, pairPlacesOf}
 use Rattle.pair_figures.specs.declared.PairPlaces.{PairPlaces}
 use Rattle.pair_validator.specs.State.{pairChecker, pairOpenedState, pairViewOfState, pairZeroState}
@@ -39,6 +39,14 @@ PairCallsAsRules =
     (s : PairValidator) → acceptsPair (s .words) ≡ true → (d : Call)
     → (call pairChecker s d .answer ≡ call (pairValidator capacity) (pairViewOfState s) d .answer)
     × (pairViewOfState (call pairChecker s d .state) ≡ call (pairValidator capacity) (pairViewOfState s) d .state)
+
+-- a call in place has the answer of the call by value and leaves in the words what that hands back: so what is claimed here of the calls is
+-- claimed of those in place too, alone or in any order with the others
+unfoldable pub PairInPlaceAsByValue : Type 0
+PairInPlaceAsByValue =
+    (s : PairValidator) (d : Call)
+    → (call pairWordsChecker (s .words) d .answer ≡ call pairChecker s d .answer)
+    × (call pairWordsChecker (s .words) d .state ≡ call pairChecker s d .state .words)
 
 -- 3 is answered in its condition, with the state as it came, and not otherwise
 unfoldable pub PairThreeExactly : Type 0
