@@ -1,5 +1,3 @@
 -- Proofs of a listing's functions. Assumes nothing.
 
-pub mod Blocks
-pub mod Chunks
-pub mod Records
+pub mod Listed

@@ -4,7 +4,7 @@ use mathlib.Core.Bool.{Bool, cond, false, true}
 use mathlib.Core.Path.{_≡_, refl}
 use native.Mathlib.Omega.{arith}
 use Rattle.ledgers.specs.Limits.{maxAmount}
-use Rattle.exact_sums.specs.Sums.{Added, wide}
+use Rattle.exact_sums.specs.Sums.{Added, Halves, wide}
 use Rattle.exact_sums.specs.declared.Wide.{Wide}
 
 -- ## Two limbs and the number that they stand for
@@ -72,12 +72,6 @@ added-value a = omega (arith, a .value, wide-zero)
 
 -- ## Two sums of halves
 
--- the high and the low sum of the halves, by 2^32, of k numbers whose sum is s
-pub record Halves (s k high low : ℕ) : Type 0 where
-  pub value : high * 2 ^ 32 + low ≡ s
-  pub high-most : high ≤ k * (2 ^ 32 - 1)
-  pub low-most : low ≤ k * (2 ^ 32 - 1)
-
 -- no number
 pub halves-none : (s k : ℕ) → s ≡ 0 → Halves s k 0 0
 halves-none s k e = record { value = omega (arith, e); high-most = omega arith; low-most = omega arith }
@@ -118,6 +112,16 @@ pub halves-more : (s k high low a t m : ℕ) → Halves s k high low → a < 2 ^
     → Halves t m (high + a / 2 ^ 32) (low + a % 2 ^ 32)
 halves-more s k high low a t m h p u v =
     with-halves s k high low a (a / 2 ^ 32) (a % 2 ^ 32) t m h (halves-of a) (half-high a p) (half-low a) u v
+
+-- those of other numbers too
+pub halves-both : {s k high low t m above below : ℕ} → Halves s k high low → Halves t m above below
+    → Halves (s + t) (k + m) (high + above) (low + below)
+halves-both {s} {k} {high} {low} {t} {m} {above} {below} a b =
+    record {
+      value = omega (arith, a .value, b .value);
+      high-most = omega (arith, a .high-most, b .high-most);
+      low-most = omega (arith, a .low-most, b .low-most);
+    }
 
 -- a number that is counted or not
 pub counted-most : (t : Bool) (x y : ℕ) → x < y → cond t x 0 < y

@@ -1,6 +1,6 @@
 // Sums of amounts and balances that may pass 64 bits, exact whatever the numbers are. The numbers stand at n places from a place
 // `from` on.
-ghost use Prim.Native.Nat.{ℕ, _+_, _*_, _^_, _<_, _≤_};
+ghost use Prim.Native.Nat.{ℕ, _+_, _*_, _/_, _%_, _^_, _<_, _≤_};
 ghost use mathlib.Core.Path.{_≡_};
 ghost use lib.ListN.{length, getD};
 ghost use Rattle.exact_sums.specs.Sums.{Added, wide};
@@ -66,10 +66,29 @@ impl Wide {
     }
 }
 
+// Two sums of the halves of numbers, by 2^32.
+pub struct Halved {
+    pub high: u64,
+    pub low: u64,
+}
+
+impl Halved {
+    // One number more.
+    pub fn add(self, x: u64) -> Halved
+        requires { ⌜ (self .high < 2 ^ 63) × (self .low < 2 ^ 63) ⌝ }
+        ensures { λ r. ⌜ (r .high ≡ self .high + x / 2 ^ 32) × (r .low ≡ self .low + x % 2 ^ 32) ⌝ }
+    {
+        Halved {
+            high: self.high + x / HALF,
+            low: self.low + x % HALF,
+        }
+    }
+}
+
 // What was sent and what was received.
 pub struct Flows {
-    pub sent: Wide,
-    pub received: Wide,
+    pub sent: Halved,
+    pub received: Halved,
 }
 
 // The balances added.

@@ -2,7 +2,7 @@
 use Prim.Native.Nat.{ℕ}
 use mathlib.Core.Bool.{Bool, false, true}
 use mathlib.Core.List.{List}
-use mathlib.Core.Path.{_∙_, _≡_, ap, refl, sym}
+use mathlib.Core.Path.{_∙_, _≡_, refl, sym}
 use lib.Dec.{leb}
 use Rattle.answers.proofs.Answers.{refuse-later}
 use Rattle.answers.specs.Answers.{orElse, refuse}
@@ -20,7 +20,7 @@ use Rattle.rules.specs.PairValidator.{roomRefusal}
 use Rattle.rules.specs.Rules.{firstRefusal, isReceiving}
 use Rattle.table.proofs.Numbers.{clash-records}
 use Rattle.table.specs.Table.{ledgerIn, numberedAt}
-use Rattle.table_laws.proofs.Judged.{first-else, funds-at}
+use Rattle.table_laws.proofs.Judged.{funds-at, judged-by}
 use Rattle.tables.specs.Columns.{firstBy, fundsAt}
 use Rattle.tables.specs.Places.{anyAt}
 
@@ -38,34 +38,18 @@ module _ (s : List ℕ) (r : Record) where
   last-paid (Sending l) h = sym (funds-at s balancesFrom (homesOf s) r)
   last-paid (Receiving l) h = absurd (never-both-tests h)
 
-  -- 41
-  room-of : roomRefusal capacity (homeViewOf s .home .passed) ≡ refuse (leb capacity (countOf s)) 41 0
-  unfolding roomRefusal
-  room-of = rw (length-held s)
-
-  -- 22, 23 and 24, and those after them
-  first-of : (later : ℕ) → firstRefusal (homeAccounts (homeViewOf s)) (homeViewOf s .home .passed) r later
-      ≡ firstBy (homeAccounts (homeViewOf s) (senderLedger (r .kind))) (homeAccounts (homeViewOf s) (receiverLedger (r .kind))) r
-      (anyAt (numberedAt (r .number) s 0) 0 (countOf s)) later
-  unfolding firstRefusal firstBy ledgerIn
-  first-of later = rw (clash-records s 0 r (countOf s))
-
   -- the refusals in order are the home validator's
-  pub judge-by : (far senders receivers last full later : ℕ) (taken : Bool) (rest n : ℕ)
-      → far ≡ refuse (isFar (ledgerOf (r .kind))) 33 0
+  pub judge-by : {far senders receivers last full later rest n : ℕ} {taken : Bool} → far ≡ refuse (isFar (ledgerOf (r .kind))) 33 0
       → senders ≡ homeAccounts (homeViewOf s) (senderLedger (r .kind))
       → receivers ≡ homeAccounts (homeViewOf s) (receiverLedger (r .kind))
       → last ≡ homeLastRefusal (homeViewOf s) r (r .kind) → full ≡ refuse (leb capacity (countOf s)) 41 0 → later ≡ orElse last full
       → taken ≡ anyAt (numberedAt (r .number) s 0) 0 (countOf s) → rest ≡ firstBy senders receivers r taken later
       → n ≡ orElse far rest → n ≡ homeJudge capacity (homeViewOf s) (Read r)
-  unfolding homeJudgeRecord
-  judge-by far senders receivers last full later taken rest n ef es ev el eu ea et er h =
+  unfolding homeJudgeRecord roomRefusal ledgerIn
+  judge-by ef es ev el eu ea et er h =
       let v = homeViewOf s in
       let x = homeLastRefusal v r (r .kind) in
-      let y = roomRefusal capacity (v .home .passed) in
-      let e : rest ≡ firstRefusal (homeAccounts v) (v .home .passed) r (orElse x y) =
-      rw (er, et, ea, el, eu, es, ev, room-of) (sym (first-of (orElse x (refuse (leb capacity (countOf s)) 41 0)))) in
+      let e = judged-by (homeAccounts v) (v .home .passed) r x es ev el (rw (length-held s) eu) ea (rw (clash-records s 0 r (countOf s)) et) er in
       h
-      ∙ rw ef (refuse-later (isFar (ledgerOf (r .kind))) 32 0 rest)
-      ∙ ap (refuse (isFar (ledgerOf (r .kind))) 33) (e ∙ sym (first-else (homeAccounts v) (v .home .passed) r x y))
-      ∙ sym (refuse-later (isFar (ledgerOf (r .kind))) 32 (firstRefusal (homeAccounts v) (v .home .passed) r x) y)
+      ∙ rw (ef, e) (refuse-later (isFar (ledgerOf (r .kind))) 32 0 _)
+      ∙ sym (refuse-later (isFar (ledgerOf (r .kind))) 32 (firstRefusal (homeAccounts v) (v .home .passed) r x) _)

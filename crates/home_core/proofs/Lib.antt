@@ -2,5 +2,6 @@
 
 pub mod Accept
 pub mod Judging
+pub mod Opened
 pub mod Passing
 pub mod Stepping

@@ -17,7 +17,8 @@ use Rattle.ledgers.specs.Limits.{accountLimit, capacity, maxAmount}
 use Rattle.ledgers.specs.declared.Kind.{Kind}
 use Rattle.ledgers.specs.declared.Kind.the-variants.{Local, Receiving, Sending}
 use Rattle.ledgers.specs.declared.Ledger.the-variants.{Far, Home}
-use Rattle.records.specs.Records.{formed, reading, recordIn}
+use Rattle.records.proofs.Formed.{read-formed}
+use Rattle.records.specs.Records.{formed, reading, recordIn, wordsOf}
 use Rattle.records.specs.declared.Reading.the-variants.{Read}
 use Rattle.records.specs.declared.Record.{Record}
 use Rattle.records.specs.declared.Words.{Words}
@@ -49,73 +50,51 @@ module _ (s : List ℕ) (o : HomeSound s) where
 
 -- ## A pass
 
--- what a pass says of a record
-pub record HomePasses (s : List ℕ) (r : Record) : Type 0 where
+-- what a pass says of a record of a kind
+pub record HomePasses (s : List ℕ) (r : Record) (k : Kind) : Type 0 where
   pub room : countOf s < capacity
-  pub changes : Changes (homesOf s) r (r .kind)
+  pub changes : Changes (homesOf s) r k
   pub sender : r .sender < accountLimit
   pub receiver : r .receiver < accountLimit
-  pub pays : takenBy (r .kind) (r .amount) ≤ getD s (balancesFrom + r .sender) 0
-  pub pool-has : givenBy (r .kind) (r .amount) ≤ poolOf s + takenBy (r .kind) (r .amount)
-  pub pool-fits : poolOf s + takenBy (r .kind) (r .amount) ≤ maxAmount
+  pub pays : takenBy k (r .amount) ≤ getD s (balancesFrom + r .sender) 0
+  pub pool-has : givenBy k (r .amount) ≤ poolOf s + takenBy k (r .amount)
+  pub pool-fits : poolOf s + takenBy k (r .amount) ≤ maxAmount
 
 module _ (s : List ℕ) (o : HomeSound s) (r : Record) (space : countOf s < capacity) where
   -- the rules count as many accounts
   own : length (homeViewOf s .home .balances) ≡ homesOf s
   own = length-balances s (o .long) (o .bounds .home-fits)
 
+  -- the sender's balance, as the rules have it, is within the total
+  pays-by : r .sender < homesOf s → (getD s (balancesFrom + r .sender) 0 ≡ getD (homeViewOf s .home .balances) (r .sender) 0)
+      × (getD (homeViewOf s .home .balances) (r .sender) 0 ≤ total (homeViewOf s .home .balances))
+  pays-by x = (balance-in s balancesFrom (homesOf s) 0 (countOf s) (r .sender) x, balance-total (homeViewOf s .home .balances) (r .sender))
+
   -- from what the rules ask
-  passes-by : (k : Kind) → r .kind ≡ k → HomePassable (homeViewOf s) r k → HomePasses s r
+  passes-by : (k : Kind) → HomePassable (homeViewOf s) r k → HomePasses s r k
   unfolding HomePassable Changes
-  passes-by (Local Home) q h =
+  passes-by (Local Home) h =
       let x : r .sender < homesOf s = rw own at (h .0 .sender-open) in
-      let y : r .receiver < homesOf s = rw own at (h .0 .receiver-open) in
-      let b = balance-total (homeViewOf s .home .balances) (r .sender) in
-      record {
-        room = space;
-        changes = rw q (x, y);
-        sender = omega (arith, o .bounds .home-fits);
-        receiver = omega (arith, o .bounds .home-fits);
-        pays = rw q (omega (arith, h .1, balance-in s balancesFrom (homesOf s) 0 (countOf s) (r .sender) x));
-        pool-has = rw q (omega arith);
-        pool-fits = rw q (omega (arith, h .1, b, sums-fit s o));
-      }
-  passes-by (Sending Home) q h =
+      omega (arith, h .0 .receiver-open, own, o .bounds .home-fits, h .1, pays-by x, sums-fit s o)
+  passes-by (Sending Home) h =
       let x : r .sender < homesOf s = rw own at (h .0 .sender-open) in
-      let b = balance-total (homeViewOf s .home .balances) (r .sender) in
-      record {
-        room = space;
-        changes = rw q x;
-        sender = omega (arith, o .bounds .home-fits);
-        receiver = omega (arith, h .0 .receiver-open, o .bounds .far-fits);
-        pays = rw q (omega (arith, h .1, balance-in s balancesFrom (homesOf s) 0 (countOf s) (r .sender) x));
-        pool-has = rw q (omega arith);
-        pool-fits = rw q (omega (arith, h .1, b, sums-fit s o));
-      }
-  passes-by (Receiving Home) q h =
-      let y : r .receiver < homesOf s = rw own at (h .0 .receiver-open) in
-      record {
-        room = space;
-        changes = rw q y;
-        sender = omega (arith, h .0 .sender-open, o .bounds .far-fits);
-        receiver = omega (arith, o .bounds .home-fits);
-        pays = rw q (omega arith);
-        pool-has = rw q (omega (arith, h .1));
-        pool-fits = rw q (omega (arith, sums-fit s o));
-      }
-  passes-by (Local Far) q h = absurd h
-  passes-by (Sending Far) q h = absurd h
-  passes-by (Receiving Far) q h = absurd h
+      omega (arith, h .0 .receiver-open, o .bounds .home-fits, o .bounds .far-fits, h .1, pays-by x, sums-fit s o)
+  passes-by (Receiving Home) h =
+      omega (arith, h .0 .sender-open, h .0 .receiver-open, own, o .bounds .home-fits, o .bounds .far-fits, h .1, sums-fit s o)
+  passes-by (Local Far) h = absurd h
+  passes-by (Sending Far) h = absurd h
+  passes-by (Receiving Far) h = absurd h
 
 -- a record without a refusal passes
-pub passes-of : (s : List ℕ) → HomeSound s → (r : Record) → homeJudge capacity (homeViewOf s) (Read r) ≡ 0 → HomePasses s r
+pub passes-of : (s : List ℕ) → HomeSound s → (r : Record) → homeJudge capacity (homeViewOf s) (Read r) ≡ 0
+    → HomePasses s r (r .kind)
 passes-of s o r j =
     let a = or-else-zero (homeJudgeRecord (homeViewOf s) r) _ j in
     let m = room-none capacity _ (a .1) in
-    passes-by s o r (rw (length-held s) at m) (r .kind) refl (home-judge-none (homeViewOf s) r (r .kind) refl (a .0))
+    passes-by s o r (rw (length-held s) at m) (r .kind) (home-judge-none (homeViewOf s) r (r .kind) refl (a .0))
 
 -- what is given to an account stays in 64 bits
-pub paid-fits : (s : List ℕ) → HomeSound s → (r : Record) → HomePasses s r → r .amount ≤ maxAmount
+pub paid-fits : (s : List ℕ) → HomeSound s → (r : Record) → HomePasses s r (r .kind) → r .amount ≤ maxAmount
     → getD (lowered s (balancesFrom + r .sender) (takenBy (r .kind) (r .amount))) (balancesFrom + r .receiver) 0
     + givenBy (r .kind) (r .amount) < 2 ^ 64
 paid-fits s o r p m =
@@ -144,7 +123,7 @@ pub record HomeWritten (s t : List ℕ) (w : Words) (r : Record) : Type 0 where
 set-two : (x : List ℕ) (j k a b i : ℕ) → (i ≡ j → ⊥) → (i ≡ k → ⊥) → getD (set (set x j a) k b) i 0 ≡ getD x i 0
 set-two x j k a b i p q = getD-set-other (set x j a) k i b 0 q ∙ getD-set-other x j i a 0 p
 
-module _ (s : List ℕ) (w : Words) (r : Record) (o : HomeSound s) (p : HomePasses s r) where
+module _ (s : List ℕ) (w : Words) (r : Record) (o : HomeSound s) (p : HomePasses s r (r .kind)) where
   -- the words after the store
   abbrev after : List ℕ
   after = stored s balancesFrom (4 * countOf s) w r
@@ -184,7 +163,7 @@ module _ (s : List ℕ) (w : Words) (r : Record) (o : HomeSound s) (p : HomePass
             (omega (arith, length-set after poolWord x, is-stored .long, o .long));
       }
 
-module _ (s t : List ℕ) (w : Words) (r : Record) (o : HomeSound s) (p : HomePasses s r) (c : HomeWritten s t w r)
+module _ (s t : List ℕ) (w : Words) (r : Record) (o : HomeSound s) (p : HomePasses s r (r .kind)) (c : HomeWritten s t w r)
     (e : recordIn w ≡ r) where
   -- the ledger
   ledger-after : LedgerStored s t balancesFrom (homesOf s) 0 (countOf s) supplyWord w r
@@ -203,16 +182,7 @@ module _ (s t : List ℕ) (w : Words) (r : Record) (o : HomeSound s) (p : HomePa
 
   -- the bounds
   bounds-after : HomeBounds t
-  bounds-after =
-      let b = o .bounds in
-      record {
-        home-some = rw (c .homes) (b .home-some);
-        home-fits = rw (c .homes) (b .home-fits);
-        far-some = rw (c .fars) (b .far-some);
-        far-fits = rw (c .fars) (b .far-fits);
-        room = omega (arith, c .count, p .room);
-        supply-fits = rw (c .supply) (b .supply-fits);
-      }
+  bounds-after = omega (arith, c .homes, c .fars, c .count, c .supply, p .room, o .bounds)
 
   -- balances beyond the accounts stay zero
   zeros-after : zerosAt t (balancesFrom + homesOf t) (accountLimit - homesOf t) ≡ true
@@ -260,9 +230,11 @@ pub record HomeNext (s : List ℕ) (w : Words) (r : Record) : Type 0 where
   pub ready : (index : List ℕ) → HomeReady s index → HomeReady (homeWith s w r) (grown index 0 (countOf s) (r .number))
 
 -- bytes that pass
-pub next-of : (s : List ℕ) → acceptsHome s ≡ true → (b : List ℕ) (w : Words) (r : Record) → formed w ≡ true → recordIn w ≡ r
-    → reading b ≡ Read r → homeJudge capacity (homeViewOf s) (Read r) ≡ 0 → HomeNext s w r
-next-of s h b w r f e q j =
+pub next-of : (s : List ℕ) → acceptsHome s ≡ true → (b : List ℕ) (r : Record) → reading b ≡ Read r
+    → homeJudge capacity (homeViewOf s) (Read r) ≡ 0 → HomeNext s (wordsOf b) r
+next-of s h b r q j =
+    let w = wordsOf b in
+    let f = read-formed b r q in
     let o = sound-of s h in
     let p = passes-of s o r j in
     let c = written s w r o p in
@@ -270,7 +242,7 @@ next-of s h b w r f e q j =
     let a : homeAccepts capacity (homeAfter (homeViewOf s) (Read r)) ≡ true =
     rw q at (home-step capacity (homeViewOf s) b (o .accepted) k) in
     record {
-      accepted = accepted-after s (homeWith s w r) w r o p c e f a;
-      view = view-after s (homeWith s w r) w r o p c e;
-      ready = λ index d. ready-after s (homeWith s w r) w r o p c e index d f a;
+      accepted = accepted-after s (homeWith s w r) w r o p c (f .2) (f .1) a;
+      view = view-after s (homeWith s w r) w r o p c (f .2);
+      ready = λ index d. ready-after s (homeWith s w r) w r o p c (f .2) index d (f .1) a;
     }

@@ -1,22 +1,24 @@
 // The home validator (document 01: guard) over the words of its state, in place: whether a state is accepted, a record judged, a passed
-// record stored, and the calls with one record and with a list.
+// record stored, the opening, and the calls with one record and with a list.
 ghost use Prim.Native.Nat.{ℕ, _+_};
 ghost use mathlib.Core.Bool.{true};
 ghost use mathlib.Core.Path.{_≡_};
 ghost use lib.Dec.{eqb};
 ghost use lib.ListN.{getD, length};
 ghost use Rattle.home_core.specs.Layout.{HomeReady, acceptsHome, balancesFrom, homeBounds, homeViewOf, homeWith, homeWords};
-ghost use Rattle.home_core.specs.Layout.{homeWordsChecker, homesOf, indexLength, poolOf, supplyOf};
+ghost use Rattle.answers.specs.Answers.{unlessRefused};
+ghost use Rattle.home_core.specs.Layout.{homeOpenedWords, homeWordsChecker, homeZeroWords, homesOf, indexLength, poolOf, supplyOf};
 ghost use Rattle.ledgers.specs.Limits.{capacity};
 ghost use Rattle.records.specs.Records.{formed, recordIn};
 ghost use Rattle.records.specs.declared.Reading.the-variants.{Read};
 ghost use Rattle.rules.specs.Calls.{call, callOne, list, one};
-ghost use Rattle.rules.specs.HomeValidator.{homeAccounts, homeJudge, homeLastRefusal, isFar, poolRefusal};
+ghost use Rattle.rules.specs.HomeValidator.{homeAccounts, homeJudge, homeLastRefusal, homeOpeningRefusal, isFar, poolRefusal};
 ghost use Rattle.table.specs.Table.{IndexOf};
 ghost use Rattle.tables.specs.Places.{sumAt};
 use answers::Answer;
 use answers::first_refusal;
 use answers::refusal_if;
+use entries::copy_numbers;
 use entries::given_by;
 use entries::is_count_allowed;
 use entries::is_receiving;
@@ -26,6 +28,7 @@ use exact_sums::add_balances;
 use inputs::part_end;
 use ledgers::Ledger;
 use number_index::CHAINS;
+use openings::home_opening;
 use record_refusals::first_refusals;
 use record_refusals::funds_refusal;
 use records::Reading;
@@ -197,6 +200,32 @@ fn pass(state: &mut [u64; WORDS], w: Words, r: Record)
     store(state, BALANCES, 4 * count as usize, w, r);
     state[POOL] = pool + taken_by(kind, r.amount) - given_by(kind, r.amount); // a sending enters it, an arrival leaves it
     state[COUNT] = count + 1;
+}
+
+// ## The opening
+
+// An opening with the home balances, the number of far accounts and the far total, in words of zeros: 1 or 2, and no word is stored, or 0.
+pub fn open<'a, 'b>(
+    balances: &'a [u64],
+    far_accounts: usize,
+    far_total: u64,
+    state: &'b mut [u64; WORDS],
+) -> u32
+    requires { ⌜ now state ≡ homeZeroWords ⌝ }
+    ensures answers { λ n. ⌜ n ≡ homeOpeningRefusal (now (balances .entry)) «far_accounts» «far_total» ⌝ }
+    ensures leaves { λ n. ⌜ now (state .exit) ≡ unlessRefused (homeOpeningRefusal (now (balances .entry)) «far_accounts» «far_total»)
+        (homeOpenedWords (now (balances .entry)) «far_accounts» «far_total») homeZeroWords ⌝ }
+{
+    let opening = home_opening(balances, far_accounts, far_total);
+    if opening.refusal != 0 {
+        return opening.refusal;
+    }
+    copy_numbers(balances, BALANCES, state);
+    state[SUPPLY] = opening.supply;
+    state[POOL] = far_total;
+    state[HOMES] = balances.len() as u64;
+    state[FARS] = far_accounts as u64;
+    0
 }
 
 // ## The calls

@@ -8,16 +8,9 @@ ghost use Rattle.home_validator.specs.State.{homeChecker, homeOpenedStat
 ghost use Rattle.rules.specs.Calls.{call, one, list};
 ghost use Rattle.rules.specs.HomeValidator.{homeOpeningRefusal};
 use answers::Answer;
-use entries::copy_numbers;
-use home_core::BALANCES;
-use home_core::FARS;
-use home_core::HOMES;
-use home_core::POOL;
-use home_core::SUPPLY;
 use home_core::WORDS;
 use home_core::take;
 use home_core::take_list;
-use openings::home_opening;
 
 // The state: the held records, the balances, and the numbers that home_core lays out after them. Words of records at or beyond the count
 // are not looked at, and only a passed record writes there.
@@ -41,23 +34,9 @@ impl HomeValidator {
             (homeOpenedState (now (balances .entry)) «far_accounts» «far_total») homeZeroState ⌝ }
     {
         let mut words = [0u64; WORDS];
-        let opening = home_opening(balances, far_accounts, far_total);
-        if opening.refusal != 0 {
-            return HomeOutcome {
-                answer: Answer::Refused {
-                    number: opening.refusal,
-                    place: 0,
-                },
-                state: HomeValidator { words },
-            };
-        }
-        copy_numbers(balances, BALANCES, &mut words);
-        words[SUPPLY] = opening.supply;
-        words[POOL] = far_total;
-        words[HOMES] = balances.len() as u64;
-        words[FARS] = far_accounts as u64;
+        let number = home_core::open(balances, far_accounts, far_total, &mut words);
         HomeOutcome {
-            answer: Answer::Passed,
+            answer: Answer::new(number, 0),
             state: HomeValidator { words },
         }
     }

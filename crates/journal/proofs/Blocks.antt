@@ -7,11 +7,11 @@ use native.Mathlib.Omega.{arith}
 use native.Mathlib.Nat.{mul-mod-left}
 use lib.Dec.{leb}
 use lib.ListN.{length, take, drop, replicate, length-append, length-drop, length-replicate, take-append-drop}
-use lib.Seq.{drop-drop, length-take-le, take-at, drop-at}
+use lib.Seq.{drop-append-seam, drop-drop, length-take-le, take-at, drop-at}
 use Rattle.answers.specs.Answers.{unlessRefused}
 use Rattle.block_format.proofs.Forming.{FormedBlock, formed-block-facts, facts-formed-block}
-use Rattle.block_format.proofs.Sizes.{items-room, kind-byte, limit-byte, count-back}
-use Rattle.block_format.specs.Blocks.{maxBlock, recordsPerBlock, blockNumber, blockKind, statedCount, kindOfBlock, itemSize, itemLimit}
+use Rattle.block_format.proofs.Sizes.{items-room, block-bounds, count-back}
+use Rattle.block_format.specs.Blocks.{maxBlock, recordsPerBlock, blockKind, statedCount, kindOfBlock, itemSize, itemLimit}
 use Rattle.block_checks.proofs.Checking.{Right, not-refused}
 use Rattle.block_checks.specs.Checked.{checked, blockRefusal}
 use Rattle.journal_writer.proofs.Allowing.{facts-allowed, allowed-answer}
@@ -21,7 +21,7 @@ use Rattle.journal.specs.Journal.{numbered}
 use Rattle.sha256_core.proofs.Digests.{length-sha256, bytes-sha256}
 use Rattle.sha256_core.specs.Sha256.{sha256}
 use Rattle.wire.proofs.Lists.{zeros-replicate, zeros-are, same-self, same-equal, bytes-zeros, bytes-append}
-use Rattle.wire.proofs.Numbers.{bytes-bytesOf, value-back, drop-field, one-byte}
+use Rattle.wire.proofs.Numbers.{bytes-then, value-back, drop-field, one-byte}
 use Rattle.wire.specs.BigEndian.{All, Bytes, zeros, same, valueAfter, field, bytesOf}
 
 -- ## Lengths
@@ -29,8 +29,7 @@ use Rattle.wire.specs.BigEndian.{All, Bytes, zeros, same, valueAfter, field, by
 -- 480 bytes before the check
 pub length-body : (k : ℕ) (items : List ℕ) → length items ≤ 448 → length (body k items) ≡ 480
 unfolding body bytesOf
-length-body k items h =
-    omega (arith, length-append items (replicate (448 - length items) 0), length-replicate {A = ℕ} (448 - length items) 0)
+length-body k items h = simp (length-append, length-replicate) (omega arith)
 
 -- 512 with it
 pub length-block : (k : ℕ) (items : List ℕ) → length items ≤ 448 → length (journalBlock k items) ≡ 512
@@ -50,13 +49,17 @@ unfolding journalBlock body All
 bytes-block k items h l =
     let c : ℕ = length items / itemSize k in
     let z : List ℕ = replicate (448 - length items) 0 in
-    let two : Bytes (kindOfBlock k ∷ c ∷ []) = (kind-byte k, (l, tt)) in
-    let head : Bytes (header k c) =
-    bytes-append (bytesOf 4 k) (kindOfBlock k ∷ c ∷ replicate 26 0) (bytes-bytesOf 4 k)
-    (bytes-append (kindOfBlock k ∷ c ∷ []) (replicate 26 0) two (bytes-zeros 26)) in
     bytes-append (body k items) (sha256 (body k items))
-    (bytes-append (header k c) (items ++ z) head (bytes-append items z h (bytes-zeros (448 - length items))))
+    (bytes-append (header k c) (items ++ z)
+    (bytes-then 4 k (kindOfBlock k ∷ c ∷ replicate 26 0) (block-bounds k .1, (l, bytes-zeros 26)))
+    (bytes-append items z h (bytes-zeros (448 - length items))))
     (bytes-sha256 (body k items))
+
+-- zero bytes, and what stands after them
+zeros-then : (i n : ℕ) (b : List ℕ) → i + n ≤ length b → zeros (take n (drop i b)) ≡ true → drop i b ≡ replicate n 0 ++ drop (i + n) b
+zeros-then i n b h z =
+    let l : length (take n (drop i b)) ≡ n = length-take-le n (drop i b) (omega (arith, length-drop i b)) in
+    sym (take-append-drop n (drop i b)) ∙ rw (zeros-are (take n (drop i b)) z, l, drop-drop)
 
 -- ## From the bytes
 
@@ -70,22 +73,15 @@ module _ (b : List ℕ) (k before : ℕ) (y : Bytes b) (r : Right b k before) wh
   f = formed-block-facts b k before (r .formed)
 
   -- the bytes of its items
-  n : ℕ
+  abbrev n : ℕ
   n = statedCount b * itemSize k
 
   -- they have room
   n-room : n ≤ 448
-  unfolding n
   n-room = items-room k (statedCount b) (f .fits)
-
-  -- they are as many items as it states
-  n-count : n / itemSize k ≡ statedCount b
-  unfolding n
-  n-count = count-back k (statedCount b)
 
   -- they are all there
   its-length : length (itemBytes k b) ≡ n
-  unfolding n
   its-length = length-take-le n (drop 32 b) (omega (arith, length-drop 32 b, r .long, n-room))
 
   -- the header, byte by byte
@@ -93,29 +89,22 @@ module _ (b : List ℕ) (k before : ℕ) (y : Bytes b) (r : Right b k before) wh
   unfolding bytesOf
   head-is =
       let l = r .long in
-      let kind = one-byte (blockKind b) (subst (λ (x : ℕ). x < 256) (sym (f .kind)) (kind-byte k)) ∙ ap (λ (x : ℕ). x ∷ []) (f .kind) in
-      let count = one-byte (statedCount b) (omega (arith, f .fits, limit-byte k)) in
-      let zs =
-      zeros-are (take 26 (drop 6 b)) (f .head)
-      ∙ ap (λ (x : ℕ). replicate x 0) (length-take-le 26 (drop 6 b) (omega (arith, length-drop 6 b))) in
-      let rest = sym (take-append-drop 26 (drop 6 b)) ∙ ap₂ (λ (p q : List ℕ). p ++ q) zs (drop-drop 26 6 b) in
+      let kind = one-byte (blockKind b) (omega (arith, f .kind, block-bounds k .1)) ∙ ap (λ (x : ℕ). x ∷ []) (f .kind) in
+      let count = one-byte (statedCount b) (omega (arith, f .fits, block-bounds k .2)) in
       drop-field 0 4 b y (omega arith)
       ∙ ap₂ (λ (x : ℕ) (q : List ℕ). bytesOf 4 x ++ q) (r .numbered)
       (drop-field 4 1 b y (omega arith)
       ∙ ap₂ (λ (p q : List ℕ). p ++ q) kind
-      (drop-field 5 1 b y (omega arith) ∙ ap₂ (λ (p q : List ℕ). p ++ q) count rest))
+      (drop-field 5 1 b y (omega arith)
+      ∙ ap₂ (λ (p q : List ℕ). p ++ q) count (zeros-then 6 26 b (omega arith) (f .head))))
 
   -- the items and the zeros after them
   items-are : drop 32 b ≡ (itemBytes k b ++ replicate (448 - n) 0) ++ drop 480 b
-  unfolding n
   items-are =
-      let d : List ℕ = drop (32 + n) b in
-      let l : length (take (448 - n) d) ≡ 448 - n = length-take-le (448 - n) d (omega (arith, length-drop (32 + n) b, r .long, n-room)) in
-      let z : take (448 - n) d ≡ replicate (448 - n) 0 = zeros-are (take (448 - n) d) (f .tail) ∙ ap (λ (x : ℕ). replicate x 0) l in
       let e : 32 + n + (448 - n) ≡ 480 = omega (arith, n-room) in
-      let t : drop (448 - n) d ≡ drop 480 b = drop-drop (448 - n) (32 + n) b ∙ ap (λ (x : ℕ). drop x b) e in
       sym (take-append-drop n (drop 32 b))
-      ∙ ap (λ (q : List ℕ). itemBytes k b ++ q) (drop-drop n 32 b ∙ sym (take-append-drop (448 - n) d) ∙ ap₂ (λ (p q : List ℕ). p ++ q) z t)
+      ∙ ap (λ (q : List ℕ). itemBytes k b ++ q)
+      (drop-drop n 32 b ∙ zeros-then (32 + n) (448 - n) b (omega (arith, r .long, n-room)) (f .tail) ∙ rw e)
       ∙ sym (append-assoc (itemBytes k b) (replicate (448 - n) 0) (drop 480 b))
 
   -- its first 480 bytes
@@ -123,12 +112,10 @@ module _ (b : List ℕ) (k before : ℕ) (y : Bytes b) (r : Right b k before) wh
   unfolding body
   body-is =
       let its : List ℕ = itemBytes k b in
-      let c : statedCount b ≡ length its / itemSize k = sym (ap (λ (x : ℕ). x / itemSize k) its-length ∙ n-count) in
-      let e : b ≡ (header k (length its / itemSize k) ++ (its ++ replicate (448 - length its) 0)) ++ drop 480 b =
+      let e : b ≡ body k its ++ drop 480 b =
       head-is
-      ∙ (λ i. header k (c i) ++ items-are i)
-      ∙ ap (λ (x : ℕ). header k (length its / itemSize k) ++ ((its ++ replicate (448 - x) 0) ++ drop 480 b)) (sym its-length)
-      ∙ sym (append-assoc (header k (length its / itemSize k)) (its ++ replicate (448 - length its) 0) (drop 480 b)) in
+      ∙ rw (its-length, count-back k (statedCount b))
+      (rw (append-assoc (header k (statedCount b)) (its ++ replicate (448 - n) 0) (drop 480 b), ← items-are)) in
       ap (take 480) e ∙ take-at (body k its) (drop 480 b) 480 (length-body k its (omega (arith, its-length, n-room)))
 
   -- the block
@@ -156,34 +143,13 @@ module _ (k before c : ℕ) (items : List ℕ) (low : k ≤ maxBlock) (some : 0 
   unfolding field journalBlock body bytesOf valueAfter
   count-is = omega (arith, quotient)
 
-  -- its number
-  number-is : blockNumber (journalBlock k items) ≡ k
-  unfolding field journalBlock body bytesOf
-  number-is = value-back 4 k (omega (arith, low))
-
-  -- its kind
-  kind-is : blockKind (journalBlock k items) ≡ kindOfBlock k
-  unfolding field journalBlock body bytesOf valueAfter
-  kind-is = omega arith
-
-  -- zeros after the count
-  head-zero : zeros (take 26 (drop 6 (journalBlock k items))) ≡ true
-  unfolding zeros journalBlock body bytesOf
-  head-zero = refl
-
   -- zeros after the items
   tail-zero : zeros (take (448 - c * itemSize k) (drop (32 + c * itemSize k) (journalBlock k items))) ≡ true
   tail-zero =
-      let m : ℕ = c * itemSize k in
       let z : List ℕ = replicate (448 - length items) 0 in
-      let e : drop (32 + m) (journalBlock k items) ≡ z ++ sha256 (body k items) =
-      sym (drop-drop m 32 (journalBlock k items))
-      ∙ ap (drop m) (block-items k items)
-      ∙ drop-at items (z ++ sha256 (body k items)) m whole in
-      let l : length z ≡ 448 - m = length-replicate {A = ℕ} (448 - length items) 0 ∙ ap (λ (x : ℕ). 448 - x) whole in
-      ap (λ (q : List ℕ). zeros (take (448 - m) q)) e
-      ∙ ap zeros (take-at z (sha256 (body k items)) (448 - m) l)
-      ∙ zeros-replicate (448 - length items)
+      rw (← whole, ← drop-drop (length items) 32 (journalBlock k items), block-items k items, drop-append-seam)
+      (ap zeros (take-at z (sha256 (body k items)) (448 - length items) (length-replicate (448 - length items) 0))
+      ∙ zeros-replicate (448 - length items))
 
   -- its check
   check-is : checked (journalBlock k items) ≡ true
@@ -195,24 +161,22 @@ module _ (k before c : ℕ) (items : List ℕ) (low : k ≤ maxBlock) (some : 0 
 
   -- the judging call passes it
   pub block-right : blockRefusal (journalBlock k items) k before ≡ 0
+  unfolding field journalBlock body bytesOf valueAfter zeros
   block-right =
       let b : List ℕ = journalBlock k items in
-      not-refused b k before
-      (record {
+      not-refused b k before (record {
         long = length-block k items room;
         low = low;
         sealed = check-is;
-        numbered = number-is;
-        formed =
-            facts-formed-block b k before
-            (record {
-              kind = kind-is;
-              some = subst (λ (m : ℕ). 0 < m) (sym count-is) some;
-              fits = subst (λ (m : ℕ). m ≤ itemLimit k) (sym count-is) fits;
-              head = head-zero;
-              tail = ap (λ (m : ℕ). zeros (take (448 - m * itemSize k) (drop (32 + m * itemSize k) b))) count-is ∙ tail-zero;
-              follows = follows;
-            });
+        numbered = value-back 4 k (omega (arith, low));
+        formed = facts-formed-block b k before (record {
+          kind = omega arith;
+          some = rw count-is some;
+          fits = rw count-is fits;
+          head = refl;
+          tail = ap (λ (m : ℕ). zeros (take (448 - m * itemSize k) (drop (32 + m * itemSize k) b))) count-is ∙ tail-zero;
+          follows = follows;
+        });
       })
 
   -- the writer's call allows it
@@ -220,15 +184,13 @@ module _ (k before c : ℕ) (items : List ℕ) (low : k ≤ maxBlock) (some : 0 
       → (writeRefusal (length out) k (kindOfBlock k) (length items) ≡ 0) × (written out k (kindOfBlock k) items ≡ journalBlock k items)
   unfolding written
   block-allowed out l =
-      let a =
-      facts-allowed (length out) k (kindOfBlock k) (length items)
-      (record {
+      let a = facts-allowed (length out) k (kindOfBlock k) (length items) (record {
         long = l;
         low = low;
         right = refl;
         whole = ap (λ (m : ℕ). m % itemSize k) whole ∙ mul-mod-left c (itemSize k);
-        some = subst (λ (m : ℕ). 0 < m) (sym quotient) some;
-        fits = subst (λ (m : ℕ). m ≤ itemLimit k) (sym quotient) fits;
+        some = rw quotient some;
+        fits = rw quotient fits;
       }) in
       let z = allowed-answer (length out) k (kindOfBlock k) (length items) a in
       (z, ap (λ (m : ℕ). unlessRefused m (journalBlock k items) out) z)

@@ -1,13 +1,12 @@
 -- Opening balances and records as the items of blocks: what is laid out reads back, and only that. Assumes nothing.
 use Prim.Native.Nat.{ℕ, zero, suc, _+_, _*_, _^_, _≤_, _<_}
 use mathlib.Core.Path.{_≡_, refl, sym, ap, ap₂, _∙_}
-use mathlib.Core.Bool.{Bool, true, false}
 use mathlib.Core.List.{List, [], _∷_, _++_, append-assoc, append-nil}
+use mathlib.Core.Logic.{⊎-elim}
+use native.Mathlib.Nat.{eq-or-lt-of-le}
 use native.Mathlib.Omega.{arith}
-use lib.Dec.{ltb}
 use lib.ListN.{length, take, drop, getD, length-append, length-drop, List·getD-append}
 use lib.Seq.{take-add, drop-drop, length-take-le, take-at, drop-at, getD-at}
-use borrow.Author.Tests.{ltb-true, ltb-false}
 use Rattle.block_format.proofs.Items.{length-records}
 use Rattle.block_format.specs.Blocks.{recordPart, recordsIn, balancesIn}
 use Rattle.journal.specs.Journal.{RecordBytes, joined, balanceBytes}
@@ -17,17 +16,16 @@ use Rattle.wire.specs.BigEndian.{All, Bytes, value, field, bytesOf}
 
 -- ## Lists one after the other
 
--- one more at the end
-joined-snoc : {A : Type 0} (xs : List (List A)) (x : List A) → joined (xs ++ x ∷ []) ≡ joined xs ++ x
-unfolding joined
-joined-snoc [] x = append-nil x
-joined-snoc (y ∷ ys) x = ap (λ (t : List _). y ++ t) (joined-snoc ys x) ∙ sym (append-assoc y (joined ys) x)
-
 -- lists joined and joined
 pub joined-append : {A : Type 0} (xs ys : List (List A)) → joined (xs ++ ys) ≡ joined xs ++ joined ys
 unfolding joined
 joined-append [] ys = refl
-joined-append (x ∷ xs) ys = ap (λ (t : List _). x ++ t) (joined-append xs ys) ∙ sym (append-assoc x (joined xs) (joined ys))
+joined-append (x ∷ xs) ys = rw (joined-append xs ys, append-assoc)
+
+-- one more at the end
+joined-snoc : {A : Type 0} (xs : List (List A)) (x : List A) → joined (xs ++ x ∷ []) ≡ joined xs ++ x
+unfolding joined
+joined-snoc xs x = joined-append xs (x ∷ []) ∙ rw append-nil
 
 -- two lists of n elements with something after each
 same-heads : {A : Type 0} (n : ℕ) (x y p q : List A) → length x ≡ n → length y ≡ n → x ++ p ≡ y ++ q → (x ≡ y) × (p ≡ q)
@@ -74,12 +72,8 @@ unfolding recordsIn recordPart joined
 records-joined zero b = refl
 records-joined (suc n) b =
     let z : suc n * 32 ≡ n * 32 + 32 = omega arith in
-    let w : 32 + n * 32 ≡ 32 + 32 * n = omega arith in
-    joined-snoc (recordsIn n b) (take 32 (drop (32 + 32 * n) b))
-    ∙ ap₂ (λ (x y : List ℕ). x ++ y) (records-joined n b)
-    (ap (λ (m : ℕ). take 32 (drop m b)) (sym w) ∙ ap (take 32) (sym (drop-drop (n * 32) 32 b)))
-    ∙ sym (take-add (n * 32) 32 (drop 32 b))
-    ∙ ap (λ (m : ℕ). take m (drop 32 b)) (sym z)
+    let w : 32 + 32 * n ≡ 32 + n * 32 = omega arith in
+    rw (joined-snoc, records-joined n b, z, take-add, drop-drop, w)
 
 -- the first n records of a block are records of bytes
 pub records-whole : (n : ℕ) (b : List ℕ) → Bytes b → 32 + n * 32 ≤ length b → All RecordBytes (recordsIn n b)
@@ -98,17 +92,11 @@ records-whole (suc n) b y h =
 pub record-at : (n : ℕ) (b : List ℕ) (place : ℕ) → place < n → getD (recordsIn n b) place [] ≡ recordPart b place
 unfolding recordsIn
 record-at zero b place h = absurd (omega arith)
-record-at (suc n) b place h = go (ltb place n) refl (record-at n b place)
-  where
-    go : (t : Bool) → ltb place n ≡ t → (place < n → getD (recordsIn n b) place [] ≡ recordPart b place)
-        → getD (recordsIn n b ++ recordPart b n ∷ []) place [] ≡ recordPart b place
-    go true e ih =
-        let l : place < n = ltb-true _ _ e in
-        List·getD-append (recordsIn n b) (recordPart b n ∷ []) [] place (omega (arith, length-records n b)) ∙ ih l
-    go false e ih =
-        let f : n ≤ place = ltb-false _ _ e in
-        let z : n ≡ place = omega arith in
-        getD-at (recordsIn n b) (recordPart b n) [] [] place (length-records n b ∙ z) ∙ ap (recordPart b) z
+record-at (suc n) b place h =
+    ⊎-elim
+    (λ e. getD-at (recordsIn n b) (recordPart b n) [] [] place (length-records n b ∙ sym e) ∙ ap (recordPart b) (sym e))
+    (λ l. List·getD-append (recordsIn n b) (recordPart b n ∷ []) [] place (omega (arith, length-records n b)) ∙ record-at n b place l)
+    (eq-or-lt-of-le (omega arith))
 
 -- ## Opening balances
 
@@ -132,9 +120,7 @@ bytes-balances (x ∷ xs) = bytes-append (bytesOf 8 x) (balanceBytes xs) (bytes-
 balance-snoc : (xs : List ℕ) (x : ℕ) → balanceBytes (xs ++ x ∷ []) ≡ balanceBytes xs ++ bytesOf 8 x
 unfolding balanceBytes
 balance-snoc [] x = append-nil (bytesOf 8 x)
-balance-snoc (y ∷ ys) x =
-    ap (λ (t : List ℕ). bytesOf 8 y ++ t) (balance-snoc ys x)
-    ∙ sym (append-assoc (bytesOf 8 y) (balanceBytes ys) (bytesOf 8 x))
+balance-snoc (y ∷ ys) x = rw (balance-snoc ys x, append-assoc)
 
 -- balances of 8 bytes are told apart by their bytes in a row
 pub balances-only : (xs ys : List ℕ) → All Fit xs → All Fit ys → balanceBytes xs ≡ balanceBytes ys → xs ≡ ys
@@ -153,12 +139,8 @@ unfolding balancesIn balanceBytes
 balances-joined zero b y h = refl
 balances-joined (suc n) b y h =
     let z : suc n * 8 ≡ n * 8 + 8 = omega arith in
-    let w : 32 + n * 8 ≡ 32 + 8 * n = omega arith in
-    balance-snoc (balancesIn n b) (field (32 + 8 * n) 8 b)
-    ∙ ap₂ (λ (x t : List ℕ). x ++ t) (balances-joined n b y (omega arith))
-    (bytes-field (32 + 8 * n) 8 b y (omega arith) ∙ ap (λ (m : ℕ). take 8 (drop m b)) (sym w) ∙ ap (take 8) (sym (drop-drop (n * 8) 32 b)))
-    ∙ sym (take-add (n * 8) 8 (drop 32 b))
-    ∙ ap (λ (m : ℕ). take m (drop 32 b)) (sym z)
+    let w : 32 + 8 * n ≡ 32 + n * 8 = omega arith in
+    rw (balance-snoc, balances-joined n b y (omega arith), bytes-field (32 + 8 * n) 8 b y (omega arith), z, take-add, drop-drop, w)
 
 -- the first n opening balances of a block are numbers of 8 bytes
 pub balances-fit : (n : ℕ) (b : List ℕ) → Bytes b → 32 + n * 8 ≤ length b → All Fit (balancesIn n b)

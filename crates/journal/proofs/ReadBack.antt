@@ -2,16 +2,18 @@
 -- journal written from them; and what each of its blocks is to the writer's and the judging call. Assumes nothing.
 use Prim.Native.Nat.{ℕ, zero, suc, _+_, _-_, _*_, _/_, _≤_, _<_}
 use mathlib.Core.Path.{_≡_, refl, sym, ap, ap₂, _∙_, subst}
-use mathlib.Core.Bool.{Bool, true, false, _||_}
+use mathlib.Core.Bool.{Bool, true, false, _||_, false≢true}
 use mathlib.Core.List.{List, [], _∷_, _++_, append-nil}
+use mathlib.Core.Logic.{⊎-elim}
+use native.Mathlib.Nat.{eq-or-lt-of-le}
 use native.Mathlib.Omega.{arith}
-use lib.Dec.{ltb, leb}
+use lib.Dec.{leb}
 use lib.ListN.{length, take, drop, replicate, length-append, length-take, length-drop, take-append-drop, drop-of-length-le}
 use lib.Seq.{take-all, take-at, drop-at}
-use borrow.Author.Tests.{ltb-true, le-ltb, ltb-false, le-leb, lt-leb, leb-false}
+use borrow.Author.Tests.{le-ltb, le-leb, lt-leb, leb-false}
 use Rattle.block_format.proofs.Forming.{formed-block-facts}
 use Rattle.block_format.proofs.Items.{length-balances, length-records}
-use Rattle.block_format.proofs.Sizes.{balances-size, balances-limit, records-size, records-limit, limit-byte, count-back}
+use Rattle.block_format.proofs.Sizes.{balances-block, records-block, block-bounds, count-back}
 use Rattle.block_format.specs.Blocks.{maxBlock, recordsPerBlock, statedCount, kindOfBlock, itemSize, itemLimit, recordsOf, balancesOf}
 use Rattle.block_checks.proofs.Checking.{right-facts}
 use Rattle.block_checks.specs.Checked.{blockRefusal}
@@ -27,6 +29,16 @@ use Rattle.sha256_core.specs.Sha256.{sha256}
 use Rattle.wire.proofs.Lists.{all-append, all-take, all-drop, all-split}
 use Rattle.wire.specs.BigEndian.{All, Bytes}
 
+-- ## Blocks that follow
+
+-- a block may follow where the one before has 14 records or the number is low
+follows-by : (k before : ℕ) → (2 < k → 14 ≤ before) → (leb k 2 || leb recordsPerBlock before) ≡ true
+follows-by k before h = go (leb k 2) refl
+  where
+    go : (t : Bool) → leb k 2 ≡ t → (leb k 2 || leb recordsPerBlock before) ≡ true
+    go true e = rw e
+    go false e = rw (e, le-leb recordsPerBlock before (h (leb-false k 2 e)))
+
 -- ## Blocks of opening balances
 
 -- what a right block of opening balances is
@@ -40,18 +52,14 @@ opening-back b k before l y h =
     let r = right-facts b k before h in
     let f = formed-block-facts b k before (r .formed) in
     let c : ℕ = statedCount b in
-    let most : c ≤ 56 = subst (λ (m : ℕ). c ≤ m) (balances-limit k l) (f .fits) in
+    let most : c ≤ 56 = subst (λ (m : ℕ). c ≤ m) (balances-block k l .1) (f .fits) in
     let room : 32 + c * 8 ≤ length b = omega (arith, r .long) in
+    let n = length-balances c b in
     let e : itemBytes k b ≡ balanceBytes (balancesOf b) =
-    ap (λ (m : ℕ). take (c * m) (drop 32 b)) (balances-size k l) ∙ sym (balances-joined c b y room) in
+    ap (λ (m : ℕ). take (c * m) (drop 32 b)) (balances-block k l .0) ∙ sym (balances-joined c b y room) in
     record {
       is = block-is b k before y r ∙ ap (journalBlock k) e;
-      opening =
-          record {
-            some = omega (arith, length-balances c b, f .some);
-            most = omega (arith, length-balances c b);
-            fit = balances-fit c b y room;
-          };
+      opening = record { some = omega (arith, n, f .some); most = omega (arith, n); fit = balances-fit c b y room };
     }
 
 -- what the block written from an opening is
@@ -69,15 +77,14 @@ opening-forth xs k before l o =
     let items : List ℕ = balanceBytes xs in
     let b : List ℕ = journalBlock k items in
     let low : k ≤ maxBlock = omega arith in
-    let fits : c ≤ itemLimit k = subst (λ (m : ℕ). c ≤ m) (sym (balances-limit k l)) (o .most) in
-    let whole : length items ≡ c * itemSize k = length-balance-bytes xs ∙ ap (λ (m : ℕ). c * m) (sym (balances-size k l)) in
-    let two : k ≤ 2 = omega arith in
-    let follows : (leb k 2 || leb recordsPerBlock before) ≡ true = rw (le-leb k 2 two) in
+    let fits : c ≤ itemLimit k = subst (λ (m : ℕ). c ≤ m) (sym (balances-block k l .1)) (o .most) in
+    let whole : length items ≡ c * itemSize k = length-balance-bytes xs ∙ ap (λ (m : ℕ). c * m) (sym (balances-block k l .0)) in
+    let follows : (leb k 2 || leb recordsPerBlock before) ≡ true = follows-by k before (λ g. absurd (omega arith)) in
     let passes = block-right k before c items low (o .some) fits whole follows in
     let r = right-facts b k before passes in
     let ci : statedCount b ≡ c = count-is k before c items low (o .some) fits whole follows in
     let quotient : length items / itemSize k ≡ c = ap (λ (m : ℕ). m / itemSize k) whole ∙ count-back k c in
-    let y : Bytes b = bytes-block k items (bytes-balances xs) (omega (arith, quotient, fits, limit-byte k)) in
+    let y : Bytes b = bytes-block k items (bytes-balances xs) (omega (arith, quotient, fits, block-bounds k .2)) in
     let room : 32 + statedCount b * 8 ≤ length b = omega (arith, r .long, ci, o .most) in
     let e : balanceBytes (balancesOf b) ≡ items =
     balances-joined (statedCount b) b y room
@@ -106,9 +113,9 @@ record-back b k before l y h =
     let r = right-facts b k before h in
     let f = formed-block-facts b k before (r .formed) in
     let c : ℕ = statedCount b in
-    let most : c ≤ 14 = subst (λ (m : ℕ). c ≤ m) (records-limit k l) (f .fits) in
+    let most : c ≤ 14 = subst (λ (m : ℕ). c ≤ m) (records-block k l .1) (f .fits) in
     let e : itemBytes k b ≡ joined (recordsOf b) =
-    ap (λ (m : ℕ). take (c * m) (drop 32 b)) (records-size k l) ∙ sym (records-joined c b) in
+    ap (λ (m : ℕ). take (c * m) (drop 32 b)) (records-block k l .0) ∙ sym (records-joined c b) in
     record {
       is = block-is b k before y r ∙ ap (journalBlock k) e;
       whole = records-whole c b y (omega (arith, r .long));
@@ -126,31 +133,19 @@ short-last k before (b ∷ bs) l s h =
     let r = right-facts b k before (h .0) in
     let f = formed-block-facts b k before (r .formed) .follows in
     let z : (leb k 2 || leb recordsPerBlock before) ≡ false = rw (lt-leb k 2 l, lt-leb recordsPerBlock before s) in
-    let y : true ≡ false = sym f ∙ z in
-    let w : _≡_ {A = ℕ} 0 1 = cc in
-    absurd (omega arith)
+    absurd (false≢true (sym z ∙ f))
 
 -- the first 14 of the records of a block and those after them, where none come after fewer than 14
 cut-14 : (xs ys : List (List ℕ)) → length xs ≤ 14 → (length xs < 14 → ys ≡ []) → (take 14 (xs ++ ys) ≡ xs) × (drop 14 (xs ++ ys) ≡ ys)
-cut-14 xs ys l h = go (ltb (length xs) 14) refl
-  where
-    go : (t : Bool) → ltb (length xs) 14 ≡ t → (take 14 (xs ++ ys) ≡ xs) × (drop 14 (xs ++ ys) ≡ ys)
-    go true e =
-        let z : ys ≡ [] = h (ltb-true _ _ e) in
-        let a : xs ++ ys ≡ xs = ap (λ (q : List (List ℕ)). xs ++ q) z ∙ append-nil xs in
-        (ap (take 14) a ∙ take-all 14 xs l, ap (drop 14) a ∙ drop-of-length-le xs {i = 14} l ∙ sym z)
-    go false e =
-        let f : 14 ≤ length xs = ltb-false _ _ e in
-        let g : length xs ≡ 14 = omega arith in
-        (take-at xs ys 14 g, drop-at xs ys 14 g)
+cut-14 xs ys l h =
+    ⊎-elim
+    (λ g. (take-at xs ys 14 g, drop-at xs ys 14 g))
+    (λ s. rw (h s, append-nil) (take-all 14 xs l, drop-of-length-le xs {i = 14} l))
+    (eq-or-lt-of-le l)
 
 -- the blocks that records need, with those of one block more
 count-14 : (x y : ℕ) → 0 < x → x ≤ 14 → (x < 14 → y ≡ 0) → (x + y + 13) / 14 ≡ suc ((y + 13) / 14)
-count-14 x y p q h = go (ltb x 14) refl
-  where
-    go : (t : Bool) → ltb x 14 ≡ t → (x + y + 13) / 14 ≡ suc ((y + 13) / 14)
-    go true e = let z : y ≡ 0 = h (ltb-true _ _ e) in omega arith
-    go false e = let f : 14 ≤ x = ltb-false _ _ e in omega arith
+count-14 x y p q h = ⊎-elim (λ e. omega arith) (λ s. let z = h s in omega arith) (eq-or-lt-of-le q)
 
 -- blocks of records that are right in turn are those written from their records
 pub record RecordBlocks (bs : List (List ℕ)) (k : ℕ) : Type 0 where
@@ -186,14 +181,6 @@ records-back k before (b ∷ bs) l y h =
 
 -- ## Blocks of records, from the records
 
--- a block may follow where the one before has 14 records or the number is low
-follows-by : (k before : ℕ) → (2 < k → 14 ≤ before) → (leb k 2 || leb recordsPerBlock before) ≡ true
-follows-by k before h = go (leb k 2) refl
-  where
-    go : (t : Bool) → leb k 2 ≡ t → (leb k 2 || leb recordsPerBlock before) ≡ true
-    go true e = rw e
-    go false e = rw (e, le-leb recordsPerBlock before (h (leb-false k 2 e)))
-
 -- what the blocks written from records are
 pub record RecordsWritten (records : List (List ℕ)) (n k before : ℕ) : Type 0 where
   pub pass : AllPass k before (numbered k (groups n records))
@@ -219,9 +206,9 @@ records-forth (suc n) k before rs l u w e f =
     let low : k ≤ maxBlock = omega arith in
     let some : 0 < c = omega (arith, lx) in
     let most : c ≤ 14 = omega (arith, lx) in
-    let fits : c ≤ itemLimit k = subst (λ (m : ℕ). c ≤ m) (sym (records-limit k l)) most in
+    let fits : c ≤ itemLimit k = subst (λ (m : ℕ). c ≤ m) (sym (records-block k l .1)) most in
     let long : length items ≡ c * 32 = length-joined xs (all-long xs wx) in
-    let whole : length items ≡ c * itemSize k = long ∙ ap (λ (m : ℕ). c * m) (sym (records-size k l)) in
+    let whole : length items ≡ c * itemSize k = long ∙ ap (λ (m : ℕ). c * m) (sym (records-block k l .0)) in
     let follows : (leb k 2 || leb recordsPerBlock before) ≡ true = follows-by k before (λ g. f g (omega arith)) in
     let passes = block-right k before c items low some fits whole follows in
     let r = right-facts b k before passes in
@@ -251,9 +238,7 @@ records-forth (suc n) k before rs l u w e f =
 within-written : (home far : List ℕ) (records : List (List ℕ)) → (w : Within home far records)
     → RecordsWritten records (blockCount records) 2 (statedCount (journalBlock 1 (balanceBytes far)))
 within-written home far records w =
-    records-forth (blockCount records) 2 (statedCount (journalBlock 1 (balanceBytes far))) records (omega arith)
-    (omega (arith, w .limit)) (w .whole) refl
-    (λ p q. absurd (omega arith))
+    records-forth _ 2 _ records (omega arith) (omega (arith, w .limit)) (w .whole) refl (λ p q. absurd (omega arith))
 
 -- a written journal reads
 pub written-reads : WrittenReads

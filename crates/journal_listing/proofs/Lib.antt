@@ -1,5 +1,4 @@
 -- Proofs of the program's functions. Assumes nothing.
 
 pub mod Begun
-pub mod Started
 pub mod Turning

@@ -10,7 +10,7 @@ use Rattle.answers.proofs.Answers.{or-else-zero, refuse-zero}
 use Rattle.block_checks.proofs.Checking.{right-facts}
 use Rattle.block_checks.specs.Checked.{blockRefusal}
 use Rattle.block_format.proofs.Forming.{formed-block-facts}
-use Rattle.block_format.proofs.Sizes.{records-limit, limit-byte}
+use Rattle.block_format.proofs.Sizes.{records-limit, block-bounds}
 use Rattle.block_format.specs.Blocks.{statedCount}
 use Rattle.journal_reader.specs.Judged.{placeRefusal, recordRefusal, balancesRefusal}
 
@@ -28,18 +28,13 @@ placed b k before place h =
     let h1 = refuse-zero (ltb k 2) 4 _ (omega arith) (o .1) in
     let h2 = refuse-zero (leb (statedCount b) place) 4 0 (omega arith) (h1 .1) in
     let m = formed-block-facts b k before (r .formed) .fits in
-    record { long = r .long; low = omega (arith, m, records-limit k (ltb-false k 2 (h1 .0)), leb-false (statedCount b) place (h2 .0)) }
+    omega (arith, r .long, m, records-limit k (ltb-false k 2 (h1 .0)), leb-false (statedCount b) place (h2 .0))
 
 -- a block whose opening balances are not refused
-pub record Opened (b : List ℕ) : Type 0 where
-  pub long : length b ≡ 512
-  pub most : statedCount b ≤ 56
-
--- from the refusal
-pub opened : (b : List ℕ) (k before : ℕ) → balancesRefusal b k before ≡ 0 → Opened b
+pub opened : (b : List ℕ) (k before : ℕ) → balancesRefusal b k before ≡ 0 → (length b ≡ 512) × (statedCount b ≤ 56)
 unfolding balancesRefusal
 opened b k before h =
     let o = or-else-zero (blockRefusal b k before) _ h in
     let r = right-facts b k before (o .0) in
     let m = formed-block-facts b k before (r .formed) .fits in
-    record { long = r .long; most = omega (arith, m, limit-byte k) }
+    omega (arith, r .long, m, block-bounds k)

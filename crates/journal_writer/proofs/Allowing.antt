@@ -8,7 +8,8 @@ use borrow.Author.Tests.{eqb-true, eq-eqb, ltb-true, lt-ltb, leb-true, le-leb}
 use Rattle.block_format.proofs.Sizes.{items-room}
 use Rattle.block_format.specs.Blocks.{maxBlock, kindOfBlock, itemSize, itemLimit}
 use Rattle.journal_writer.specs.Written.{allowed, writeRefusal}
-use Rattle.wire.proofs.Lists.{every-none, every-first, every-both}
+use Rattle.wire.proofs.Lists.{every-hold, hold-every}
+use Rattle.wire.specs.BigEndian.{All}
 
 -- the facts, one for each test
 pub record Allowed (o k kind n : ℕ) : Type 0 where
@@ -21,34 +22,13 @@ pub record Allowed (o k kind n : ℕ) : Type 0 where
 
 -- from the tests to the facts
 pub allowed-facts : (o k kind n : ℕ) → allowed o k kind n ≡ true → Allowed o k kind n
-unfolding allowed
-allowed-facts o k kind n h =
-    let h1 = every-first _ _ h in
-    let h2 = every-first _ _ (h1 .1) in
-    let h3 = every-first _ _ (h2 .1) in
-    let h4 = every-first _ _ (h3 .1) in
-    let h5 = every-first _ _ (h4 .1) in
-    let h6 = every-first _ _ (h5 .1) in
-    record {
-      long = eqb-true _ _ (h1 .0);
-      low = leb-true _ _ (h2 .0);
-      right = eqb-true _ _ (h3 .0);
-      whole = eqb-true _ _ (h4 .0);
-      some = ltb-true _ _ (h5 .0);
-      fits = leb-true _ _ (h6 .0);
-    }
+unfolding allowed All
+allowed-facts o k kind n h = let t = every-hold _ h in omega (arith, eqb-true, ltb-true, leb-true)
 
 -- and back
 pub facts-allowed : (o k kind n : ℕ) → Allowed o k kind n → allowed o k kind n ≡ true
-unfolding allowed
-facts-allowed o k kind n a =
-    every-both _ _ (eq-eqb _ _ (a .long))
-    (every-both _ _ (le-leb _ _ (a .low))
-    (every-both _ _ (eq-eqb _ _ (a .right))
-    (every-both _ _ (eq-eqb _ _ (a .whole))
-    (every-both _ _ (lt-ltb _ _ (a .some))
-    (every-both _ _ (le-leb _ _ (a .fits))
-    every-none)))))
+unfolding allowed All
+facts-allowed o k kind n a = hold-every _ (omega (arith, eq-eqb, lt-ltb, le-leb))
 
 -- the items have room
 pub allowed-room : (o k kind n : ℕ) → Allowed o k kind n → n ≤ 448

@@ -58,48 +58,20 @@ module _ (o h t x1 x2 x3 : List ℕ) (lo : length o ≡ 512) (lh : length h ≡ 
 
   -- 512 bytes still
   x1-length : length x1 ≡ 512
-  x1-length = omega (arith, ap length x1-is, length-append h (drop (length h) o), length-drop (length h) o)
+  x1-length = rw x1-is (simp (length-append, length-drop) (omega arith))
 
   -- and still
   o2-length : length o2 ≡ 512
-  o2-length =
-      let p : List ℕ = drop 32 x1 in
-      let m : List ℕ = take (length x1 - 32) p in
-      let post : List ℕ = drop (length x1 - 32) p in
-      let lp : length p ≡ 480 = omega (arith, length-drop 32 x1, x1-length) in
-      let lm : length m ≡ 480 = omega (arith, length-take (length x1 - 32) p, x1-length) in
-      let l2 : length x2 ≡ 480 =
-      omega (
-        arith,
-        ap length e2,
-        length-append (take (length t) t) (drop (length t) m),
-        length-take (length t) t,
-        length-drop (length t) m,
-      ) in
-      omega (
-        arith,
-        length-append (take 32 x1) (x2 ++ post),
-        length-append x2 post,
-        length-take 32 x1,
-        length-drop (length x1 - 32) p,
-        x1-length,
-      )
+  o2-length = rw e2 (simp (length-append, length-take, length-drop) (omega (arith, x1-length)))
 
   -- the first 480 bytes after the zeros
   pub laid : x3 ≡ replicate (length (take (480 - (32 + length t)) (drop (32 + length t) o2))) 0
       → take 480 (putMid (32 + length t) (480 - (32 + length t)) o2 x3) ≡ h ++ (t ++ replicate (448 - length t) 0)
   laid e3 =
       let n : ℕ = 32 + length t in
-      let m : length (take (480 - n) (drop n o2)) ≡ 448 - length t =
-      omega (arith, length-take (480 - n) (drop n o2), length-drop n o2, o2-length) in
+      let m : length (take (480 - n) (drop n o2)) ≡ 448 - length t = simp (length-take, length-drop) (omega (arith, o2-length)) in
       let z : x3 ≡ replicate (448 - length t) 0 = e3 ∙ ap (λ (k : ℕ). replicate k 0) m in
-      let l : length ((h ++ t) ++ replicate (448 - length t) 0) ≡ 480 =
-      omega (
-        arith,
-        length-append (h ++ t) (replicate (448 - length t) 0),
-        length-append h t,
-        length-replicate {A = ℕ} (448 - length t) 0,
-      ) in
+      let l : length ((h ++ t) ++ replicate (448 - length t) 0) ≡ 480 = simp (length-append, length-replicate) (omega arith) in
       let post : List ℕ = drop (480 - n) (drop n o2) in
       ap₂ (λ (y w : List ℕ). take 480 (y ++ (w ++ post))) o2-head z
       ∙ ap (take 480) (sym (append-assoc (h ++ t) (replicate (448 - length t) 0) post))

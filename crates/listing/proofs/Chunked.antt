@@ -1,25 +1,108 @@
--- The claim about the listing in chunks: the opening and the program's chunks have the text that the rules' listing has.
--- Assumes nothing.
+-- The claim about the listing in chunks: the opening and the program's chunks have the text that the rules' listing has. The listing over
+-- the program's states is that over the rules' states, and chunks are cut into the blocks that all bytes are cut into. Assumes nothing.
 use Prim.Native.Nat.{_*_, _+_, _<_, _≤_, suc, zero, ℕ}
 use mathlib.Core.Bool.{Bool, _&&_, false, true}
-use mathlib.Core.List.{List, [], _++_}
-use mathlib.Core.Path.{_∙_, _≡_, ap, refl, sym}
+use mathlib.Core.List.{List, [], _++_, _∷_}
+use mathlib.Core.Path.{_∙_, _≡_, ap, ap₂, refl, sym}
+use native.Mathlib.Nat.{suc-add, zero-add}
 use native.Mathlib.Omega.{arith}
 use lib.Dec.{eqb}
-use lib.ListN.{drop, drop-of-length-le, length, length-take, take}
+use lib.ListN.{drop, drop-of-length-le, length, length-drop, length-take, take}
+use lib.Seq.{drop-drop, drop-nil, take-nil, take-take}
 use borrow.Author.Tests.{eqb-false, eqb-true}
-use Rattle.block_format.specs.Blocks.{balancesOf, maxBlock, statedCount}
+use Rattle.block_format.specs.Blocks.{balancesOf, maxBlock, recordsOf, statedCount}
 use Rattle.block_checks.specs.Checked.{blockRefusal}
 use Rattle.ledgers.specs.Limits.{capacity}
-use Rattle.lines.specs.Lines.{headerLine, openLine}
-use Rattle.listing.proofs.Blocks.{text-append, text-none, text-stopped, went-on}
-use Rattle.listing.proofs.Carried.{text-carried}
-use Rattle.listing.proofs.Cutting.{parts-count, parts-empty, parts-split}
+use Rattle.lines.specs.Lines.{headerLine, openLine, recordLine}
+use Rattle.listing.proofs.Blocks.{blocks-stopped, text-append, textOf, went-on}
 use Rattle.listing.specs.Chunks.{ListedInChunks, afterChunk, chunkSize, chunkText, chunksText, mostChunks, openedBy, stateFigures}
-use Rattle.listing.specs.Listing.{Standing, blocksIn, blocksText, figuresLine, listing, opened, openingText, unlessFault, whileGoing}
-use Rattle.pair_core.specs.Layout.{pairWordsChecker}
-use Rattle.pair_rows.proofs.Opened.{opened-ready, opened-view}
-use Rattle.rules.specs.PairValidator.{PairView, pairOpened, pairOpeningRefusal, pairValidator}
+use Rattle.listing.specs.Listing.{Standing, afterBlock, blockText, blocksIn, blocksText, figuresLine, listing, opened, openingText}
+use Rattle.listing.specs.Listing.{recordLines, standingBy, stateListed, unlessFault, whileGoing}
+use Rattle.pair_core.proofs.Passing.{next-of}
+use Rattle.pair_core.specs.Layout.{acceptsPair, pairViewOf, pairWordsChecker}
+use Rattle.pair_core.proofs.Opened.{opened-ready, opened-view}
+use Rattle.records.specs.Records.{reading}
+use Rattle.records.specs.declared.Reading.{Reading}
+use Rattle.records.specs.declared.Reading.the-variants.{Read, Unreadable}
+use Rattle.rules.proofs.ListCalls.{cut-first}
+use Rattle.rules.specs.Calls.{callOne}
+use Rattle.rules.specs.Lists.{cut}
+use Rattle.rules.specs.PairValidator.{PairView, pairJudge, pairOpened, pairOpeningRefusal, pairValidator}
+use Rattle.rules.specs.Rules.{afterBytes}
+
+-- ## The program's states and the rules'
+
+-- where a listing over the program's states stands, over the rules' states
+abbrev viewed : Standing (List ℕ) → Standing PairView
+viewed p = record { state = pairViewOf (p .state); index = p .index; block = p .block; before = p .before; going = p .going }
+
+-- a state of the program is accepted and is, seen as the rules' state, this one
+record Carried (s : List ℕ) (v : PairView) : Type 0 where
+  sound : acceptsPair s ≡ true
+  view : pairViewOf s ≡ v
+
+-- after a record that passes the program's state is accepted, and is the rules' state after it
+passed-carried : (s b : List ℕ) → acceptsPair s ≡ true → pairWordsChecker .judge s b ≡ 0
+    → Carried (pairWordsChecker .after s b) (pairValidator capacity .after (pairViewOf s) b)
+unfolding afterBytes
+passed-carried s b z j = go (reading b) refl j
+  where
+    go : (x : Reading) → reading b ≡ x → pairJudge capacity (pairViewOf s .pair) x ≡ 0
+        → Carried (pairWordsChecker .after s b) (pairValidator capacity .after (pairViewOf s) b)
+    go Unreadable q h = absurd (omega arith)
+    go (Read r) q h =
+        let n = next-of s z b r q h in
+        rw q (record { sound = n .accepted; view = n .view })
+
+-- so it is after a record, passed or refused
+record-carried : (s b : List ℕ) → acceptsPair s ≡ true
+    → Carried (callOne pairWordsChecker s b .state) (callOne (pairValidator capacity) (pairViewOf s) b .state)
+unfolding callOne
+record-carried s b z = go (pairWordsChecker .judge s b) refl
+  where
+    go : (n : ℕ) → pairWordsChecker .judge s b ≡ n
+        → Carried (callOne pairWordsChecker s b .state) (callOne (pairValidator capacity) (pairViewOf s) b .state)
+    go zero q = rw q (passed-carried s b z q)
+    go (suc n) q = rw q (record { sound = z; view = refl })
+
+-- so it is after records
+records-carried : (s : List ℕ) (bs : List (List ℕ)) → acceptsPair s ≡ true
+    → Carried (stateListed pairWordsChecker s bs) (stateListed (pairValidator capacity) (pairViewOf s) bs)
+unfolding stateListed
+records-carried s [] z = record { sound = z; view = refl }
+records-carried s (b ∷ bs) z =
+    let c = record-carried s b z in rw (← c .view) (records-carried (callOne pairWordsChecker s b .state) bs (c .sound))
+
+-- the lines of records are the same over both
+lines-carried : (s : List ℕ) (i : ℕ) (bs : List (List ℕ)) → acceptsPair s ≡ true
+    → recordLines pairWordsChecker stateFigures s i bs ≡ recordLines (pairValidator capacity) figuresLine (pairViewOf s) i bs
+unfolding recordLines
+lines-carried s i [] z = refl
+lines-carried s i (b ∷ bs) z =
+    let c = record-carried s b z in
+    let line = recordLine i b (pairWordsChecker .judge s b) (stateFigures (callOne pairWordsChecker s b .state)) in
+    rw (← c .view) (ap (λ (t : List ℕ). line ++ t) (lines-carried (callOne pairWordsChecker s b .state) (suc i) bs (c .sound)))
+
+-- after a block the state is still accepted, and the listing stands at the same place over both
+after-carried : (p : Standing (List ℕ)) (b : List ℕ) → acceptsPair (p .state) ≡ true
+    → (acceptsPair (afterBlock pairWordsChecker p b .state) ≡ true)
+    × (viewed (afterBlock pairWordsChecker p b) ≡ afterBlock (pairValidator capacity) (viewed p) b)
+unfolding afterBlock
+after-carried p b z = go (blockRefusal b (p .block) (p .before))
+  where
+    go : (n : ℕ) → (acceptsPair (standingBy pairWordsChecker n p b .state) ≡ true)
+        × (viewed (standingBy pairWordsChecker n p b) ≡ standingBy (pairValidator capacity) n (viewed p) b)
+    go zero = let r = records-carried (p .state) (recordsOf b) z in (r .sound, rw (r .view))
+    go (suc n) = (z, refl)
+
+-- the text of blocks is the same over both
+text-carried : (p : Standing (List ℕ)) (bs : List (List ℕ)) → acceptsPair (p .state) ≡ true
+    → textOf p bs ≡ blocksText (pairValidator capacity) figuresLine (viewed p) bs
+unfolding blockText blocksText
+text-carried p [] z = refl
+text-carried p (b ∷ bs) z =
+    let n = after-carried p b z in
+    rw (lines-carried (p .state) (p .index) (recordsOf b) z, text-carried (afterBlock pairWordsChecker p b) bs (n .0), n .1)
 
 -- ## The opening
 
@@ -29,72 +112,88 @@ opening-rest : (home far rest other : List ℕ) → (pairOpeningRefusal (balance
 unfolding openingText
 opening-rest home far rest other e =
     ap (λ (t : List ℕ). unlessFault (blockRefusal home 0 0) 0 (unlessFault (blockRefusal far 1 (statedCount home)) 1 t))
-    (go (pairOpeningRefusal (balancesOf home) (balancesOf far)) refl)
+    (go (openLine (figuresLine (pairOpened (balancesOf home) (balancesOf far)))) (pairOpeningRefusal (balancesOf home) (balancesOf far)) e)
   where
-    line : List ℕ
-    line = openLine (figuresLine (pairOpened (balancesOf home) (balancesOf far)))
-
-    go : (n : ℕ) → pairOpeningRefusal (balancesOf home) (balancesOf far) ≡ n
-        → unlessFault n 1 (line ++ rest) ≡ unlessFault n 1 (line ++ other)
-    go zero q = ap (λ (t : List ℕ). line ++ t) (e q)
-    go (suc n) q = refl
+    go : (line : List ℕ) (n : ℕ) → (n ≡ 0 → rest ≡ other) → unlessFault n 1 (line ++ rest) ≡ unlessFault n 1 (line ++ other)
+    go line zero f = rw (f refl)
+    go line (suc n) f = refl
 
 -- after an accepted opening the text of blocks over the rules' states is the one over the program's
 opened-carried : (home far : List ℕ) (bs : List (List ℕ)) → pairOpeningRefusal (balancesOf home) (balancesOf far) ≡ 0
     → blocksText (pairValidator capacity) figuresLine (opened (pairOpened (balancesOf home) (balancesOf far)) (statedCount far)) bs
-    ≡ blocksText pairWordsChecker stateFigures (openedBy home far) bs
+    ≡ textOf (openedBy home far) bs
 opened-carried home far bs q =
-    ap (λ (v : PairView). blocksText (pairValidator capacity) figuresLine (opened v (statedCount far)) bs)
-    (sym (opened-view (balancesOf home) (balancesOf far) q))
-    ∙ sym (text-carried (openedBy home far) bs (opened-ready (balancesOf home) (balancesOf far) q .accepted))
+    rw (← (opened-view (balancesOf home) (balancesOf far) q))
+    (sym (text-carried (openedBy home far) bs (opened-ready (balancesOf home) (balancesOf far) q .accepted)))
+
+-- ## Bytes cut into parts
+
+-- all parts of a size
+abbrev partsOf : ℕ → List ℕ → List (List ℕ)
+partsOf size b = cut (length b) size b
+
+-- the first bytes of a list, without their first ones, are the first of those after them
+drop-take : {A : Type 0} (n m : ℕ) (l : List A) → drop n (take (n + m) l) ≡ take m (drop n l)
+drop-take zero m l = rw (zero-add m)
+drop-take (suc n) m [] = ap (drop (suc n)) (take-nil (suc n + m)) ∙ sym (take-nil m)
+drop-take (suc n) m (x ∷ l) = rw (suc-add n m) (drop-take n m l)
+
+-- the parts of bytes are those of the bytes before a multiple of the size and those of the bytes after it
+parts-split : (m n k : ℕ) (b : List ℕ) → k ≡ m * suc n → partsOf (suc n) b ≡ partsOf (suc n) (take k b) ++ partsOf (suc n) (drop k b)
+unfolding cut
+parts-split zero n k b e = let z : k ≡ 0 = omega arith in rw z
+parts-split (suc m) n k [] e = rw (take-nil {A = ℕ} k, drop-nil {A = ℕ} k)
+parts-split (suc m) n k (x ∷ b) e =
+    let z : k ≡ suc n + m * suc n = omega arith in
+    let t = cut-first n (take k (x ∷ b)) (omega (arith, length-take k (x ∷ b))) in
+    cut-first n (x ∷ b) (omega arith)
+    ∙ ap (λ (l : List (List ℕ)). take (suc n) (x ∷ b) ∷ l) (parts-split m n (m * suc n) (drop (suc n) (x ∷ b)) refl)
+    ∙ rw (t, take-take (suc n) k (x ∷ b) (omega arith), z, drop-take (suc n) (m * suc n) (x ∷ b), ← (drop-drop (m * suc n) (suc n) (x ∷ b)))
+
+-- bytes as long as a multiple of the size have as many parts
+parts-count : (m n : ℕ) (b : List ℕ) → length b ≡ m * suc n → length (partsOf (suc n) b) ≡ m
+unfolding cut
+parts-count zero n [] e = refl
+parts-count zero n (x ∷ b) e = absurd (omega arith)
+parts-count (suc m) n b e =
+    ap length (cut-first n b (omega arith))
+    ∙ ap suc (parts-count m n (drop (suc n) b) (omega (arith, length-drop (suc n) b)))
 
 -- ## Chunks
-
--- the blocks of bytes are those of a chunk and those of the bytes after it
-chunk-split : (j : List ℕ) → blocksIn j ≡ blocksIn (take chunkSize j) ++ blocksIn (drop chunkSize j)
-chunk-split j = parts-split 64 511 chunkSize j (omega arith)
 
 -- a full chunk has 64 blocks
 pub chunk-count : (chunk : List ℕ) → length chunk ≡ chunkSize → length (blocksIn chunk) ≡ 64
 chunk-count chunk e = parts-count 64 511 chunk (omega arith)
 
--- after a chunk that is not full no byte is left
-chunk-last : (j : List ℕ) → (length (take chunkSize j) ≡ chunkSize → ⊥) → drop chunkSize j ≡ []
-chunk-last j f = drop-of-length-le j {i = chunkSize} (omega (arith, length-take chunkSize j))
-
 -- as many chunks as reach beyond the greatest block number have the text of all blocks
 chunks-all : (n : ℕ) (p : Standing (List ℕ)) (j : List ℕ) → p .block ≤ suc maxBlock → suc maxBlock < p .block + n * 64
-    → blocksText pairWordsChecker stateFigures p (blocksIn j) ≡ chunksText n p j
-unfolding chunksText
+    → textOf p (blocksIn j) ≡ chunksText n p j
+unfolding blocksText chunksText cut
 chunks-all zero p j low beyond = absurd (omega arith)
 chunks-all (suc n) p j low beyond =
-    ap (text p) (chunk-split j)
+    ap (textOf p) (parts-split 64 511 chunkSize j (omega arith))
     ∙ text-append p (blocksIn (take chunkSize j)) (blocksIn (drop chunkSize j))
     ∙ ap (λ (t : List ℕ). chunkText p (take chunkSize j) ++ t)
     (go (eqb (length (take chunkSize j)) chunkSize) (next .going) refl refl (chunks-all n next (drop chunkSize j)))
   where
-    text : Standing (List ℕ) → List (List ℕ) → List ℕ
-    text q bs = blocksText pairWordsChecker stateFigures q bs
-
     next : Standing (List ℕ)
     next = afterChunk p (take chunkSize j)
 
     -- after a full chunk that does not stop it the listing goes on; after any other nothing is left to list
     go : (full on : Bool) → eqb (length (take chunkSize j)) chunkSize ≡ full → next .going ≡ on
         → (next .block ≤ suc maxBlock → suc maxBlock < next .block + n * 64
-        → text next (blocksIn (drop chunkSize j)) ≡ chunksText n next (drop chunkSize j))
-        → text next (blocksIn (drop chunkSize j)) ≡ whileGoing (full && on) (chunksText n next (drop chunkSize j))
+        → textOf next (blocksIn (drop chunkSize j)) ≡ chunksText n next (drop chunkSize j))
+        → textOf next (blocksIn (drop chunkSize j)) ≡ whileGoing (full && on) (chunksText n next (drop chunkSize j))
     go true true f g ih =
         let w = went-on p (blocksIn (take chunkSize j)) g in
         let c = chunk-count (take chunkSize j) (eqb-true _ _ f) in
         let k = w .number in
-        let l = w .low (omega arith) in
+        let l = w .low in
         ih (omega arith) (omega arith)
-    go true false f g ih = text-stopped pairWordsChecker stateFigures next (blocksIn (drop chunkSize j)) g
+    go true false f g ih = blocks-stopped next (blocksIn (drop chunkSize j)) g .0
     go false on f g ih =
-        ap (λ (b : List ℕ). text next (blocksIn b)) (chunk-last j (eqb-false _ _ f))
-        ∙ ap (text next) (parts-empty 512)
-        ∙ text-none pairWordsChecker stateFigures next
+        let h = eqb-false (length (take chunkSize j)) chunkSize f in
+        rw (drop-of-length-le j {i = chunkSize} (omega (arith, length-take chunkSize j)))
 
 -- the listing of every journal is the one in chunks
 pub listed-in-chunks : ListedInChunks

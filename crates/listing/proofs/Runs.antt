@@ -1,9 +1,9 @@
 -- The claim that a listing's lines are those of a run: the listing calls the pair validator with one record after another.
 -- Assumes nothing.
-use Prim.Native.Nat.{_+_, ℕ}
+use Prim.Native.Nat.{ℕ}
 use mathlib.Core.Bool.{true}
 use mathlib.Core.List.{List, [], _++_, _∷_}
-use mathlib.Core.Path.{_∙_, _≡_, ap, refl, sym}
+use mathlib.Core.Path.{_≡_, refl, sym}
 use Rattle.answers.proofs.Answers.{tells}
 use Rattle.answers.specs.Answers.{Tells, numberOf}
 use Rattle.ledgers.specs.Limits.{capacity}
@@ -11,10 +11,8 @@ use Rattle.listing.specs.Listing.{stateListed}
 use Rattle.listing.specs.Runs.{ListedAsRun, listed, oneByOne}
 use Rattle.rules.proofs.PairAccepted.{pair-keeps-accepted}
 use Rattle.rules.proofs.PairConserved.{conserved, pair-opened-accepted}
-use Rattle.rules.specs.Calls.{Checker, KeepsAccepted, Result, call, callOne, one, run}
-use Rattle.rules.specs.Lists.{total}
-use Rattle.rules.specs.PairValidator.{Conserved, ConservedAfter, PairKeepsAccepted, PairView, pairOpened, pairValidator}
-use Rattle.rules.specs.Rules.{inFlight}
+use Rattle.rules.specs.Calls.{Checker, KeepsAccepted, call, callOne, one, run}
+use Rattle.rules.specs.PairValidator.{Conserved, ConservedAfter, PairKeepsAccepted, pairOpened, pairValidator}
 
 module _ {S : Type 0} (c : Checker S) where
   -- a call with one record in an accepted state is the listing's step
@@ -25,30 +23,23 @@ module _ {S : Type 0} (c : Checker S) where
   -- the answer of such a call has the number that the validator says
   pub one-number : (s : S) (b : List ℕ) → c .accepts s ≡ true → c .judge s b ≡ numberOf (call c s (one b) .answer)
   unfolding callOne Tells
-  one-number s b a =
-      sym (tells (c .judge s b) 0 .0) ∙ ap (λ (r : Result S). numberOf (r .answer)) (sym (one-accepted s b a))
+  one-number s b a = rw (one-accepted s b a) (sym (tells (c .judge s b) 0 .0))
 
   -- from an accepted state the state after records is the one that the run of a call with each reaches
   pub listed-run : KeepsAccepted c → (s : S) → c .accepts s ≡ true → (bs : List (List ℕ)) → stateListed c s bs ≡ run c s (oneByOne bs)
   unfolding KeepsAccepted stateListed run oneByOne
   listed-run k s a [] = refl
-  listed-run k s a (b ∷ bs) =
-      ap (λ (r : Result S). stateListed c (r .state) bs) (sym (one-accepted s b a))
-      ∙ listed-run k (call c s (one b) .state) (k s a (one b)) bs
+  listed-run k s a (b ∷ bs) = rw (← (one-accepted s b a)) (listed-run k (call c s (one b) .state) (k s a (one b)) bs)
 
 -- the claim: each line of a listing after an accepted opening has the answer and the figures of the run
 pub listed-as-run : ListedAsRun
 unfolding ListedAsRun Conserved PairKeepsAccepted
 listed-as-run homes fars h bs b =
     record {
-      answer-is = ap (λ (v : PairView). pairValidator capacity .judge v b) (same bs)
-          ∙ one-number (pairValidator capacity) _ b (conserved capacity homes fars h (oneByOne bs) .accepted);
+      answer-is = rw (same bs) (one-number (pairValidator capacity) _ b (conserved capacity homes fars h (oneByOne bs) .accepted));
       state-is = same (bs ++ b ∷ []);
-      flight-is = ap (λ (v : PairView). inFlight (v .pair)) (same (bs ++ b ∷ [])) ∙ kept .figure;
-      conserved = ap (λ (v : PairView). total (v .pair .home .balances) + total (v .pair .far .balances) + inFlight (v .pair))
-          (same (bs ++ b ∷ []))
-          ∙ ap (λ (n : ℕ). total (reached .pair .home .balances) + total (reached .pair .far .balances) + n) (kept .figure)
-          ∙ kept .conserved;
+      flight-is = rw (same (bs ++ b ∷ [])) (kept .figure);
+      conserved = rw (same (bs ++ b ∷ []), kept .figure) (kept .conserved);
     }
   where
     same : (xs : List (List ℕ)) → listed homes fars xs ≡ run (pairValidator capacity) (pairOpened homes fars) (oneByOne xs)
@@ -58,6 +49,3 @@ listed-as-run homes fars h bs b =
 
     kept : ConservedAfter capacity homes fars (oneByOne (bs ++ b ∷ []))
     kept = conserved capacity homes fars h (oneByOne (bs ++ b ∷ []))
-
-    reached : PairView
-    reached = run (pairValidator capacity) (pairOpened homes fars) (oneByOne (bs ++ b ∷ []))

@@ -1,10 +1,10 @@
 -- What is told of a part of a block and of a record, by the answer or the reading that came back. Assumes nothing.
 use Prim.Native.Nat.{_*_, _+_, ℕ}
 use mathlib.Core.List.{List, []}
-use mathlib.Core.Path.{_∙_, _≡_, ap, sym}
+use mathlib.Core.Path.{_∙_, _≡_, sym}
 use lib.ListN.{drop, replicate, take}
 use Rattle.answers.proofs.Answers.{refused-instead}
-use Rattle.answers.specs.Answers.{answer, unlessRefused}
+use Rattle.answers.specs.Answers.{answer}
 use Rattle.answers.specs.declared.Answer.{Answer}
 use Rattle.answers.specs.declared.Answer.the-variants.{Refused}
 use Rattle.block_format.specs.Blocks.{recordPart}
@@ -29,12 +29,7 @@ module _ {a : Answer} {t : Told} (b : List ℕ) (k before place : ℕ) (tells : 
   part-refused {m} {q} e =
       let n : ℕ = recordRefusal b k before place in
       let f : answer n k ≡ Refused m q = sym judged ∙ e in (
-        λ i.
-            record {
-              answer = (tells ∙ ap told judged) i;
-              start = sym (refused-instead n k m q (32 + 32 * place) 0 f) i;
-              length = sym (refused-instead n k m q 32 0 f) i;
-            },
+        cc (refused-instead {A = ℕ} n k m q (32 + 32 * place) 0 f, refused-instead {A = ℕ} n k m q 32 0 f),
         sym (refused-instead n k m q (recordPart b place) [] f),
       )
 
@@ -44,35 +39,21 @@ module _ {a : Answer} {t : Told} (b : List ℕ) (k before place : ℕ) (tells : 
       (partTold (recordRefusal b k before place) k place))
       × (take 32 (drop (32 + 32 * place) b) ≡ partOf b k before place)
   unfolding partOf recordPart
-  part-passed z = (
-    λ i.
-        record {
-          answer = (tells ∙ ap told judged) i;
-          start = ap (λ (n : ℕ). unlessRefused n (32 + 32 * place) 0) (sym z) i;
-          length = ap (λ (n : ℕ). unlessRefused n 32 0) (sym z) i;
-        },
-    ap (λ (n : ℕ). unlessRefused n (take 32 (drop (32 + 32 * place) b)) []) (sym z),
-  )
+  part-passed z = (cc, cc)
 
 -- no fields of bytes that do not read
-pub record-unread : {r : Reading} {t : Told} → t ≡ told (answer 21 0) → r ≡ Unreadable
+pub record-unread : {r s : Reading} {t : Told} → r ≡ s → t ≡ told (answer 21 0) → r ≡ Unreadable
     → _≡_ {A = RecordTold}
-    (record { answer = t; kind = 0; ledger = 0; sender = 0; receiver = 0; number = 0; amount = 0; verdict = 0 }) (recordTold r)
-record-unread a e =
-    (λ i. record { answer = a i; kind = 0; ledger = 0; sender = 0; receiver = 0; number = 0; amount = 0; verdict = 0 })
-    ∙ ap recordTold (sym e)
+    (record { answer = t; kind = 0; ledger = 0; sender = 0; receiver = 0; number = 0; amount = 0; verdict = 0 }) (recordTold s)
+record-unread p a e = cc
 
-module _ {b f : List ℕ} {r : Reading} (same : b ≡ f) (reads : r ≡ reading b) where
+module _ {b f : List ℕ} {r : Reading} (same : b ≡ f) (reads : r ≡ reading b) {t : Told} where
   -- bytes that do not read
-  pub encoded-unread : {t : Told} → t ≡ told (answer 21 0) → r ≡ Unreadable
+  pub encoded-unread : t ≡ told (answer 21 0) → r ≡ Unreadable
       → _≡_ {A = EncodedTold} (record { answer = t; bytes = replicate 32 0 }) (encodedTold (reading f) f)
-  encoded-unread a e =
-      (λ i. record { answer = a i; bytes = replicate 32 0 })
-      ∙ ap (λ (x : Reading). encodedTold x f) (sym e ∙ reads ∙ ap reading same)
+  encoded-unread a e = cc
 
   -- bytes that read
-  pub encoded-read : {t : Told} → t ≡ told (answer 0 0) → {x : Record} → r ≡ Read x
+  pub encoded-read : t ≡ told (answer 0 0) → {x : Record} → r ≡ Read x
       → _≡_ {A = EncodedTold} (record { answer = t; bytes = b }) (encodedTold (reading f) f)
-  encoded-read a {x} e =
-      (λ i. record { answer = a i; bytes = same i })
-      ∙ ap (λ (y : Reading). encodedTold y f) (sym e ∙ reads ∙ ap reading same)
+  encoded-read a {x} e = cc

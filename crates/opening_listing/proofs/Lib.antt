@@ -1,3 +1,2 @@
 -- Laws of the first lines of a listing. Assumes nothing.
 pub mod OpeningText
-pub mod Halves

@@ -1,21 +1,22 @@
--- The text of the opening of blocks 0 and 1, by their refusals, and what the reader hands out of them. Assumes nothing.
-use Prim.Native.Nat.{_<_, _≤_, suc, zero, ℕ}
-use mathlib.Core.Bool.{false, true}
+-- The first two blocks of bytes, the text of their opening by their refusals, and what the reader hands out of them. Assumes nothing.
+use Prim.Native.Nat.{_+_, _-_, _<_, _≤_, min, suc, zero, ℕ}
+use mathlib.Core.Bool.{Bool, cond, false, true}
 use mathlib.Core.List.{List, [], _++_, append-nil}
-use mathlib.Core.Path.{_∙_, _≡_, ap, ap₂, refl, subst, sym}
+use mathlib.Core.Path.{_∙_, _≡_, ap, ap₂, refl, sym}
 use native.Mathlib.Omega.{arith}
-use lib.ListN.{length, length-append, replicate, take}
-use lib.Seq.{take-at}
-use borrow.Author.Tests.{lt-leb}
+use lib.Dec.{leb}
+use lib.ListN.{drop, length, length-append, length-drop, length-take, take, take-append-drop}
+use lib.Seq.{drop-append-seam, take-append-seam, take-at}
+use borrow.Author.Tests.{leb-false, leb-true, lt-leb}
 use Rattle.answers.proofs.Answers.{tells}
-use Rattle.answers.specs.Answers.{Tells, answer, numberOf, orElse, unlessRefused}
+use Rattle.answers.specs.Answers.{Tells, answer, numberOf, orElse}
 use Rattle.answers.specs.declared.Answer.the-variants.{Passed, Refused}
 use Rattle.block_format.proofs.Items.{length-balances}
 use Rattle.block_format.specs.Blocks.{balanceTable, balancesOf, statedCount}
 use Rattle.block_checks.specs.Checked.{blockRefusal}
+use Rattle.inputs.proofs.Parts.{drop-least, take-least}
 use Rattle.journal_reader.specs.Judged.{balancesRefusal, openingOf}
 use Rattle.journal_reader.specs.declared.Balances.{Balances}
-use Rattle.ledgers.specs.Limits.{accountLimit}
 use Rattle.lines.proofs.Puts.{fault-short, header-short, open-short, put-put}
 use Rattle.lines.specs.Lines.{Put, faultLine, figuresText, headerLine, openLine}
 use Rattle.listing.specs.Listing.{openingText, unlessFault}
@@ -28,6 +29,15 @@ use Rattle.rules.proofs.Lists.{never-both-tests}
 use Rattle.rules.specs.Lists.{sum, total}
 use Rattle.rules.specs.PairValidator.{pairOpened, pairOpeningRefusal}
 use Rattle.rules.specs.Rules.{flight, inFlight}
+
+-- ## The first two blocks
+
+-- blocks 0 and 1
+pub halves : (b : List ℕ) (m e : ℕ) → m ≡ min (length b) 512 → e ≡ min (length b) (m + 512)
+    → (take m b ≡ take 512 b) × (take (e - m) (drop m b) ≡ take 512 (drop 512 b))
+halves b m e p q =
+    let k : e - m ≡ min (length (drop m b)) 512 = omega (arith, length-drop m b) in
+    (rw p (take-least 512 b), rw k (take-least 512 (drop m b) ∙ ap (take 512) (rw p (drop-least 512 b))))
 
 -- ## The text by the refusals
 
@@ -75,16 +85,10 @@ pub fault-leaves : {P : Type 0} (home far : List ℕ) (start : Start) (n block :
     × ((start .going ≡ true → P)
     × ((start .going ≡ false → (rest : List ℕ) → openingText home far rest ≡ openingText home far [])
     × (start .end ≤ 256)))
-fault-leaves home far start n block t p q z g = (
-  rw (t [], z) (put-put p q),
-  (
-    λ h. absurd (never-both-tests (sym h ∙ g)),
-    (
-      λ h rest. t rest ∙ sym (t []),
-      omega (arith, p .next, q .next, header-short, fault-short n block),
-    ),
-  ),
-)
+fault-leaves {P} home far start n block t p q z g =
+    let never : start .going ≡ true → P = λ h. absurd (never-both-tests (sym h ∙ g)) in
+    let short = fault-short n block in
+    (rw (t [], z) (put-put p q), (never, (λ h rest. t rest ∙ sym (t []), omega (arith, p .next, q .next, header-short, short))))
 
 -- what a listing leaves whose opening is accepted
 pub open-leaves : (home far : List ℕ) (row : Row) {d e f state : List ℕ} {o before end : ℕ}
@@ -100,24 +104,16 @@ pub open-leaves : (home far : List ℕ) (row : Row) {d e f state : List ℕ} {o 
     × ((true ≡ true → OpenedIn home far (record { row = row; before = before; end = end; going = true }) state)
     × ((true ≡ false → (rest : List ℕ) → openingText home far rest ≡ openingText home far [])
     × (end ≤ 256)))
-open-leaves home far row {d} {e} {f} {state} {o} {before} {end} a b z p q r k w =
+open-leaves home far row a b z p q r k w =
     let t = at-open home far a b z in
     let s = t [] ∙ append-nil _ in
-    let m = ap (λ (x : Row). openLine (figuresText (x .home) (x .far) 0)) r ∙ sym s in (
-      subst (λ (l : List ℕ). Put d 0 (headerLine ++ l) f end) m (put-put p q),
+    let put = rw r at (put-put p q) in
+    let short = open-short (row .home) (row .far) in
+    let on : (rest : List ℕ) → openingText home far rest ≡ openingText home far [] ++ rest = λ rest. rw s (t rest) in (
+      rw s put,
       (
-        λ h.
-            record {
-              continues = λ rest. t rest ∙ ap (λ (l : List ℕ). l ++ rest) (sym s);
-              unrefused = z;
-              row-is = r;
-              before-is = k;
-              state-is = w;
-            },
-        (
-          λ h. absurd (never-both-tests h),
-          omega (arith, p .next, q .next, header-short, open-short (row .home) (row .far)),
-        ),
+        λ h. record { continues = on; unrefused = z; row-is = r; before-is = k; state-is = w },
+        (λ h. absurd (never-both-tests h), omega (arith, p .next, q .next, header-short, short)),
       ),
     )
 
@@ -149,29 +145,27 @@ module _ (b : List ℕ) (k before : ℕ) (low : k < 2) {r : Balances} (h : r ≡
   -- the answer's number is the block's refusal
   number-told : numberOf (r .answer) ≡ blockRefusal b k before
   unfolding openingOf Tells
-  number-told = ap (λ (x : Balances). numberOf (x .answer)) h ∙ tells (balancesRefusal b k before) k .0 ∙ kind-none
+  number-told = rw h (tells (balancesRefusal b k before) k .0 ∙ kind-none)
 
   -- where it is a refusal its number is the block's refusal, and there is one
   pub refused : {m q n : ℕ} → r .answer ≡ Refused m q → n ≡ numberOf (r .answer) → (n ≡ blockRefusal b k before) × (n ≡ 0 → ⊥)
   unfolding openingOf
   refused {m} {q} e t =
-      let a = sym (ap (λ (x : Balances). x .answer) h) ∙ e in
       let n = t ∙ number-told in
-      (n, λ z. refused-some (balancesRefusal b k before) k m q a (kind-none ∙ sym n ∙ z))
+      (n, λ z. refused-some (balancesRefusal b k before) k m q (rw h at e) (kind-none ∙ sym n ∙ z))
 
   -- where it passed there is none, and the count and the balances were handed out
   pub handed : r .answer ≡ Passed → Handed b k before r
   unfolding openingOf
   handed e =
       let z : blockRefusal b k before ≡ 0 = sym number-told ∙ ap numberOf e in
-      let count : r .count ≡ statedCount b =
-      ap (λ (x : Balances). x .count) h ∙ ap (λ (n : ℕ). unlessRefused n (statedCount b) 0) (kind-none ∙ z) in
-      let table : r .balances ≡ balanceTable b =
-      ap (λ (x : Balances). x .balances) h
-      ∙ ap (λ (n : ℕ). unlessRefused n (balanceTable b) (replicate accountLimit 0)) (kind-none ∙ z) in
+      let n : balancesRefusal b k before ≡ 0 = kind-none ∙ z in
+      let count : r .count ≡ statedCount b = rw (h, n) in
+      let table : r .balances ≡ balanceTable b = rw (h, n) in
+      let l = length-balances (statedCount b) b in
       record {
         none = z;
         count-is = count;
-        balances-are = ap₂ take count table ∙ take-at (balancesOf b) _ (statedCount b) (length-balances (statedCount b) b);
-        fits = rw (count, table, length-append) (omega (arith, length-balances (statedCount b) b));
+        balances-are = rw (count, table) (take-at (balancesOf b) _ (statedCount b) l);
+        fits = rw (count, table, length-append) (omega (arith, l));
       }

@@ -46,7 +46,7 @@ pub record Tested (s : List ℕ) : Type 0 where
   pub zeros : (L : Ledger) → zeroBeyond s (ledgerByte L) ≡ true
   pub holds : (L : Ledger) → heldOn s (ledgerByte L) ≡ true
   pub backed : (L : Ledger) → backedOn s (ledgerByte L) ≡ true
-  pub adds : balanceSum s 0 + balanceSum s 1 + flowSum 2 s 0 + flowSum 2 s 1 ≡ supplyOf s + flowSum 3 s 0 + flowSum 3 s 1
+  pub adds : balanceSum s 0 + balanceSum s 1 + (flowSum 2 s 0 + flowSum 2 s 1) ≡ supplyOf s + (flowSum 3 s 0 + flowSum 3 s 1)
 
 -- the tests give the facts
 tests-facts : (s : List ℕ) → testsOf s ≡ true → (length s ≡ pairWords) × ((pairBounds s ≡ true) × Tested s)

@@ -20,12 +20,12 @@ use Rattle.records.specs.declared.Words.{Words}
 use Rattle.rules.proofs.Lists.{never-both-tests}
 use Rattle.rules.specs.Lists.{any}
 use Rattle.rules.specs.PairValidator.{matched, pairJudge, roomRefusal}
-use Rattle.rules.specs.Rules.{LedgerState, accountsOf, firstRefusal, fundsRefusal, isReceiving, judge, lastRefusal, matchRefusal}
-use Rattle.rules.specs.Rules.{matches, stateOf}
+use Rattle.rules.specs.Rules.{LedgerState, accountsOf, fundsRefusal, isReceiving, judge, lastRefusal, matchRefusal}
+use Rattle.rules.specs.Rules.{matches}
 use Rattle.table.proofs.Crossings.{asked, backed-is}
 use Rattle.table.proofs.Numbers.{clash-records}
 use Rattle.table.specs.Table.{backedBy, ledgerIn, numberedAt}
-use Rattle.table_laws.proofs.Judged.{first-else, funds-at}
+use Rattle.table_laws.proofs.Judged.{funds-at, judged-by}
 use Rattle.tables.specs.Columns.{firstBy, fundsAt}
 use Rattle.tables.specs.Places.{anyAt}
 
@@ -57,33 +57,16 @@ module _ (s : List ℕ) (r : Record) where
       let a = asked (isReceiving (r .kind)) (any (matches r) (ledgerOn s c .passed)) (rw q h) in
       rw (p ∙ other-byte l, ← b, e, a, state-on s (counterpart l))
 
-  -- 41
-  room-of : (l : ℕ) → roomRefusal capacity (ledgerOn s l .passed) ≡ refuse (leb capacity (countOn s l)) 41 0
-  unfolding roomRefusal
-  room-of l = rw (length-held s l)
-
-  -- 22, 23 and 24, and those after them
-  first-of : (l later : ℕ) → firstRefusal (accountsOf (pairViewOf s .pair)) (ledgerOn s l .passed) r later
-      ≡ firstBy (accountsOf (pairViewOf s .pair) (senderLedger (r .kind))) (accountsOf (pairViewOf s .pair) (receiverLedger (r .kind))) r
-      (anyAt (numberedAt (r .number) s (recordsOn l)) 0 (countOn s l)) later
-  unfolding firstRefusal firstBy ledgerIn
-  first-of l later = rw (clash-records s (recordsOn l) r (countOn s l))
-
   -- the refusals in order are the pair validator's
-  pub judge-by : (l senders receivers last full later : ℕ) (taken : Bool) (n : ℕ)
-      → l ≡ ledgerByte (ledgerOf (r .kind))
+  pub judge-by : {l senders receivers last full later n : ℕ} {taken : Bool} → l ≡ ledgerByte (ledgerOf (r .kind))
       → senders ≡ accountsOf (pairViewOf s .pair) (senderLedger (r .kind))
       → receivers ≡ accountsOf (pairViewOf s .pair) (receiverLedger (r .kind))
       → last ≡ lastRefusal (pairViewOf s .pair) r (r .kind) → full ≡ refuse (leb capacity (countOn s l)) 41 0 → later ≡ orElse last full
       → taken ≡ anyAt (numberedAt (r .number) s (recordsOn l)) 0 (countOn s l) → n ≡ firstBy senders receivers r taken later
       → n ≡ pairJudge capacity (pairViewOf s .pair) (Read r)
-  unfolding judge
-  judge-by l senders receivers last full later taken n eb es ev el eu ea et h =
+  unfolding judge roomRefusal ledgerIn
+  judge-by {l} eb es ev el eu ea et h =
       let p = pairViewOf s .pair in
-      let L = ledgerOf (r .kind) in
-      let b = ledgerByte L in
-      h
-      ∙ rw (et, ea, el, eu, es, ev, eb)
-      (sym (first-of b (orElse (lastRefusal p r (r .kind)) (refuse (leb capacity (countOn s b)) 41 0)))
-      ∙ rw (← room-of b, ← state-on s L)
-      (sym (first-else (accountsOf p) (stateOf L p .passed) r (lastRefusal p r (r .kind)) (roomRefusal capacity (stateOf L p .passed)))))
+      judged-by (accountsOf p) (ledgerOn s l .passed) r (lastRefusal p r (r .kind)) es ev el (rw (length-held s l) eu) ea
+      (rw (clash-records s (recordsOn l) r (countOn s l)) et) h
+      ∙ rw (eb, state-on s (ledgerOf (r .kind)))

@@ -3,5 +3,6 @@
 pub mod Ledgers
 pub mod Accept
 pub mod Judging
+pub mod Opened
 pub mod Passing
 pub mod Stepping

@@ -23,7 +23,8 @@ use Rattle.pair_core.proofs.Ledgers.{Bounds, accounts-fit, balances-wit
 use Rattle.pair_core.proofs.Ledgers.{state-on}
 use Rattle.pair_core.specs.Layout.{PairReady, acceptsPair, accountsOn, accountsWord, balancesOn, countOn, countWord, formedOn}
 use Rattle.pair_core.specs.Layout.{indexOn, ledgerOn, pairViewOf, pairWith, recordsOn, supplyOf, supplyWord, zeroBeyond}
-use Rattle.records.specs.Records.{formed, reading, recordIn}
+use Rattle.records.proofs.Formed.{read-formed}
+use Rattle.records.specs.Records.{formed, reading, recordIn, wordsOf}
 use Rattle.records.specs.declared.Reading.the-variants.{Read}
 use Rattle.records.specs.declared.Record.{Record}
 use Rattle.records.specs.declared.Words.{Words}
@@ -61,13 +62,13 @@ index-apart Far n h = inl (omega arith)
 
 -- ## A pass
 
--- what a pass says of a record on the ledger with byte l
-pub record PairPasses (s : List ℕ) (r : Record) (l : ℕ) : Type 0 where
+-- what a pass says of a record of a kind on the ledger with byte l
+pub record PairPasses (s : List ℕ) (r : Record) (k : Kind) (l : ℕ) : Type 0 where
   pub room : countOn s l < capacity
-  pub changes : Changes (accountsOn s l) r (r .kind)
+  pub changes : Changes (accountsOn s l) r k
   pub sender : r .sender < accountLimit
   pub receiver : r .receiver < accountLimit
-  pub pays : takenBy (r .kind) (r .amount) ≤ getD s (balancesOn l + r .sender) 0
+  pub pays : takenBy k (r .amount) ≤ getD s (balancesOn l + r .sender) 0
 
 module _ (s : List ℕ) (d : PairSound s) where
   -- the balances of both ledgers are at most the greatest amount
@@ -88,7 +89,7 @@ module _ (s : List ℕ) (d : PairSound s) where
       (by-byte (λ (m : ℕ). total (ledgerOn s m .balances) ≤ maxAmount) (omega (arith, totals-fit)) (omega (arith, totals-fit)) l h) i p
 
   -- what is given to an account stays in 64 bits
-  pub paid-fits : (r : Record) (l : ℕ) → l < 2 → PairPasses s r l → r .amount ≤ maxAmount
+  pub paid-fits : (r : Record) (l : ℕ) → l < 2 → PairPasses s r (r .kind) l → r .amount ≤ maxAmount
       → getD (lowered s (balancesOn l + r .sender) (takenBy (r .kind) (r .amount))) (balancesOn l + r .receiver) 0
       + givenBy (r .kind) (r .amount) < 2 ^ 64
   paid-fits r l h p m =
@@ -113,49 +114,26 @@ module _ (s : List ℕ) (d : PairSound s) (r : Record) (l o : ℕ) (hl : l < 2) 
   pays-by x = balance-in s (balancesOn l) (accountsOn s l) (recordsOn l) (countOn s l) (r .sender) x
 
   -- from what the rules ask
-  passes-by : (k : Kind) → r .kind ≡ k → Passable (ledgerOn s l) (ledgerOn s o) r k → PairPasses s r l
+  passes-by : (k : Kind) → Passable (ledgerOn s l) (ledgerOn s o) r k → PairPasses s r k l
   unfolding Passable Changes
-  passes-by (Local m) q h =
+  passes-by (Local m) h =
       let x : r .sender < accountsOn s l = rw own at (h .0 .sender-open) in
-      let y : r .receiver < accountsOn s l = rw own at (h .0 .receiver-open) in
-      record {
-        room = space;
-        changes = rw q (x, y);
-        sender = omega (arith, fits l hl);
-        receiver = omega (arith, fits l hl);
-        pays = rw q (omega (arith, h .1, pays-by x));
-      }
-  passes-by (Sending m) q h =
+      omega (arith, h .0 .receiver-open, own, fits l hl, h .1, pays-by x)
+  passes-by (Sending m) h =
       let x : r .sender < accountsOn s l = rw own at (h .0 .sender-open) in
-      let y : r .receiver < accountsOn s o = rw other at (h .0 .receiver-open) in
-      record {
-        room = space;
-        changes = rw q x;
-        sender = omega (arith, fits l hl);
-        receiver = omega (arith, fits o ho);
-        pays = rw q (omega (arith, h .1, pays-by x));
-      }
-  passes-by (Receiving m) q h =
-      let x : r .sender < accountsOn s o = rw other at (h .0 .sender-open) in
-      let y : r .receiver < accountsOn s l = rw own at (h .0 .receiver-open) in
-      record {
-        room = space;
-        changes = rw q y;
-        sender = omega (arith, fits o ho);
-        receiver = omega (arith, fits l hl);
-        pays = rw q (omega arith);
-      }
+      omega (arith, h .0 .receiver-open, other, fits l hl, fits o ho, h .1, pays-by x)
+  passes-by (Receiving m) h = omega (arith, h .0 .sender-open, h .0 .receiver-open, own, other, fits l hl, fits o ho)
 
 -- a record without a refusal passes
 pub passes-of : (s : List ℕ) → PairSound s → (r : Record) → pairJudge capacity (pairViewOf s .pair) (Read r) ≡ 0
-    → PairPasses s r (ledgerByte (ledgerOf (r .kind)))
+    → PairPasses s r (r .kind) (ledgerByte (ledgerOf (r .kind)))
 passes-of s d r j =
     let L = ledgerOf (r .kind) in
     let a = or-else-zero (judge (pairViewOf s .pair) r) _ j in
     let m = room-none capacity _ (a .1) in
     let h = judge-none (pairViewOf s .pair) r (r .kind) refl (a .0) in
     passes-by s d r (ledgerByte L) (ledgerByte (counterpart L)) (byte-below L) (byte-below (counterpart L))
-    (rw (state-on s L, length-held s (ledgerByte L)) at m) (r .kind) refl
+    (rw (state-on s L, length-held s (ledgerByte L)) at m) (r .kind)
     (rw (state-on s L, state-on s (counterpart L)) at h)
 
 -- ## The words after it
@@ -170,7 +148,7 @@ pub record PairWritten (s t : List ℕ) (w : Words) (r : Record) (L : Ledger) : 
   pub count : countOn t (ledgerByte L) ≡ countOn s (ledgerByte L) + 1
   pub others : countOn t (ledgerByte (counterpart L)) ≡ countOn s (ledgerByte (counterpart L))
 
-module _ (s : List ℕ) (w : Words) (r : Record) (d : PairSound s) (L : Ledger) (p : PairPasses s r (ledgerByte L)) where
+module _ (s : List ℕ) (w : Words) (r : Record) (d : PairSound s) (L : Ledger) (p : PairPasses s r (r .kind) (ledgerByte L)) where
   -- the record's ledger
   abbrev l : ℕ
   l = ledgerByte L
@@ -305,7 +283,7 @@ module _ (s : List ℕ) (w : Words) (r : Record) (d : PairSound s) (L : Ledger) 
 
 -- both ledgers, as the rules have them
 view-after : (s t : List ℕ) (w : Words) (r : Record) → PairSound s → (L : Ledger) → ledgerOf (r .kind) ≡ L
-    → PairPasses s r (ledgerByte L) → PairWritten s t w r L → recordIn w ≡ r
+    → PairPasses s r (r .kind) (ledgerByte L) → PairWritten s t w r L → recordIn w ≡ r
     → pairViewOf t ≡ record { pair = after (pairViewOf s .pair) r; supply = supplyOf s }
 unfolding after
 view-after s t w r d Home q p c e = rw (own-after s w r d Home p t c e, other-after s w r d Home p t c, c .supply, q)
@@ -318,16 +296,18 @@ pub record PairNext (s : List ℕ) (w : Words) (r : Record) (l : ℕ) : Type 0 w
   pub ready : (index : List ℕ) → PairReady s index → PairReady (pairWith s w r l) (grown index (indexOn l) (countOn s l) (r .number))
 
 -- bytes that pass
-pub next-of : (s : List ℕ) → acceptsPair s ≡ true → (b : List ℕ) (w : Words) (r : Record) → formed w ≡ true → recordIn w ≡ r
-    → reading b ≡ Read r → pairJudge capacity (pairViewOf s .pair) (Read r) ≡ 0 → PairNext s w r (ledgerByte (ledgerOf (r .kind)))
+pub next-of : (s : List ℕ) → acceptsPair s ≡ true → (b : List ℕ) (r : Record) → reading b ≡ Read r
+    → pairJudge capacity (pairViewOf s .pair) (Read r) ≡ 0 → PairNext s (wordsOf b) r (ledgerByte (ledgerOf (r .kind)))
 unfolding afterBytes
-next-of s h b w r f e q j =
+next-of s h b r q j =
+    let w = wordsOf b in
+    let f = read-formed b r q in
     let d = sound-of s h in
     let L = ledgerOf (r .kind) in
     let t = pairWith s w r (ledgerByte L) in
     let p = passes-of s d r j in
     let c = written s w r d L p in
-    let v = view-after s t w r d L refl p c e in
+    let v = view-after s t w r d L refl p c (f .2) in
     let k : pairJudge capacity (pairViewOf s .pair) (reading b) ≡ 0 = rw q j in
     let g : pairAccepts capacity (record { pair = after (pairViewOf s .pair) r; supply = supplyOf s }) ≡ true =
     rw q at (pair-step capacity (pairViewOf s) b (d .accepted) k) in
@@ -337,7 +317,7 @@ next-of s h b w r f e q j =
       long = c .long ∙ d .long;
       bounds = bounds-after s w r d L p t c;
       zeros = zeros-after s w r d L p t c;
-      reads = reads-after s w r d L p t c f;
+      reads = reads-after s w r d L p t c (f .1);
       accepted = rw v g;
     }) in
     record {
@@ -346,6 +326,6 @@ next-of s h b w r f e q j =
       ready = λ index a. record {
         accepted = n;
         index-long = simp length-set (a .index-long);
-        indexed = indexed-after s w r d L p t c e index a;
+        indexed = indexed-after s w r d L p t c (f .2) index a;
       };
     }

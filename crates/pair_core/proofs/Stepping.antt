@@ -1,38 +1,35 @@
--- What one record of a call answers and leaves, with the indexes of the numbers. Assumes nothing.
-use Prim.Native.Nat.{suc, zero, ℕ}
+-- What a record asks that passes in a state with the indexes of its numbers, and what it leaves. Assumes nothing.
+use Prim.Native.Nat.{_+_, _<_, ℕ}
 use mathlib.Core.List.{List}
-use mathlib.Core.Path.{_∙_, _≡_, refl, sym}
+use mathlib.Core.Path.{_≡_}
+use native.Mathlib.Omega.{arith}
+use lib.ListN.{length}
+use Rattle.inputs.proofs.Parts.{ReadsAs, Stepped, step-passed}
 use Rattle.ledgers.specs.Ledgers.{ledgerByte, ledgerOf}
 use Rattle.ledgers.specs.Limits.{capacity}
-use Rattle.pair_core.proofs.Passing.{next-of}
+use Rattle.number_index.specs.Index.{chainCount}
+use Rattle.pair_core.proofs.Accept.{sound-of}
+use Rattle.pair_core.proofs.Ledgers.{byte-below}
+use Rattle.pair_core.proofs.Passing.{next-of, passes-of}
 use Rattle.pair_core.specs.Layout.{PairReady, countOn, indexOn, pairViewOf, pairWith, pairWordsChecker}
-use Rattle.records.proofs.Formed.{read-formed}
-use Rattle.records.specs.Records.{reading, wordsOf}
 use Rattle.records.specs.declared.Reading.the-variants.{Read}
 use Rattle.records.specs.declared.Record.{Record}
-use Rattle.rules.specs.Calls.{callOne}
+use Rattle.records.specs.declared.Words.{Words}
 use Rattle.rules.specs.PairValidator.{pairJudge}
 use Rattle.table.proofs.Growing.{grown}
 
--- the number, the state left and its indexes, as `step` states them
-abbrev Stepped : List ℕ → List ℕ → ℕ → List ℕ → List ℕ → Type 0
-Stepped s b n t index =
-    (n ≡ pairWordsChecker .judge s b) × ((t ≡ callOne pairWordsChecker s b .state) × PairReady t index)
+module _ {s index b : List ℕ} {w : Words} {r : Record} (h : PairReady s index) (x : ReadsAs b w r)
+    (j : pairJudge capacity (pairViewOf s .pair) (Read r) ≡ 0) {l : ℕ} (e : l ≡ ledgerByte (ledgerOf (r .kind))) where
+  -- its ledger has room for it, and its index for its number
+  pub number-room : (indexOn l + chainCount + countOn s l < length index) × (countOn s l < capacity)
+  number-room =
+      let m : countOn s l < capacity = rw e (passes-of s (sound-of s (h .accepted)) r j .room) in
+      let z : l < 2 = rw e (byte-below (ledgerOf (r .kind))) in
+      (omega (arith, h .index-long), m)
 
-module _ (s index b : List ℕ) (h : PairReady s index) where
-  -- a refusal
-  pub step-refused : (n : ℕ) → pairJudge capacity (pairViewOf s .pair) (reading b) ≡ n → (n ≡ 0 → ⊥) → Stepped s b n s index
-  unfolding callOne
-  step-refused zero q z = absurd (z refl)
-  step-refused (suc n) q z = (sym q, (rw q, h))
-
-  -- a pass
-  pub step-passed : (r : Record) → reading b ≡ Read r → pairJudge capacity (pairViewOf s .pair) (Read r) ≡ 0 → (l : ℕ)
-      → l ≡ ledgerByte (ledgerOf (r .kind)) → (t i : List ℕ) → t ≡ pairWith s (wordsOf b) r (ledgerByte (ledgerOf (r .kind)))
-      → i ≡ grown index (indexOn l) (countOn s l) (r .number) → Stepped s b 0 t i
-  unfolding callOne
-  step-passed r q j l d t i e g =
-      let f = read-formed b r q in
-      let x = next-of s (h .accepted) b (wordsOf b) r (f .1) (f .2) q j in
-      let k : callOne pairWordsChecker s b .state ≡ pairWith s (wordsOf b) r (ledgerByte (ledgerOf (r .kind))) = rw (q, j) in
-      (rw q (sym j), (e ∙ sym k, rw (e, g, d) (x .ready index h)))
+  -- what it leaves
+  pub step-leaves : {t i : List ℕ} → t ≡ pairWith s w r (ledgerByte (ledgerOf (r .kind)))
+      → i ≡ grown index (indexOn l) (countOn s l) (r .number) → Stepped pairWordsChecker PairReady s b 0 t i
+  step-leaves q g =
+      let n = next-of s (h .accepted) b r (x .reads) j in
+      step-passed pairWordsChecker PairReady s b (rw (x .reads) j) (rw (x .reads, ← x .words) q) (rw (q, g, e, x .words) (n .ready index h))

@@ -32,7 +32,7 @@ flowSum kind s l = sumAt (flowAt kind s (recordsOn l)) 0 (countOn s l)
 -- balances and what was sent are the supply and what arrived
 unfoldable pub sumsAgree : List ℕ → Bool
 sumsAgree s =
-    eqb (balanceSum s 0 + balanceSum s 1 + flowSum 2 s 0 + flowSum 2 s 1) (supplyOf s + flowSum 3 s 0 + flowSum 3 s 1)
+    eqb (balanceSum s 0 + balanceSum s 1 + (flowSum 2 s 0 + flowSum 2 s 1)) (supplyOf s + (flowSum 3 s 0 + flowSum 3 s 1))
 
 -- all of these, the length first
 unfoldable pub testsOf : List ℕ → Bool

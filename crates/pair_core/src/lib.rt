@@ -1,39 +1,44 @@
 // The pair validator (document 01: pair book) over the words of its state, in place: whether a state is accepted, a record judged, a
-// passed record stored, and the calls with one record and with a list. Functions on one ledger take its byte as an index.
+// passed record stored, the opening, and the calls with one record and with a list. Functions on one ledger take its byte as an index.
 ghost use Prim.Native.Nat.{ℕ, _+_, _*_, _<_};
 ghost use mathlib.Core.Bool.{true};
 ghost use mathlib.Core.Path.{_≡_};
 ghost use lib.ListN.{length};
+ghost use Rattle.answers.specs.Answers.{unlessRefused};
 ghost use Rattle.ledgers.specs.Ledgers.{ledgerByte, ledgerOf};
 ghost use Rattle.ledgers.specs.Limits.{capacity};
 ghost use Rattle.number_index.specs.Index.{Kept};
 ghost use Rattle.pair_core.specs.Layout.{PairReady, acceptsPair, countOn, indexLength, indexOn, pairBounds, pairViewOf};
-ghost use Rattle.pair_core.specs.Layout.{pairWith, pairWords, pairWordsChecker, recordsOn, zeroBeyond};
+ghost use Rattle.pair_core.specs.Layout.{pairOpenedWords, pairWith, pairWords, pairWordsChecker, pairZeroWords, recordsOn};
+ghost use Rattle.pair_core.specs.Layout.{zeroBeyond};
 ghost use Rattle.pair_core.specs.Testing.{backedOn, heldOn, sumsAgree};
 ghost use Rattle.records.specs.Records.{formed, recordIn};
 ghost use Rattle.records.specs.declared.Reading.the-variants.{Read};
 ghost use Rattle.rules.specs.Calls.{call, callOne, list, one};
-ghost use Rattle.rules.specs.PairValidator.{pairJudge};
+ghost use Rattle.rules.specs.PairValidator.{pairJudge, pairOpeningRefusal};
 ghost use Rattle.rules.specs.Rules.{accountsOf, lastRefusal};
-ghost use Rattle.table.specs.Table.{IndexOf};
+ghost use Rattle.table.specs.Table.{FlowsAt, IndexOf};
 use answers::Answer;
 use answers::first_refusal;
 use answers::refusal_if;
+use entries::copy_numbers;
 use entries::is_count_allowed;
 use entries::is_receiving;
+use exact_sums::Flows;
 use exact_sums::Wide;
 use exact_sums::add_balances;
 use inputs::part_end;
 use ledgers::Ledger;
 use number_index::CHAINS;
+use openings::pair_opening;
 use record_refusals::first_refusals;
 use record_refusals::funds_refusal;
 use records::Reading;
 use records::Record;
 use records::Words;
+use table::Crossed;
 use table::add_crossings;
 use table::add_number;
-use table::all_backed;
 use table::hold_indexed;
 use table::is_backed;
 use table::is_used;
@@ -129,14 +134,15 @@ fn is_held<'a, 'b>(s: &'a [u64], index: &'b mut [u16], l: usize) -> bool
     )
 }
 
-// The arrivals of a ledger, each with its sending on the other one.
-fn is_ledger_backed<'a>(s: &'a [u64], index: &'a [u16], l: usize) -> bool
+// Whether the arrivals of a ledger have their sendings on the other one, and what its records sent and received.
+fn crossings_on<'a>(s: &'a [u64], index: &'a [u16], l: usize) -> Crossed
     requires { ⌜ (length (now s) ≡ pairWords) × (pairBounds (now s) ≡ true) × (length (now index) ≡ 2 * indexLength) × (l < 2)
         × ((m : ℕ) → m < 2 → IndexOf (now s) (recordsOn m) (now index) (indexOn m) (countOn (now s) m)) ⌝ }
-    ensures { λ b. ⌜ b ≡ backedOn (now (s .entry)) l ⌝ }
+    ensures backed { λ r. ⌜ r .backed ≡ backedOn (now (s .entry)) l ⌝ }
+    ensures sums { λ r. ⌜ (r .backed ≡ true → FlowsAt (now (s .entry)) (recordsOn l) (countOn (now (s .entry)) l) (r .flows)) ⌝ }
 {
     let o = 1 - l;
-    all_backed(
+    add_crossings(
         s,
         index,
         l * RECORDS,
@@ -149,8 +155,9 @@ fn is_ledger_backed<'a>(s: &'a [u64], index: &'a [u16], l: usize) -> bool
 }
 
 // Balances and what was sent, against the supply and what arrived.
-fn adds_up(s: &[u64]) -> bool
-    requires { ⌜ (length (now s) ≡ pairWords) × (pairBounds (now s) ≡ true) ⌝ }
+fn adds_up(s: &[u64], home: Flows, far: Flows) -> bool
+    requires { ⌜ (length (now s) ≡ pairWords) × (pairBounds (now s) ≡ true) × FlowsAt (now s) (recordsOn 0) (countOn (now s) 0) home
+        × FlowsAt (now s) (recordsOn 1) (countOn (now s) 1) far ⌝ }
     ensures { λ b. ⌜ b ≡ sumsAgree (now (s .entry)) ⌝ }
 {
     let zero = Wide { high: 0, low: 0 };
@@ -161,10 +168,11 @@ fn adds_up(s: &[u64]) -> bool
         s[ACCOUNTS + 1] as usize,
         homes,
     );
-    let home = add_crossings(s, 0, s[COUNTS] as usize, held, zero.add(s[SUPPLY]));
-    let both = add_crossings(s, RECORDS, s[COUNTS + 1] as usize, home.sent, home.received);
-    let sent = both.sent;
-    let received = both.received;
+    let sent = held.add_halves(home.sent.high + far.sent.high, home.sent.low + far.sent.low);
+    let received = zero.add(s[SUPPLY]).add_halves(
+        home.received.high + far.received.high,
+        home.received.low + far.received.low,
+    );
     if sent.high != received.high {
         return false;
     }
@@ -197,13 +205,15 @@ pub fn is_accepted<'a, 'b>(s: &'a [u64], index: &'b mut [u16]) -> bool
     if !is_held(s, index, 1) {
         return false;
     }
-    if !is_ledger_backed(s, index, 0) {
+    let home = crossings_on(s, index, 0);
+    if !home.backed {
         return false;
     }
-    if !is_ledger_backed(s, index, 1) {
+    let far = crossings_on(s, index, 1);
+    if !far.backed {
         return false;
     }
-    adds_up(s)
+    adds_up(s, home.flows, far.flows)
 }
 
 // ## Judging a record
@@ -272,6 +282,27 @@ fn pass(state: &mut [u64; WORDS], w: Words, r: Record)
         r,
     );
     state[COUNTS + l] = count + 1;
+}
+
+// ## The opening
+
+// An opening with the balances of each ledger, in words of zeros: 1 or 2, and no word is stored, or 0.
+pub fn open<'a, 'b>(homes: &'a [u64], fars: &'a [u64], state: &'b mut [u64; WORDS]) -> u32
+    requires { ⌜ now state ≡ pairZeroWords ⌝ }
+    ensures answers { λ n. ⌜ n ≡ pairOpeningRefusal (now (homes .entry)) (now (fars .entry)) ⌝ }
+    ensures leaves { λ n. ⌜ now (state .exit) ≡ unlessRefused (pairOpeningRefusal (now (homes .entry)) (now (fars .entry)))
+        (pairOpenedWords (now (homes .entry)) (now (fars .entry))) pairZeroWords ⌝ }
+{
+    let opening = pair_opening(homes, fars);
+    if opening.refusal != 0 {
+        return opening.refusal;
+    }
+    copy_numbers(homes, BALANCES, state);
+    copy_numbers(fars, BALANCES + Ledger::ACCOUNTS, state);
+    state[SUPPLY] = opening.supply;
+    state[ACCOUNTS] = homes.len() as u64;
+    state[ACCOUNTS + 1] = fars.len() as u64;
+    0
 }
 
 // ## The calls

@@ -16,7 +16,6 @@ use Rattle.pair_core.proofs.Passing.{next-of}
 use Rattle.pair_core.specs.Layout.{PairReady, pairViewOf, pairWith, pairWordsChecker, supplyOf}
 use Rattle.pair_rows.specs.Rows.{RowReady, movedRow, rowOf, totalIn}
 use Rattle.pair_rows.specs.declared.Row.{Row}
-use Rattle.records.proofs.Formed.{read-formed}
 use Rattle.records.specs.Records.{reading, wordsOf}
 use Rattle.records.specs.declared.Reading.the-variants.{Read, Unreadable}
 use Rattle.records.specs.declared.Record.{Record}
@@ -136,8 +135,7 @@ module _ (s index b : List ℕ) (last : Row) (h : RowReady s index last) where
   unfolding callOne
   row-passed r q j =
       let k : pairJudge capacity (pairViewOf s .pair) (Read r) ≡ 0 = rw q at (sym j) in
-      let f = read-formed b r q in
-      let x = next-of s (h .ready .accepted) b (wordsOf b) r (f .1) (f .2) q k in
+      let x = next-of s (h .ready .accepted) b r q k in
       let t : callOne pairWordsChecker s b .state ≡ pairWith s (wordsOf b) r (ledgerByte (ledgerOf (r .kind))) = rw (q, k) in
       let g = accepts-facts capacity _ (sound-of _ (x .accepted) .accepted) .sums in
       let v = x .view in

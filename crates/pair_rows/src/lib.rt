@@ -2,25 +2,20 @@
 // figures after it, which are kept and not summed anew.
 ghost use Prim.Native.Nat.{_+_, _≤_};
 ghost use mathlib.Core.Path.{_≡_};
-ghost use lib.ListN.{length, replicate};
-ghost use Rattle.ledgers.specs.Limits.{accountLimit};
+ghost use lib.ListN.{replicate};
 ghost use Rattle.pair_core.specs.Layout.{pairOpenedWords, pairViewOf, pairWords, pairWordsChecker};
 ghost use Rattle.pair_rows.specs.Rows.{RowReady, movedRow, rowOf, totalIn};
 ghost use Rattle.rules.specs.Calls.{callOne};
-ghost use Rattle.rules.specs.Lists.{total};
 ghost use Rattle.rules.specs.PairValidator.{pairOpened, pairOpeningRefusal};
-use entries::copy_numbers;
 use entries::given_by;
 use entries::taken_by;
 use exact_sums::Wide;
 use exact_sums::add_balances;
 use ledgers::Ledger;
-use openings::pair_opening;
-use pair_core::ACCOUNTS;
-use pair_core::BALANCES;
 use pair_core::INDEXES;
 use pair_core::SUPPLY;
 use pair_core::WORDS;
+use pair_core::open;
 use pair_core::step;
 use records::Reading;
 use records::Record;
@@ -35,24 +30,6 @@ pub struct Row {
 
 // ## The opening
 
-// Both openings in words of zeros.
-fn write_opening<'a, 'b>(
-    homes: &'a [u64],
-    fars: &'a [u64],
-    supply: u64,
-    state: &'b mut [u64; WORDS],
-)
-    requires { ⌜ (length (now homes) ≤ accountLimit) × (length (now fars) ≤ accountLimit)
-        × (supply ≡ total (now homes) + total (now fars)) × (now state ≡ replicate pairWords 0) ⌝ }
-    ensures { λ _. ⌜ now (state .exit) ≡ pairOpenedWords (now (homes .entry)) (now (fars .entry)) ⌝ }
-{
-    copy_numbers(homes, BALANCES, state);
-    copy_numbers(fars, BALANCES + Ledger::ACCOUNTS, state);
-    state[SUPPLY] = supply;
-    state[ACCOUNTS] = homes.len() as u64;
-    state[ACCOUNTS + 1] = fars.len() as u64;
-}
-
 // The row of an opening: its refusal, or the totals with nothing in flight, and the opened state in words of zeros.
 pub fn first_row<'a, 'b>(homes: &'a [u64], fars: &'a [u64], state: &'b mut [u64; WORDS]) -> Row
     requires { ⌜ now state ≡ replicate pairWords 0 ⌝ }
@@ -60,21 +37,20 @@ pub fn first_row<'a, 'b>(homes: &'a [u64], fars: &'a [u64], state: &'b mut [u64;
     ensures opens { λ r. ⌜ (r .refusal ≡ 0 → (r ≡ rowOf 0 (pairOpened (now (homes .entry)) (now (fars .entry))))
         × (now (state .exit) ≡ pairOpenedWords (now (homes .entry)) (now (fars .entry)))) ⌝ }
 {
-    let opening = pair_opening(homes, fars);
-    if opening.refusal != 0 {
+    let refusal = open(homes, fars, state);
+    if refusal != 0 {
         return Row {
-            refusal: opening.refusal,
+            refusal,
             home: 0,
             far: 0,
             flight: 0,
         };
     }
-    write_opening(homes, fars, opening.supply, state);
     let home = add_balances(homes, 0, homes.len(), Wide { high: 0, low: 0 });
     Row {
         refusal: 0,
         home: home.low,
-        far: opening.supply - home.low,
+        far: state[SUPPLY] - home.low,
         flight: 0,
     }
 }

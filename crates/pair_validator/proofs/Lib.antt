@@ -1,4 +1,3 @@
 -- Proofs about the pair validator. Assumes nothing.
 
-pub mod PairOpened
 pub mod Words

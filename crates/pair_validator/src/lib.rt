@@ -8,12 +8,6 @@ ghost use Rattle.pair_validator.specs.State.{pairChecker, pairOpenedStat
 ghost use Rattle.rules.specs.Calls.{call, one, list};
 ghost use Rattle.rules.specs.PairValidator.{pairOpeningRefusal};
 use answers::Answer;
-use entries::copy_numbers;
-use ledgers::Ledger;
-use openings::pair_opening;
-use pair_core::ACCOUNTS;
-use pair_core::BALANCES;
-use pair_core::SUPPLY;
 use pair_core::WORDS;
 use pair_core::take;
 use pair_core::take_list;
@@ -39,23 +33,9 @@ impl PairValidator {
             (pairOpenedState (now (homes .entry)) (now (fars .entry))) pairZeroState ⌝ }
     {
         let mut words = [0u64; WORDS];
-        let opening = pair_opening(homes, fars);
-        if opening.refusal != 0 {
-            return PairOutcome {
-                answer: Answer::Refused {
-                    number: opening.refusal,
-                    place: 0,
-                },
-                state: PairValidator { words },
-            };
-        }
-        copy_numbers(homes, BALANCES, &mut words);
-        copy_numbers(fars, BALANCES + Ledger::ACCOUNTS, &mut words);
-        words[SUPPLY] = opening.supply;
-        words[ACCOUNTS] = homes.len() as u64;
-        words[ACCOUNTS + 1] = fars.len() as u64;
+        let number = pair_core::open(homes, fars, &mut words);
         PairOutcome {
-            answer: Answer::Passed,
+            answer: Answer::new(number, 0),
             state: PairValidator { words },
         }
     }

@@ -5,7 +5,7 @@ use mathlib.Core.Bool.{Bool, true, false, cond}
 use mathlib.Core.List.{List, [], _∷_, _++_}
 use native.Mathlib.Omega.{arith}
 use lib.Dec.{eqb}
-use lib.ListN.{length, drop, drop-of-length-le, replicate}
+use lib.ListN.{length, drop, drop-of-length-le}
 use Rattle.ledgers.specs.Ledgers.{ledgerByte, ledgerAt, kindByte, kindAt, ledgerOf}
 use Rattle.ledgers.specs.Limits.{maxAmount}
 use Rattle.record_fields.specs.Fields.{fieldBytes}
@@ -13,8 +13,8 @@ use Rattle.records.proofs.Formed.{Formed, facts-formed, fields-formed, 
 use Rattle.records.proofs.Formed.{words-fields, words-formed-by}
 use Rattle.records.specs.Records.{Record, Read, reading, encoding, wordsOf, Encodable, Readable, ReadsExactly, EncodingReads}
 use Rattle.records.specs.Records.{EncodedOnce}
-use Rattle.wire.proofs.Lists.{bytes-append, bytes-zeros}
-use Rattle.wire.proofs.Numbers.{bytes-bytesOf, drop-field, field-fits, value-back}
+use Rattle.wire.proofs.Lists.{bytes-zeros}
+use Rattle.wire.proofs.Numbers.{bytes-then, drop-field, field-fits, value-back}
 use Rattle.wire.specs.BigEndian.{All, Bytes, valueAfter, field, bytesOf}
 use Rattle.ledgers.specs.declared.Kind.the-variants.{Local, Sending, Receiving}
 use Rattle.ledgers.specs.declared.Kind.{Kind}
@@ -41,64 +41,31 @@ kind-ledger k l = go (eqb k 1) (eqb k 2)
     go false true = refl
     go false false = refl
 
--- the ledger byte
-ledger-byte : (n : ℕ) → n ≤ 1 → bytesOf 1 n ≡ ledgerByte (ledgerAt n) ∷ []
+-- a byte that is 0 or 1 is the one of what it stands for
+bit-byte : (f : ℕ → ℕ) → f 0 ≡ 0 → f 1 ≡ 1 → (n : ℕ) → n ≤ 1 → bytesOf 1 n ≡ f n ∷ []
 unfolding bytesOf
-ledger-byte zero h = refl
-ledger-byte (suc zero) h = refl
-ledger-byte (suc (suc n)) h = absurd (omega arith)
-
--- the verdict byte
-verdict-byte : (n : ℕ) → n ≤ 1 → bytesOf 1 n ≡ cond (eqb n 1) 1 0 ∷ []
-unfolding bytesOf
-verdict-byte zero h = refl
-verdict-byte (suc zero) h = refl
-verdict-byte (suc (suc n)) h = absurd (omega arith)
+bit-byte f p q zero h = rw p
+bit-byte f p q (suc zero) h = rw q
+bit-byte f p q (suc (suc n)) h = absurd (omega arith)
 
 module _ (b : List ℕ) (y : Bytes b) (f : Formed b) where
   -- one field more
-  next : (i n : ℕ) → i + n ≤ length b → {t : List ℕ} → drop (i + n) b ≡ t → drop i b ≡ bytesOf n (field i n b) ++ t
-  next i n h {t} e = drop-field i n b y h ∙ ap (λ (q : List ℕ). bytesOf n (field i n b) ++ q) e
+  next : (i n : ℕ) → i + n ≤ length b → {s t : List ℕ} → bytesOf n (field i n b) ≡ s → drop (i + n) b ≡ t → drop i b ≡ s ++ t
+  next i n h p q = drop-field i n b y h ∙ (λ i. p i ++ q i)
 
-  -- the bytes, field by field
-  fields :
-      b
-      ≡ bytesOf 1 (field 0 1 b)
-      ++ (bytesOf 1 (field 1 1 b)
-      ++ (bytesOf 2 (field 2 2 b)
-      ++ (bytesOf 2 (field 4 2 b)
-      ++ (bytesOf 2 (field 6 2 b)
-      ++ (bytesOf 8 (field 8 8 b)
-      ++ (bytesOf 8 (field 16 8 b)
-      ++ (bytesOf 1 (field 24 1 b)
-      ++ (bytesOf 7 (field 25 7 b)
-      ++ []))))))))
-  fields =
-      let l = f .long in
-      next 0 1 (omega arith)
-      (next 1 1 (omega arith)
-      (next 2 2 (omega arith)
-      (next 4 2 (omega arith)
-      (next 6 2 (omega arith)
-      (next 8 8 (omega arith)
-      (next 16 8 (omega arith)
-      (next 24 1 (omega arith)
-      (next 25 7 (omega arith) (drop-of-length-le b {i = 32} (omega arith))))))))))
-
-  -- they are the encoding of the record in them
+  -- the bytes are the encoding of the record in them
   pub formed-encoded : b ≡ encoding (fieldsIn b)
   unfolding encoding fieldBytes fieldsIn bytesOf
   formed-encoded =
+      let long = f .long in
       let l : Ledger = ledgerAt (field 1 1 b) in
-      let k = kind-byte (field 0 1 b) l (f .kind-some) (f .kind-most) in
-      let o = ledger-byte (field 1 1 b) (f .ledger-most) ∙ ap (λ (m : Ledger). ledgerByte m ∷ []) (sym (kind-ledger (field 0 1 b) l)) in
-      let z = ap (bytesOf 2) (f .zeros-first) in
-      let v = verdict-byte (field 24 1 b) (f .verdict-most) in
-      let e = ap (bytesOf 7) (f .zeros-last) in
-      fields
-      ∙ (λ i.
-      k i ++ (o i ++ (bytesOf 2 (field 2 2 b) ++ (bytesOf 2 (field 4 2 b) ++ (z i
-      ++ (bytesOf 8 (field 8 8 b) ++ (bytesOf 8 (field 16 8 b) ++ (v i ++ (e i ++ [])))))))))
+      let o = ap (λ (m : Ledger). ledgerByte m ∷ []) (sym (kind-ledger (field 0 1 b) l)) in
+      next 0 1 (omega arith) (kind-byte (field 0 1 b) l (f .kind-some) (f .kind-most))
+      (next 1 1 (omega arith) (bit-byte (λ (n : ℕ). ledgerByte (ledgerAt n)) refl refl (field 1 1 b) (f .ledger-most) ∙ o)
+      (next 2 2 (omega arith) refl (next 4 2 (omega arith) refl (next 6 2 (omega arith) (ap (bytesOf 2) (f .zeros-first))
+      (next 8 8 (omega arith) refl (next 16 8 (omega arith) refl
+      (next 24 1 (omega arith) (bit-byte (λ (n : ℕ). cond (eqb n 1) 1 0) refl refl (field 24 1 b) (f .verdict-most))
+      (next 25 7 (omega arith) (ap (bytesOf 7) (f .zeros-last)) (drop-of-length-le b {i = 32} (omega arith))))))))))
 
   -- which can be read
   pub formed-readable : Readable (fieldsIn b)
@@ -145,12 +112,7 @@ verdict-back true = (refl, omega arith)
 verdict-back false = (refl, omega arith)
 
 module _ (r : Record) (g : Encodable r) where
-  -- the fields of an encoding, one by one
-  f-length : length (encoding r) ≡ 32
-  unfolding encoding fieldBytes bytesOf
-  f-length = refl
-
-  -- byte 0
+  -- byte 0 of an encoding
   f-kind : field 0 1 (encoding r) ≡ kindByte (r .kind)
   unfolding field encoding fieldBytes bytesOf valueAfter
   f-kind = omega arith
@@ -159,26 +121,6 @@ module _ (r : Record) (g : Encodable r) where
   f-ledger : field 1 1 (encoding r) ≡ ledgerByte (ledgerOf (r .kind))
   unfolding field encoding fieldBytes bytesOf valueAfter
   f-ledger = omega arith
-
-  -- bytes 2-3
-  f-sender : field 2 2 (encoding r) ≡ r .sender
-  unfolding field encoding fieldBytes bytesOf
-  f-sender = value-back 2 (r .sender) (g .sender-fits)
-
-  -- bytes 4-5
-  f-receiver : field 4 2 (encoding r) ≡ r .receiver
-  unfolding field encoding fieldBytes bytesOf
-  f-receiver = value-back 2 (r .receiver) (g .receiver-fits)
-
-  -- bytes 6-7
-  f-first : field 6 2 (encoding r) ≡ 0
-  unfolding field encoding fieldBytes bytesOf valueAfter
-  f-first = refl
-
-  -- bytes 8-15
-  f-number : field 8 8 (encoding r) ≡ r .number
-  unfolding field encoding fieldBytes bytesOf
-  f-number = value-back 8 (r .number) (g .number-fits)
 
   -- bytes 16-23
   f-amount : field 16 8 (encoding r) ≡ r .amount
@@ -190,32 +132,31 @@ module _ (r : Record) (g : Encodable r) where
   unfolding field encoding fieldBytes bytesOf valueAfter
   f-verdict = omega arith
 
-  -- bytes 25-31
-  f-last : field 25 7 (encoding r) ≡ 0
-  unfolding field encoding fieldBytes bytesOf valueAfter
-  f-last = refl
-
   -- the record in the encoding
   pub encoding-holds : fieldsIn (encoding r) ≡ r
-  unfolding fieldsIn
+  unfolding fieldsIn field encoding fieldBytes bytesOf
   encoding-holds =
       let k = ap₂ (λ (x y : ℕ). kindAt x (ledgerAt y)) f-kind f-ledger ∙ kind-back (r .kind) in
       let v = ap (λ (x : ℕ). eqb x 1) f-verdict ∙ verdict-back (r .verified) .0 in
-      λ i. record { kind = k i; sender = f-sender i; receiver = f-receiver i; number = f-number i; amount = f-amount i; verified = v i }
+      let s = value-back 2 (r .sender) (g .sender-fits) in
+      let t = value-back 2 (r .receiver) (g .receiver-fits) in
+      let n = value-back 8 (r .number) (g .number-fits) in
+      λ i. record { kind = k i; sender = s i; receiver = t i; number = n i; amount = f-amount i; verified = v i }
 
   -- refusal 21 has nothing against it
   pub encoding-formed : 0 < r .amount → r .amount ≤ maxAmount → Formed (encoding r)
+  unfolding field encoding fieldBytes bytesOf valueAfter
   encoding-formed some most =
       record {
-        long = f-length;
+        long = refl;
         kind-some = rw f-kind (kind-bounds (r .kind) .0);
         kind-most = rw f-kind (kind-bounds (r .kind) .1);
         ledger-most = rw f-ledger (ledger-bound (ledgerOf (r .kind)));
-        zeros-first = f-first;
+        zeros-first = refl;
         amount-some = rw f-amount some;
         amount-most = rw f-amount most;
         verdict-most = rw f-verdict (verdict-back (r .verified) .1);
-        zeros-last = f-last;
+        zeros-last = refl;
       }
 
 -- ## The theorem
@@ -226,24 +167,12 @@ unfolding All
 byte-first x xs h y = (h, y)
 
 -- an encoding has bytes only
-encoding-bytes : (r : Record) → Bytes (encoding r)
+pub encoding-bytes : (r : Record) → Bytes (encoding r)
 unfolding encoding fieldBytes
 encoding-bytes r =
-    let last : List ℕ = cond (r .verified) 1 0 ∷ replicate 7 0 in
-    let amount : List ℕ = bytesOf 8 (r .amount) ++ last in
-    let number : List ℕ = bytesOf 8 (r .number) ++ amount in
-    let zeros : List ℕ = 0 ∷ 0 ∷ number in
-    let receiver : List ℕ = bytesOf 2 (r .receiver) ++ zeros in
-    let sender : List ℕ = bytesOf 2 (r .sender) ++ receiver in
-    byte-first (kindByte (r .kind)) (ledgerByte (ledgerOf (r .kind)) ∷ sender) (omega (arith, kind-bounds (r .kind) .1))
-    (byte-first (ledgerByte (ledgerOf (r .kind))) sender (omega (arith, ledger-bound (ledgerOf (r .kind))))
-    (bytes-append (bytesOf 2 (r .sender)) receiver (bytes-bytesOf 2 (r .sender))
-    (bytes-append (bytesOf 2 (r .receiver)) zeros (bytes-bytesOf 2 (r .receiver))
-    (byte-first 0 (0 ∷ number) (omega arith)
-    (byte-first 0 number (omega arith)
-    (bytes-append (bytesOf 8 (r .number)) amount (bytes-bytesOf 8 (r .number))
-    (bytes-append (bytesOf 8 (r .amount)) last (bytes-bytesOf 8 (r .amount))
-    (byte-first (cond (r .verified) 1 0) (replicate 7 0) (omega (arith, verdict-back (r .verified) .1)) (bytes-zeros 7)))))))))
+    byte-first _ _ (omega (arith, kind-bounds (r .kind) .1)) (byte-first _ _ (omega (arith, ledger-bound (ledgerOf (r .kind))))
+    (bytes-then 2 _ _ (bytes-then 2 _ _ (byte-first _ _ (omega arith) (byte-first _ _ (omega arith)
+    (bytes-then 8 _ _ (bytes-then 8 _ _ (byte-first _ _ (omega (arith, verdict-back (r .verified) .1)) (bytes-zeros 7)))))))))
 
 -- encoding reads back
 pub encoding-reads : EncodingReads

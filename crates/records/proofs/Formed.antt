@@ -10,9 +10,9 @@ use borrow.Author.Tests.{eqb-true, eq-eqb, ltb-true, lt-ltb, leb-true, le-leb}
 use Rattle.ledgers.specs.Ledgers.{kindAt, ledgerAt}
 use Rattle.ledgers.specs.Limits.{maxAmount}
 use Rattle.records.specs.Records.{Record, Read, Unreadable, Words, formed, recordIn, reading, readingWords, within, wordsOf}
-use Rattle.wire.proofs.Lists.{every-none, every-first, every-both}
+use Rattle.wire.proofs.Lists.{every-hold, hold-every}
 use Rattle.wire.proofs.Numbers.{field-high, field-low}
-use Rattle.wire.specs.BigEndian.{Bytes, field}
+use Rattle.wire.specs.BigEndian.{All, Bytes, field}
 
 -- ## Words
 
@@ -29,67 +29,27 @@ pub record FormedWords (w : Words) : Type 0 where
 
 -- from the tests to the facts
 pub formed-facts : (w : Words) → formed w ≡ true → FormedWords w
-unfolding formed
-formed-facts w h =
-    let h1 = every-first _ _ h in
-    let h2 = every-first _ _ (h1 .1) in
-    let h3 = every-first _ _ (h2 .1) in
-    let h4 = every-first _ _ (h3 .1) in
-    let h5 = every-first _ _ (h4 .1) in
-    let h6 = every-first _ _ (h5 .1) in
-    let h7 = every-first _ _ (h6 .1) in
-    let h8 = every-first _ _ (h7 .1) in
-    record {
-      kind-some = ltb-true _ _ (h1 .0);
-      kind-most = leb-true _ _ (h2 .0);
-      ledger-most = leb-true _ _ (h3 .0);
-      zeros-first = eqb-true _ _ (h4 .0);
-      amount-some = ltb-true _ _ (h5 .0);
-      amount-most = leb-true _ _ (h6 .0);
-      verdict-most = leb-true _ _ (h7 .0);
-      zeros-last = eqb-true _ _ (h8 .0);
-    }
+unfolding formed All
+formed-facts w h = let k = every-hold _ h in omega (arith, ltb-true, leb-true, eqb-true)
 
 -- and back
 pub facts-formed : (w : Words) → FormedWords w → formed w ≡ true
-unfolding formed
-facts-formed w f =
-    every-both _ _ (lt-ltb _ _ (f .kind-some))
-    (every-both _ _ (le-leb _ _ (f .kind-most))
-    (every-both _ _ (le-leb _ _ (f .ledger-most))
-    (every-both _ _ (eq-eqb _ _ (f .zeros-first))
-    (every-both _ _ (lt-ltb _ _ (f .amount-some))
-    (every-both _ _ (le-leb _ _ (f .amount-most))
-    (every-both _ _ (le-leb _ _ (f .verdict-most))
-    (every-both _ _ (eq-eqb _ _ (f .zeros-last))
-    every-none)))))))
-
--- words that read were formed, and are of the record in them
-words-formed : (w : Words) (r : Record) → readingWords w ≡ Read r → (formed w ≡ true) × (recordIn w ≡ r)
-unfolding readingWords
-words-formed w r h = go (formed w) refl
-  where
-    go : (t : Bool) → formed w ≡ t → (formed w ≡ true) × (recordIn w ≡ r)
-    go true q = let k : Read (recordIn w) ≡ Read r = rw q at h in (q, cc)
-    go false q = let k : Unreadable ≡ Read r = rw q at h in (cc, cc)
+unfolding formed All
+facts-formed w f = hold-every _ (omega (arith, lt-ltb, le-leb, eq-eqb))
 
 -- ## Bytes
 
 -- what reads has 32 bytes, whose words were formed and are of the record
 pub read-formed : (b : List ℕ) (r : Record) → reading b ≡ Read r
     → (length b ≡ 32) × (formed (wordsOf b) ≡ true) × (recordIn (wordsOf b) ≡ r)
-unfolding reading
-read-formed b r h = go (eqb (length b) 32) refl
+unfolding reading readingWords
+read-formed b r h = go (eqb (length b) 32) (formed (wordsOf b)) refl refl
   where
-    go : (t : Bool) → eqb (length b) 32 ≡ t → (length b ≡ 32) × (formed (wordsOf b) ≡ true) × (recordIn (wordsOf b) ≡ r)
-    go true q =
-        let k : readingWords (wordsOf b) ≡ Read r = rw q at h in
-        let f = words-formed (wordsOf b) r k in
-        (eqb-true _ _ q, f .0, f .1)
-    go false q =
-        let k : Unreadable ≡ Read r = rw q at h in
-        let z : _≡_ {A = ℕ} 0 1 = cc in
-        absurd (omega arith)
+    go : (t u : Bool) → eqb (length b) 32 ≡ t → formed (wordsOf b) ≡ u
+        → (length b ≡ 32) × (formed (wordsOf b) ≡ true) × (recordIn (wordsOf b) ≡ r)
+    go true true q p = let k : Read (recordIn (wordsOf b)) ≡ Read r = rw (q, p) at h in (eqb-true _ _ q, p, cc)
+    go true false q p = let k : Unreadable ≡ Read r = rw (q, p) at h in (cc, cc, cc)
+    go false u q p = let k : Unreadable ≡ Read r = rw q at h in (cc, cc, cc)
 
 -- such bytes read as the record in their words
 pub formed-reads : (b : List ℕ) → length b ≡ 32 → formed (wordsOf b) ≡ true → reading b ≡ Read (recordIn (wordsOf b))
@@ -158,29 +118,8 @@ module _ (b : List ℕ) (y : Bytes b) (l : length b ≡ 32) where
 
   -- from the words to the fields
   pub fields-formed : FormedWords (wordsOf b) → Formed b
-  fields-formed f =
-      record {
-        long = l;
-        kind-some = rw kind-field at (f .kind-some);
-        kind-most = rw kind-field at (f .kind-most);
-        ledger-most = rw ledger-field at (f .ledger-most);
-        zeros-first = rw zeros-field at (f .zeros-first);
-        amount-some = f .amount-some;
-        amount-most = f .amount-most;
-        verdict-most = rw verdict-field at (f .verdict-most);
-        zeros-last = rw last-field at (f .zeros-last);
-      }
+  fields-formed f = omega (arith, kind-field, ledger-field, zeros-field, verdict-field, last-field)
 
   -- and back
   pub words-formed-by : Formed b → FormedWords (wordsOf b)
-  words-formed-by f =
-      record {
-        kind-some = rw kind-field (f .kind-some);
-        kind-most = rw kind-field (f .kind-most);
-        ledger-most = rw ledger-field (f .ledger-most);
-        zeros-first = rw zeros-field (f .zeros-first);
-        amount-some = f .amount-some;
-        amount-most = f .amount-most;
-        verdict-most = rw verdict-field (f .verdict-most);
-        zeros-last = rw last-field (f .zeros-last);
-      }
+  words-formed-by f = omega (arith, kind-field, ledger-field, zeros-field, verdict-field, last-field)

@@ -1,32 +1,30 @@
 -- A pass keeps a state of the home validator accepted, whatever accepted state it starts from. Assumes nothing.
 use Prim.Native.Nat.{ℕ, _+_, _≤_, _<_}
-use mathlib.Core.Path.{_≡_, refl, sym, _∙_, subst}
+use mathlib.Core.Path.{fun-ext, _≡_, refl, _∙_}
 use mathlib.Core.Bool.{true}
-use mathlib.Core.List.{List, [], _∷_, _++_}
+use mathlib.Core.List.{List, [], _∷_}
 use native.Mathlib.Omega.{arith}
 use lib.Dec.{lit<}
 use lib.ListN.{length, length-append}
 use borrow.Author.Tests.{eqb-true, eq-eqb, leb-true, le-leb}
-use Rattle.answers.proofs.Answers.{or-else-zero, refuse-zero}
-use Rattle.ledgers.specs.Ledgers.{ledgerOf, senderLedger, receiverLedger}
+use Rattle.answers.proofs.Answers.{refuse-zero}
+use Rattle.ledgers.specs.Ledgers.{ledgerOf}
 use Rattle.ledgers.specs.Limits.{maxAmount}
 use Rattle.records.specs.Records.{reading}
 use Rattle.rules.proofs.Clashes.{Distinct, distinct-snoc, unshared-distinct, distinct-unshared}
 use Rattle.rules.proofs.Ledgers.{read-amount}
-use Rattle.rules.proofs.Lists.{all-snoc, total-lowered, total-raised, length-lowered, length-moved}
+use Rattle.rules.proofs.Lists.{every-all, all-every, all-snoc, total-lowered, total-raised, length-lowered, length-moved}
 use Rattle.rules.proofs.PairAccepted.{allowed-held, stands-own}
 use Rattle.rules.proofs.PairConserved.{opening-none}
-use Rattle.rules.proofs.Refusals.{Allowed, first-none, room-none, HomePassable, home-judge-none}
+use Rattle.rules.proofs.Refusals.{first-none, HomePassable, home-judge-none, home-read, is-home}
 use Rattle.rules.proofs.Runs.{keeps-accepted, run-accepted}
-use Rattle.rules.specs.Calls.{Call, run, KeepsAccepted}
-use Rattle.rules.specs.HomeValidator.{HomeView, homeAccounts, isFar, homeLastRefusal, homeJudgeRecord, homeJudge, poolAfter}
-use Rattle.rules.specs.HomeValidator.{HomeKeepsAccepted}
+use Rattle.rules.specs.Calls.{Call, run}
+use Rattle.rules.specs.HomeValidator.{HomeView, homeAccounts, isFar, homeJudgeRecord, homeJudge, poolAfter, HomeKeepsAccepted}
 use Rattle.rules.specs.HomeValidator.{homeAfter, homeAccepts, homeValidator, homeOpeningRefusal, homeOpened}
 use Rattle.rules.specs.Lists.{all, total, lowered}
 use Rattle.rules.specs.PairValidator.{countAllowed, supplyAllowed, heldAllowed, standsUnder}
-use Rattle.rules.specs.Rules.{Ledger, Home, Far, Kind, Local, Sending, Receiving, Record, Reading, Read, Unreadable, debit}
-use Rattle.rules.specs.Rules.{credit, firstRefusal, moved}
-use Rattle.wire.proofs.Lists.{every-none, every-first, every-both}
+use Rattle.rules.specs.Rules.{Home, Far, Kind, Local, Sending, Receiving, Record, Read, debit, credit, moved}
+use Rattle.wire.specs.BigEndian.{All}
 
 -- ## The facts of an accepted state
 
@@ -43,121 +41,63 @@ pub record HomeFacts (capacity : ℕ) (v : HomeView) : Type 0 where
 
 -- the test of refusal 3
 pub home-accepts-facts : (capacity : ℕ) (v : HomeView) → homeAccepts capacity v ≡ true → HomeFacts capacity v
-unfolding homeAccepts
-home-accepts-facts capacity v h =
-    let a = every-first _ _ h in
-    let b = every-first _ _ (a .1) in
-    let c = every-first _ _ (b .1) in
-    let d = every-first _ _ (c .1) in
-    let e = every-first _ _ (d .1) in
-    let f = every-first _ _ (e .1) in
-    let g = every-first _ _ (f .1) in
-    let i = every-first _ _ (g .1) in
-    record {
-      home-count = a .0;
-      far-count = b .0;
-      room = leb-true _ _ (c .0);
-      supply-fits = d .0;
-      allowed = e .0;
-      distinct = unshared-distinct _ (f .0);
-      stand = g .0;
-      sums = eqb-true _ _ (i .0);
-    }
+unfolding homeAccepts All
+home-accepts-facts capacity v h = let a = every-all _ h in search (leb-true, unshared-distinct, eqb-true)
 
 -- and back
 pub home-facts-accepts : (capacity : ℕ) (v : HomeView) → HomeFacts capacity v → homeAccepts capacity v ≡ true
-unfolding homeAccepts
-home-facts-accepts capacity v f =
-    every-both _ _ (f .home-count)
-    (every-both _ _ (f .far-count)
-    (every-both _ _ (le-leb _ _ (f .room))
-    (every-both _ _ (f .supply-fits)
-    (every-both _ _ (f .allowed)
-    (every-both _ _ (distinct-unshared _ (f .distinct))
-    (every-both _ _ (f .stand)
-    (every-both _ _ (eq-eqb _ _ (f .sums))
-    every-none)))))))
+unfolding homeAccepts All
+home-facts-accepts capacity v f = all-every _ (search (le-leb, distinct-unshared, eq-eqb) depth 12)
 
 -- ## A record that passes
 
 -- it is a home record
-pub home-only : (v : HomeView) (r : Record) (k : Kind) → HomePassable v r k → ledgerOf k ≡ Home
-unfolding HomePassable
-home-only v r (Local Home) h = refl
-home-only v r (Sending Home) h = refl
-home-only v r (Receiving Home) h = refl
-home-only v r (Local Far) h = absurd h
-home-only v r (Sending Far) h = absurd h
-home-only v r (Receiving Far) h = absurd h
+pub home-only : (v : HomeView) (r : Record) → homeJudgeRecord v r ≡ 0 → ledgerOf (r .kind) ≡ Home
+unfolding homeJudgeRecord
+home-only v r j = is-home _ (refuse-zero (isFar (ledgerOf (r .kind))) 33 _ (lit< tt) j .0)
 
 -- home balances and far pool together stay
 home-sums : (v : HomeView) (r : Record) (k : Kind) → HomePassable v r k
     → total (moved (v .home .balances) r k) + poolAfter (v .farPool) r k ≡ total (v .home .balances) + v .farPool
 unfolding HomePassable
 home-sums v r (Local Home) h =
-    omega (
-      arith,
-      total-lowered (v .home .balances) (r .sender) (debit r) (h .0 .sender-open) (h .1),
-      total-raised (lowered (v .home .balances) (r .sender) (debit r)) (r .receiver) (credit r) (rw length-lowered (h .0 .receiver-open)),
-    )
-home-sums v r (Sending Home) h =
-    omega (arith, total-lowered (v .home .balances) (r .sender) (debit r) (h .0 .sender-open) (h .1))
-home-sums v r (Receiving Home) h =
-    omega (arith, h .1, total-raised (v .home .balances) (r .receiver) (credit r) (h .0 .receiver-open))
+    let u = total-lowered (v .home .balances) (r .sender) (debit r) (h .0 .sender-open) (h .1) in
+    let left = lowered (v .home .balances) (r .sender) (debit r) in
+    omega (arith, total-raised left (r .receiver) (credit r) (rw length-lowered (h .0 .receiver-open)))
+home-sums v r (Sending Home) h = omega (arith, total-lowered (v .home .balances) (r .sender) (debit r) (h .0 .sender-open) (h .1))
+home-sums v r (Receiving Home) h = omega (arith, h .1, total-raised (v .home .balances) (r .receiver) (credit r) (h .0 .receiver-open))
 home-sums v r (Local Far) h = absurd h
 home-sums v r (Sending Far) h = absurd h
 home-sums v r (Receiving Far) h = absurd h
 
--- the numbers of accounts stay
-home-accounts-after : (v : HomeView) (r : Record) → homeAccounts (homeAfter v (Read r)) ≡ homeAccounts v
-home-accounts-after v r = λ i. λ l. go l i
-  where
-    go : (l : Ledger) → homeAccounts (homeAfter v (Read r)) l ≡ homeAccounts v l
-    go Home = length-moved (v .home .balances) r (r .kind)
-    go Far = refl
-
 -- the facts after it
-pub home-facts-after : (capacity : ℕ) (v : HomeView) (r : Record) → (0 < r .amount) × (r .amount ≤ maxAmount) → homeJudgeRecord v r ≡ 0
+home-facts-after : (capacity : ℕ) (v : HomeView) (r : Record) → (0 < r .amount) × (r .amount ≤ maxAmount) → homeJudgeRecord v r ≡ 0
     → length (v .home .passed) < capacity → HomeFacts capacity v → HomeFacts capacity (homeAfter v (Read r))
 unfolding homeJudgeRecord
 home-facts-after capacity v r m j room f =
+    let h = home-judge-none v r (r .kind) refl j in
+    let a = first-none (homeAccounts v) (v .home .passed) r _ (refuse-zero (isFar (ledgerOf (r .kind))) 33 _ (lit< tt) j .1) .0 in
+    let count = length-moved (v .home .balances) r (r .kind) in
+    let accounts : homeAccounts (homeAfter v (Read r)) ≡ homeAccounts v = fun-ext (elim [ Home ↦ count | Far ↦ refl ]) in
     record {
-      home-count = rw (length-moved (v .home .balances) r (r .kind)) (f .home-count);
+      home-count = rw count (f .home-count);
       far-count = f .far-count;
       room = omega (arith, length-append (v .home .passed) (r ∷ []));
       supply-fits = f .supply-fits;
-      allowed =
-          subst (λ (accounts : Ledger → ℕ). all (heldAllowed accounts) (v .home .passed ++ r ∷ []) ≡ true) (sym (home-accounts-after v r))
-          (all-snoc _ (v .home .passed) r (f .allowed) (allowed-held (homeAccounts v) (v .home .passed) r a m));
+      allowed = rw accounts (all-snoc _ (v .home .passed) r (f .allowed) (allowed-held (homeAccounts v) (v .home .passed) r a m));
       distinct = distinct-snoc (v .home .passed) r (f .distinct) (a .fresh);
-      stand =
-          all-snoc _ (v .home .passed) r (f .stand)
-          (subst (λ (l : Ledger). standsUnder l r ≡ true) (home-only v r (r .kind) h) (stands-own r));
+      stand = all-snoc _ (v .home .passed) r (f .stand) (rw (home-only v r j) at (stands-own r));
       sums = home-sums v r (r .kind) h ∙ f .sums;
     }
-  where
-    h : HomePassable v r (r .kind)
-    h = home-judge-none v r (r .kind) refl j
-
-    a : Allowed (homeAccounts v (senderLedger (r .kind))) (homeAccounts v (receiverLedger (r .kind))) (v .home .passed) r
-    a =
-        first-none (homeAccounts v) (v .home .passed) r (homeLastRefusal v r (r .kind))
-        (refuse-zero (isFar (ledgerOf (r .kind))) 33
-        (firstRefusal (homeAccounts v) (v .home .passed) r (homeLastRefusal v r (r .kind))) (lit< tt) j .1)
-        .0
 
 -- a record of bytes that passes
 pub home-step : (capacity : ℕ) (v : HomeView) (b : List ℕ) → homeAccepts capacity v ≡ true → homeJudge capacity v (reading b) ≡ 0
     → homeAccepts capacity (homeAfter v (reading b)) ≡ true
-home-step capacity v b ok j = go (reading b) refl j
-  where
-    go : (x : Reading) → reading b ≡ x → homeJudge capacity v x ≡ 0 → homeAccepts capacity (homeAfter v (reading b)) ≡ true
-    go Unreadable q h = absurd (omega arith)
-    go (Read r) q h =
-        let o = or-else-zero (homeJudgeRecord v r) _ h in
-        rw q
-        (home-facts-accepts capacity (homeAfter v (Read r))
-        (home-facts-after capacity v r (read-amount b r q) (o .0) (room-none capacity _ (o .1)) (home-accepts-facts capacity v ok)))
+home-step capacity v b ok j =
+    let x = home-read capacity v (reading b) j in
+    rw (x .1)
+    (home-facts-accepts capacity (homeAfter v (Read (x .0)))
+    (home-facts-after capacity v (x .0) (read-amount b (x .0) (x .1)) (x .2) (x .3) (home-accepts-facts capacity v ok)))
 
 -- every call of the home validator in an accepted state hands back an accepted one
 pub home-keeps-accepted : HomeKeepsAccepted
@@ -170,17 +110,7 @@ pub home-opened-accepted : (capacity : ℕ) (homes : List ℕ) (farAccounts farT
 unfolding all Distinct
 home-opened-accepted capacity homes farAccounts farTotal h =
     let o = opening-none _ _ _ h in
-    home-facts-accepts capacity (homeOpened homes farAccounts farTotal)
-    (record {
-      home-count = o .home-count;
-      far-count = o .far-count;
-      room = omega arith;
-      supply-fits = o .supply-fits;
-      allowed = refl;
-      distinct = tt;
-      stand = refl;
-      sums = refl;
-    })
+    home-facts-accepts capacity (homeOpened homes farAccounts farTotal) (search arith)
 
 -- every state of a run from an accepted opening is accepted
 pub home-run-accepted : (capacity : ℕ) (homes : List ℕ) (farAccounts farTotal : ℕ) → homeOpeningRefusal homes farAccounts farTotal ≡ 0

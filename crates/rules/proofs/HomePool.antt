@@ -1,25 +1,22 @@
 -- Demand 3, second half: home never pays out above the far pool, at any beginning of the passed records of a run.
 -- Assumes nothing.
 use Rattle.wire.specs.BigEndian.{All}
-use Prim.Native.Nat.{ℕ, _+_, _≤_}
-use mathlib.Core.Path.{_≡_, refl, sym, ap, _∙_}
-use mathlib.Core.Bool.{cond, false}
+use Prim.Native.Nat.{ℕ, _+_}
+use mathlib.Core.Path.{_≡_, refl, ap, _∙_}
 use mathlib.Core.List.{List, [], _∷_, _++_}
 use native.Mathlib.Omega.{arith}
-use Rattle.answers.proofs.Answers.{or-else-zero, refuse-zero}
-use Rattle.ledgers.specs.Ledgers.{ledgerOf}
+use Rattle.answers.proofs.Answers.{or-else-zero}
 use Rattle.records.specs.Records.{reading}
 use Rattle.rules.proofs.HomeAccepted.{home-only, home-run-accepted}
 use Rattle.rules.proofs.InFlight.{sent-snoc, received-snoc}
 use Rattle.rules.proofs.PairConserved.{records-snoc}
-use Rattle.rules.proofs.Refusals.{HomePassable, home-judge-none}
-use Rattle.rules.proofs.Runs.{in-turn-first, in-turn-rest, keep-in-turn, Reached, reached-run}
-use Rattle.rules.specs.Calls.{run, passedRecords, ifOn, readOn, recordsOn, InTurn, stateAfter}
+use Rattle.rules.proofs.Refusals.{HomePassable, home-judge-none, home-read}
+use Rattle.rules.proofs.Runs.{in-turn-split, keep-in-turn, reached-run}
+use Rattle.rules.specs.Calls.{passedRecords, recordsOn, InTurn, stateAfter}
 use Rattle.rules.specs.HomeValidator.{HomeView, sent, received, farPoolOf, homeJudgeRecord, homeJudge, poolAfter, homeAfter}
-use Rattle.rules.specs.HomeValidator.{homeValidator, homeOpened, WithinPool, readsFar, isFar, HomeRecord}
+use Rattle.rules.specs.HomeValidator.{homeValidator, homeOpened, WithinPool, HomeRecord}
 use Rattle.rules.specs.Lists.{sum}
-use Rattle.rules.specs.Rules.{Ledger, Home, Far, Kind, Local, Sending, Receiving, Record, Reading, Read, Unreadable, isSending}
-use Rattle.rules.specs.Rules.{isReceiving}
+use Rattle.rules.specs.Rules.{Home, Far, Kind, Local, Sending, Receiving, Record, Read}
 
 -- ## The far pool and the passed records
 
@@ -33,44 +30,25 @@ pub pool-step : (v : HomeView) (r : Record) (k : Kind) (farTotal : ℕ) (passed 
     → v .farPool + received passed ≡ farTotal + sent passed
     → poolAfter (v .farPool) r k + received (passed ++ r ∷ []) ≡ farTotal + sent (passed ++ r ∷ [])
 unfolding HomePassable
-pool-step v r (Local Home) farTotal passed q h e =
-    let s : cond (isSending (r .kind)) (r .amount) 0 ≡ 0 = simp q in
-    let t : cond (isReceiving (r .kind)) (r .amount) 0 ≡ 0 = simp q in
-    omega (arith, sent-snoc passed r, received-snoc passed r)
-pool-step v r (Sending Home) farTotal passed q h e =
-    let s : cond (isSending (r .kind)) (r .amount) 0 ≡ r .amount = simp q in
-    let t : cond (isReceiving (r .kind)) (r .amount) 0 ≡ 0 = simp q in
-    omega (arith, sent-snoc passed r, received-snoc passed r)
-pool-step v r (Receiving Home) farTotal passed q h e =
-    let s : cond (isSending (r .kind)) (r .amount) 0 ≡ 0 = simp q in
-    let t : cond (isReceiving (r .kind)) (r .amount) 0 ≡ r .amount = simp q in
-    omega (arith, h .1, sent-snoc passed r, received-snoc passed r)
+pool-step v r (Local Home) farTotal passed q h e = omega (arith, sent-snoc passed r q, received-snoc passed r q)
+pool-step v r (Sending Home) farTotal passed q h e = omega (arith, sent-snoc passed r q, received-snoc passed r q)
+pool-step v r (Receiving Home) farTotal passed q h e = omega (arith, h .1, sent-snoc passed r q, received-snoc passed r q)
 pool-step v r (Local Far) farTotal passed q h e = absurd h
 pool-step v r (Sending Far) farTotal passed q h e = absurd h
 pool-step v r (Receiving Far) farTotal passed q h e = absurd h
 
--- a home record is one of home's records
-on-home : (r : Record) (l : Ledger) → l ≡ Home → ifOn Home r l ≡ r ∷ []
-on-home r l q = ap (ifOn Home r) q
-
 -- a passed record keeps it so
 pooled-step : (capacity farTotal : ℕ) (v : HomeView) (b : List ℕ) (done : List (List ℕ)) → homeJudge capacity v (reading b) ≡ 0
     → Pooled farTotal v done → Pooled farTotal (homeAfter v (reading b)) (done ++ b ∷ [])
-pooled-step capacity farTotal v b done j t = go (reading b) refl j
-  where
-    go : (x : Reading) → reading b ≡ x → homeJudge capacity v x ≡ 0 → Pooled farTotal (homeAfter v (reading b)) (done ++ b ∷ [])
-    go Unreadable q h = absurd (omega arith)
-    go (Read r) q h =
-        let p = home-judge-none v r (r .kind) refl (or-else-zero (homeJudgeRecord v r) _ h .0) in
-        let more : recordsOn Home (done ++ b ∷ []) ≡ recordsOn Home done ++ r ∷ [] =
-        records-snoc Home done b
-        ∙ ap (λ (x : Reading). recordsOn Home done ++ readOn Home x) q
-        ∙ ap (λ (xs : List Record). recordsOn Home done ++ xs) (on-home r (ledgerOf (r .kind)) (home-only v r (r .kind) p)) in
-        rw q
-        (record {
-          records = ap (λ (xs : List Record). xs ++ r ∷ []) (t .records) ∙ sym more;
-          pool = rw more (pool-step v r (r .kind) farTotal (recordsOn Home done) refl p (t .pool));
-        })
+pooled-step capacity farTotal v b done j t =
+    let x = home-read capacity v (reading b) j in
+    let r = x .0 in
+    let p = home-judge-none v r (r .kind) refl (x .2) in
+    let l = home-only v r (x .2) in
+    record {
+      records = rw (records-snoc Home done b, ← t .records, x .1, l);
+      pool = rw (records-snoc Home done b, x .1, l) (pool-step v r (r .kind) farTotal (recordsOn Home done) refl p (t .pool));
+    }
 
 -- so it is after records that pass in turn from the opening
 pooled-all : (capacity : ℕ) (homes : List ℕ) (farAccounts farTotal : ℕ) (bs : List (List ℕ))
@@ -88,57 +66,37 @@ pooled-figure : (farTotal : ℕ) (v : HomeView) (done : List (List ℕ)) → Poo
 unfolding farPoolOf
 pooled-figure farTotal v done t = omega (arith, t .pool)
 
--- a receiving that passes is within the far pool
-receiving-within : (capacity : ℕ) (v : HomeView) (b : List ℕ) (r : Record) → homeJudge capacity v (reading b) ≡ 0 → reading b ≡ Read r
-    → r .kind ≡ Receiving Home → r .amount ≤ v .farPool
-unfolding HomePassable
-receiving-within capacity v b r j q k =
-    let h : homeJudge capacity v (Read r) ≡ 0 = sym (ap (homeJudge capacity v) q) ∙ j in
-    home-judge-none v r (Receiving Home) k (or-else-zero (homeJudgeRecord v r) _ h .0) .1
-
--- what passes is no far record
-judged-home : (capacity : ℕ) (v : HomeView) (x : Reading) → homeJudge capacity v x ≡ 0 → readsFar x ≡ false
-unfolding homeJudgeRecord
-judged-home capacity v Unreadable h = refl
-judged-home capacity v (Read r) h =
-    refuse-zero (isFar (ledgerOf (r .kind))) 33 _ (omega arith) (or-else-zero (homeJudgeRecord v r) _ h .0) .0
-
--- nor is any of the records that pass in turn
-all-home : (capacity : ℕ) (v : HomeView) (bs : List (List ℕ)) → InTurn (homeValidator capacity) v bs → All HomeRecord bs
+-- records that pass in turn are home records
+pub all-home : (capacity : ℕ) (v : HomeView) (bs : List (List ℕ)) → InTurn (homeValidator capacity) v bs → All HomeRecord bs
 unfolding InTurn All
 all-home capacity v [] h = tt
 all-home capacity v (b ∷ bs) h =
-    (judged-home capacity v (reading b) (h .0), all-home capacity (homeAfter v (reading b)) bs (h .1))
+    let x = home-read capacity v (reading b) (h .0) in
+    (rw (x .1, home-only v (x .0) (x .2)), all-home capacity (homeAfter v (reading b)) bs (h .1))
 
 -- ## The theorem
 
 -- demand 3, the bound of its second half
 pub within-pool : WithinPool
-unfolding WithinPool InTurn
+unfolding WithinPool InTurn HomePassable
 within-pool capacity homes farAccounts farTotal ok ds =
+    let c = homeValidator capacity in
+    let v₀ = homeOpened homes farAccounts farTotal in
+    let reached = reached-run c v₀ ds in
+    let t = pooled-all capacity homes farAccounts farTotal (passedRecords c v₀ ds) (reached .in-turn) in
     record {
       bounded = λ xs ys q.
-          let it : InTurn (homeValidator capacity) v₀ (xs ++ ys) = rw q at (reached .in-turn) in
-          let t = pooled-all capacity homes farAccounts farTotal xs (in-turn-first (homeValidator capacity) v₀ xs ys it) in
-          omega (arith, t .pool);
+          let it : InTurn c v₀ (xs ++ ys) = rw q at (reached .in-turn) in
+          omega (arith, pooled-all capacity homes farAccounts farTotal xs (in-turn-split c v₀ xs ys it .0) .pool);
       each = λ xs ys b r q g k.
-          let it : InTurn (homeValidator capacity) v₀ (xs ++ b ∷ ys) = rw q at (reached .in-turn) in
-          let t = pooled-all capacity homes farAccounts farTotal xs (in-turn-first (homeValidator capacity) v₀ xs (b ∷ ys) it) in
-          let v : HomeView = stateAfter (homeValidator capacity) v₀ xs in
-          rw (← pooled-figure farTotal v xs t)
-          (receiving-within capacity v b r (in-turn-rest (homeValidator capacity) v₀ xs (b ∷ ys) it .0) g k);
-      figure =
-          ap (λ (v : HomeView). v .farPool) (reached .state)
-          ∙ pooled-figure farTotal _ _ (pooled-all capacity homes farAccounts farTotal _ (reached .in-turn));
+          let it : InTurn c v₀ (xs ++ b ∷ ys) = rw q at (reached .in-turn) in
+          let s = in-turn-split c v₀ xs (b ∷ ys) it in
+          let v : HomeView = stateAfter c v₀ xs in
+          let j : homeJudge capacity v (Read r) ≡ 0 = rw g at (s .1 .0) in
+          rw (← pooled-figure farTotal v xs (pooled-all capacity homes farAccounts farTotal xs (s .0)))
+          (home-judge-none v r (Receiving Home) k (or-else-zero (homeJudgeRecord v r) _ j .0) .1);
+      figure = ap (λ (v : HomeView). v .farPool) (reached .state) ∙ pooled-figure farTotal _ _ t;
       home-records = all-home capacity v₀ _ (reached .in-turn);
-      table =
-          ap (λ (v : HomeView). v .home .passed) (reached .state)
-          ∙ pooled-all capacity homes farAccounts farTotal _ (reached .in-turn) .records;
+      table = ap (λ (v : HomeView). v .home .passed) (reached .state) ∙ t .records;
       accepted = home-run-accepted capacity homes farAccounts farTotal ok ds;
     }
-  where
-    v₀ : HomeView
-    v₀ = homeOpened homes farAccounts farTotal
-
-    reached : Reached (homeValidator capacity) v₀ (run (homeValidator capacity) v₀ ds) (passedRecords (homeValidator capacity) v₀ ds)
-    reached = reached-run (homeValidator capacity) v₀ ds

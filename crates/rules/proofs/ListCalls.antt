@@ -1,11 +1,14 @@
 -- A call with a list, one record after the other: what a loop over the list's bytes cites. Assumes nothing.
 use Prim.Native.Nat.{ℕ, zero, suc, _≤_, _<_, _+_}
-use mathlib.Core.Path.{_≡_, refl, ap, _∙_, sym}
-use mathlib.Core.Bool.{true}
-use mathlib.Core.List.{List, [], _∷_, _++_, append-nil}
+use mathlib.Core.Path.{_≡_, refl, ap}
+use mathlib.Core.List.{List, [], _∷_, _++_}
+use mathlib.Core.Logic.{inl, inr}
+use native.Mathlib.Nat.{add-zero, zero-add, add-suc, suc-add}
 use native.Mathlib.Omega.{arith}
 use lib.ListN.{length, take, drop, length-drop}
-use Rattle.rules.specs.Calls.{list, recordsIn, Checker, callList, call, InTurn, stateAfter, ListsInTurn}
+use Rattle.rules.proofs.Lists.{zero-or-more}
+use Rattle.rules.specs.Calls.{Call, one, list, recordsIn, handed, Checker, callOne, callList, ifAccepted, call, InTurn, stateAfter}
+use Rattle.rules.specs.Calls.{ListsInTurn}
 use Rattle.rules.specs.Lists.{cut}
 use Rattle.answers.specs.declared.Answer.the-variants.{Passed, Refused}
 
@@ -23,11 +26,6 @@ cut-room (suc k) (suc j) n [] h g = refl
 cut-room (suc k) (suc j) n (x ∷ b) h g =
     ap (λ (t : List (List ℕ)). take (suc n) (x ∷ b) ∷ t)
     (cut-room k j n (drop n b) (omega (arith, length-drop n b)) (omega (arith, length-drop n b)))
-
--- no bytes have no record
-pub records-none : recordsIn [] ≡ []
-unfolding recordsIn cut
-records-none = refl
 
 -- the first part is the first bytes, or all where there are fewer
 pub cut-first : (n : ℕ) (b : List ℕ) → 0 < length b
@@ -58,47 +56,35 @@ module _ {S : Type 0} (c : Checker S) (start : S) (i : ℕ) (s : S) where
   unfolding callList
   list-refused b bs n j = rw j
 
-module _ {S : Type 0} (c : Checker S) (s : S) (b : List ℕ) where
-  -- a list in an accepted state
-  pub list-accepted : c .accepts s ≡ true → call c s (list b) ≡ callList c s 0 s (recordsIn b)
-  unfolding call
-  list-accepted a = rw a
-
--- an empty list passes in an accepted state and changes nothing
-pub list-empty : {S : Type 0} (c : Checker S) (s : S) → c .accepts s ≡ true → call c s (list []) ≡ record { answer = Passed; state = s }
-list-empty c s a = list-accepted c s [] a ∙ ap (callList c s 0 s) records-none ∙ list-end c s 0 s
-
 -- ## The whole list
 
 module _ {S : Type 0} (c : Checker S) where
-  -- records that pass in turn, with others after them
-  list-skip : (start : S) (i : ℕ) (s : S) (xs ys : List (List ℕ)) → InTurn c s xs
-      → callList c start i s (xs ++ ys) ≡ callList c start (i + length xs) (stateAfter c s xs) ys
-  unfolding InTurn stateAfter
-  list-skip start i s [] ys h =
-      let z : i ≡ i + length {A = List ℕ} [] = omega arith in
-      ap (λ (k : ℕ). callList c start k s ys) z
-  list-skip start i s (x ∷ xs) ys h =
-      let z : suc i + length xs ≡ i + length (x ∷ xs) = omega arith in
-      list-passed c start i s x (xs ++ ys) (h .0)
-      ∙ list-skip start (suc i) (c .after s x) xs ys (h .1)
-      ∙ ap (λ (k : ℕ). callList c start k (stateAfter c (c .after s x) xs) ys) z
+  -- a call is that of a list with the records that it hands in
+  pub call-list : (s : S) (d : Call) → call c s d ≡ ifAccepted (c .accepts s) s (callList c s 0 s (handed d))
+  unfolding call callOne callList
+  call-list s (one b) = elim (zero-or-more (c .judge s b)) [ inl q ↦ rw q | inr q ↦ rw (q .1) ]
+  call-list s (list b) = refl
+
+  -- records that pass in turn
+  pub list-all : (start : S) (i : ℕ) (s : S) (xs : List (List ℕ)) → InTurn c s xs
+      → callList c start i s xs ≡ record { answer = Passed; state = stateAfter c s xs }
+  unfolding InTurn stateAfter callList
+  list-all start i s [] h = refl
+  list-all start i s (x ∷ xs) h = rw (h .0) (list-all start (suc i) (c .after s x) xs (h .1))
+
+  -- one that is refused after records that pass in turn
+  list-stops : (start : S) (i : ℕ) (s : S) (xs : List (List ℕ)) (y : List ℕ) (ys : List (List ℕ)) (n : ℕ) → InTurn c s xs
+      → c .judge (stateAfter c s xs) y ≡ suc n
+      → callList c start i s (xs ++ y ∷ ys) ≡ record { answer = Refused (suc n) (length xs + i); state = start }
+  unfolding InTurn stateAfter callList
+  list-stops start i s [] y ys n h j = rw (j, zero-add)
+  list-stops start i s (x ∷ xs) y ys n h j = rw (h .0, suc-add, ← add-suc) (list-stops start (suc i) (c .after s x) xs y ys n (h .1) j)
 
   -- a list answers by its records in turn
   pub lists-in-turn : ListsInTurn c
   unfolding ListsInTurn
   lists-in-turn s a b =
       record {
-        passes = λ h.
-            list-accepted c s b a
-            ∙ ap (callList c s 0 s) (sym (append-nil (recordsIn b)))
-            ∙ list-skip s 0 s (recordsIn b) [] h
-            ∙ list-end c s (0 + length (recordsIn b)) (stateAfter c s (recordsIn b));
-        stops = λ xs y ys n e h j.
-            let z : 0 + length xs ≡ length xs = omega arith in
-            list-accepted c s b a
-            ∙ ap (callList c s 0 s) e
-            ∙ list-skip s 0 s xs (y ∷ ys) h
-            ∙ list-refused c s (0 + length xs) (stateAfter c s xs) y ys n j
-            ∙ (λ i. record { answer = Refused (suc n) (z i); state = s });
+        passes = λ h. rw (call-list s (list b), a) (list-all s 0 s (recordsIn b) h);
+        stops = λ xs y ys n e h j. rw (call-list s (list b), a, e, ← add-zero (length xs)) (list-stops s 0 s xs y ys n h j);
       }

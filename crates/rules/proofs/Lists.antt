@@ -1,14 +1,17 @@
 -- Laws of sums, tests and balances. Assumes nothing.
 use Prim.Native.Nat.{ℕ, zero, suc, _+_, _-_, _≤_, _<_}
-use mathlib.Core.Path.{_≡_, refl, sym, _∙_}
-use mathlib.Core.Bool.{Bool, true, false, _||_}
+use mathlib.Core.Path.{_≡_, refl, sym, ap, _∙_}
+use mathlib.Core.Bool.{Bool, true, false, _||_, or-true, or-false, or-assoc}
 use mathlib.Core.List.{List, [], _∷_, _++_}
+use mathlib.Core.Logic.{_⊎_, inl, inr}
+use mathlib.Mathlib.Data.Bool.Basic.{dichotomy}
 use native.Mathlib.Omega.{arith}
-use lib.ListN.{length, drop, getD, set, length-set}
-use lib.Seq.{drop-set-lt, getD-set-same, getD-set-other}
+use lib.ListN.{length, getD, set, length-set}
+use lib.Seq.{getD-set-same}
 use Rattle.rules.specs.Lists.{sum, any, all, total, lowered, raised}
 use Rattle.rules.specs.Rules.{Kind, Local, Sending, Receiving, Record, debit, credit, moved}
-use Rattle.wire.proofs.Lists.{and-both}
+use Rattle.wire.proofs.Lists.{and-both, every-none, every-first, every-both}
+use Rattle.wire.specs.BigEndian.{All, every}
 
 -- ## Tests
 
@@ -27,9 +30,26 @@ pub or-right : (s t : Bool) → t ≡ true → (s || t) ≡ true
 or-right true t h = refl
 or-right false t h = h
 
+-- a number is 0 or one more than another
+pub zero-or-more : (n : ℕ) → (n ≡ 0) ⊎ ((m : ℕ) × (n ≡ suc m))
+zero-or-more zero = inl refl
+zero-or-more (suc n) = inr (n, refl)
+
 -- no test both holds and does not
 pub never-both-tests : true ≡ false → ⊥
 never-both-tests h = let z : _≡_ {A = ℕ} 0 1 = cc in omega arith
+
+-- tests that all hold, one by one
+pub every-all : (ts : List Bool) → every ts ≡ true → All (λ (t : Bool). t ≡ true) ts
+unfolding All
+every-all [] h = tt
+every-all (t ∷ ts) h = let u = every-first t ts h in (u .0, every-all ts (u .1))
+
+-- and back
+pub all-every : (ts : List Bool) → All (λ (t : Bool). t ≡ true) ts → every ts ≡ true
+unfolding All
+all-every [] h = every-none
+all-every (t ∷ ts) h = every-both t ts (h .0) (all-every ts (h .1))
 
 -- ## Sums and tests over lists
 
@@ -46,21 +66,37 @@ module _ {A : Type 0} where
   sum-ext f g h [] = refl
   sum-ext f g h (x ∷ xs) = omega (arith, h x, sum-ext f g h xs)
 
-  -- some element passes, with one element more
-  pub any-snoc : (f : A → Bool) (xs : List A) (x : A) → any f (xs ++ x ∷ []) ≡ (f x || any f xs)
+  -- some element of one of two lists passes
+  pub any-append : (f : A → Bool) (xs ys : List A) → any f (xs ++ ys) ≡ (any f xs || any f ys)
   unfolding any
-  any-snoc f [] x = refl
-  any-snoc f (y ∷ xs) x = rw (any-snoc f xs x) (exchanged (f y) (f x) (any f xs))
-    where
-      exchanged : (a b c : Bool) → (a || (b || c)) ≡ (b || (a || c))
-      exchanged true true c = refl
-      exchanged true false c = refl
-      exchanged false true c = refl
-      exchanged false false c = refl
+  any-append f [] ys = refl
+  any-append f (x ∷ xs) ys = rw (any-append f xs ys) (sym (or-assoc (f x) (any f xs) (any f ys)))
+
+  -- some element passes, with one element more
+  pub any-snoc : (f : A → Bool) (xs : List A) (x : A) → any f (xs ++ x ∷ []) ≡ (any f xs || f x)
+  unfolding any
+  any-snoc f xs x = rw (any-append f xs (x ∷ []), or-false (f x))
+
+  -- no element passes a test that implies one that none passes
+  pub any-none : (f g : A → Bool) → ((x : A) → f x ≡ false → g x ≡ false) → (xs : List A) → any f xs ≡ false → any g xs ≡ false
+  unfolding any
+  any-none f g w [] h = refl
+  any-none f g w (x ∷ xs) h = let u = or-neither (f x) (any f xs) h in simp (w x (u .0), any-none f g w xs (u .1))
+
+  -- an element that passes, and those before and after it
+  pub any-split : (f : A → Bool) (xs : List A) → any f xs ≡ true
+      → (before : List A) × (x : A) × (later : List A) × (xs ≡ before ++ x ∷ later) × (f x ≡ true)
+  unfolding any
+  any-split f [] h = absurd (never-both-tests (sym h))
+  any-split f (x ∷ xs) h =
+      elim (dichotomy (f x)) [
+        | inl q ↦ let w = any-split f xs (or-second (f x) (any f xs) h q) in (x ∷ w .0, w .1, w .2, ap (λ (l : List A). x ∷ l) (w .3), w .4)
+        | inr q ↦ ([], x, xs, refl, q)
+      ]
 
   -- the last element passes
   pub any-last : (f : A → Bool) (xs : List A) (x : A) → f x ≡ true → any f (xs ++ x ∷ []) ≡ true
-  any-last f xs x h = any-snoc f xs x ∙ simp h
+  any-last f xs x h = any-snoc f xs x ∙ rw (h, or-true)
 
   -- every element passes, with one element more
   pub all-snoc : (f : A → Bool) (xs : List A) (x : A) → all f xs ≡ true → f x ≡ true → all f (xs ++ x ∷ []) ≡ true
@@ -122,30 +158,10 @@ pub raised-same : (balances : List ℕ) (i a : ℕ) → i < length balances → 
 unfolding raised
 raised-same balances i a h = getD-set-same balances i (getD balances i 0 + a) 0 h
 
--- the balance of another account
-pub raised-other : (balances : List ℕ) (i j a : ℕ) → (j ≡ i → ⊥) → getD (raised balances i a) j 0 ≡ getD balances j 0
-unfolding raised
-raised-other balances i j a h = getD-set-other balances i j (getD balances i 0 + a) 0 h
-
 -- the balance of an account that was taken from
 pub lowered-same : (balances : List ℕ) (i a : ℕ) → i < length balances → getD (lowered balances i a) i 0 ≡ getD balances i 0 - a
 unfolding lowered
 lowered-same balances i a h = getD-set-same balances i (getD balances i 0 - a) 0 h
-
--- the balance of another account
-pub lowered-other : (balances : List ℕ) (i j a : ℕ) → (j ≡ i → ⊥) → getD (lowered balances i a) j 0 ≡ getD balances j 0
-unfolding lowered
-lowered-other balances i j a h = getD-set-other balances i j (getD balances i 0 - a) 0 h
-
--- the balances after the account that was given to
-pub drop-raised : (k : ℕ) (balances : List ℕ) (i a : ℕ) → i < k → drop k (raised balances i a) ≡ drop k balances
-unfolding raised
-drop-raised k balances i a h = drop-set-lt k balances i (getD balances i 0 + a) h
-
--- the balances after the account that was taken from
-pub drop-lowered : (k : ℕ) (balances : List ℕ) (i a : ℕ) → i < k → drop k (lowered balances i a) ≡ drop k balances
-unfolding lowered
-drop-lowered k balances i a h = drop-set-lt k balances i (getD balances i 0 - a) h
 
 -- ## Beside these
 

@@ -1,29 +1,26 @@
 -- A pass keeps a state of the pair validator accepted, whatever accepted state it starts from. Assumes nothing.
 use Prim.Native.Nat.{ℕ, _+_, _≤_, _<_}
-use mathlib.Core.Path.{_≡_, refl, sym, ap, _∙_, subst}
+use mathlib.Core.Path.{_≡_, refl}
 use mathlib.Core.Bool.{true}
 use mathlib.Core.List.{List, [], _∷_}
 use native.Mathlib.Omega.{arith}
 use lib.ListN.{length, length-append}
 use borrow.Author.Tests.{eqb-true, eq-eqb, ltb-true, lt-ltb, leb-true, le-leb}
-use Rattle.answers.proofs.Answers.{or-else-zero}
 use Rattle.ledgers.specs.Ledgers.{counterpart, ledgerOf, senderLedger, receiverLedger}
 use Rattle.ledgers.specs.Limits.{maxAmount}
 use Rattle.records.specs.Records.{reading}
 use Rattle.rules.proofs.Bytes.{same-own}
 use Rattle.rules.proofs.Clashes.{unshared-distinct, distinct-unshared}
-use Rattle.rules.proofs.Ledgers.{each-ledger, with-same, from-other, sum-from, accounts-after, own-sums, Clean, clean-own}
-use Rattle.rules.proofs.Ledgers.{clean-other, crossing, read-amount}
-use Rattle.rules.proofs.Lists.{all-snoc, length-moved}
-use Rattle.rules.proofs.Refusals.{Allowed, first-none, none-first, room-none, Passable, judge-none}
+use Rattle.rules.proofs.Ledgers.{accounts-with, own-sums, Clean, clean-own, clean-other, crossing, read-amount}
+use Rattle.rules.proofs.Lists.{every-all, all-every, all-snoc, length-moved}
+use Rattle.wire.specs.BigEndian.{All}
+use Rattle.rules.proofs.Refusals.{Allowed, first-none, none-first, Passable, judge-none, pair-read}
 use Rattle.rules.proofs.Runs.{keeps-accepted}
 use Rattle.rules.specs.Lists.{any, all, total}
-use Rattle.rules.specs.PairValidator.{PairView, pairJudge, countAllowed, supplyAllowed, heldAllowed, standsUnder}
-use Rattle.rules.specs.PairValidator.{PairKeepsAccepted}
+use Rattle.rules.specs.PairValidator.{PairView, pairJudge, countAllowed, supplyAllowed, heldAllowed, standsUnder, PairKeepsAccepted}
 use Rattle.rules.specs.PairValidator.{pairAccepts, pairValidator}
-use Rattle.rules.specs.Rules.{Ledger, Home, Far, Record, Reading, Read, Unreadable, LedgerState, PairState, stateOf, accountsOf}
-use Rattle.rules.specs.Rules.{firstRefusal, judge, held, after, afterBytes, flight, inFlight}
-use Rattle.wire.proofs.Lists.{every-none, every-first, every-both}
+use Rattle.rules.specs.Rules.{Ledger, Home, Far, Record, LedgerState, PairState, stateOf, withState, accountsOf, judge, held, after}
+use Rattle.rules.specs.Rules.{afterBytes, flight, inFlight}
 
 -- ## The facts of an accepted state
 
@@ -43,67 +40,22 @@ pub record Accepted (capacity : ℕ) (v : PairView) : Type 0 where
 
 -- the test of refusal 3
 pub accepts-facts : (capacity : ℕ) (v : PairView) → pairAccepts capacity v ≡ true → Accepted capacity v
-unfolding pairAccepts
+unfolding pairAccepts All
 accepts-facts capacity v h =
-    let a = every-first _ _ h in
-    let b = every-first _ _ (a .1) in
-    let c = every-first _ _ (b .1) in
-    let d = every-first _ _ (c .1) in
-    let e = every-first _ _ (d .1) in
-    let f = every-first _ _ (e .1) in
-    let g = every-first _ _ (f .1) in
-    let i = every-first _ _ (g .1) in
-    let j = every-first _ _ (i .1) in
-    let k = every-first _ _ (j .1) in
-    let m = every-first _ _ (k .1) in
-    let n = every-first _ _ (m .1) in
-    let o = every-first _ _ (n .1) in
-    let s = every-first _ _ (o .1) in
-    let home : LedgerFacts capacity (accountsOf (v .pair)) Home (v .pair .home) (v .pair .far) =
+    let a = every-all _ h in
     record {
-      count = a .0;
-      room = leb-true _ _ (c .0);
-      allowed = f .0;
-      clean = record { distinct = unshared-distinct _ (i .0); receivings = k .0 };
-      stand = n .0;
-    } in
-    let far : LedgerFacts capacity (accountsOf (v .pair)) Far (v .pair .far) (v .pair .home) =
-    record {
-      count = b .0;
-      room = leb-true _ _ (d .0);
-      allowed = g .0;
-      clean = record { distinct = unshared-distinct _ (j .0); receivings = m .0 };
-      stand = o .0;
-    } in
-    record { ledgers = both home far; supply-fits = e .0; sums = eqb-true _ _ (s .0) }
-  where
-    both : LedgerFacts capacity (accountsOf (v .pair)) Home (v .pair .home) (v .pair .far)
-        → LedgerFacts capacity (accountsOf (v .pair)) Far (v .pair .far) (v .pair .home)
-        → (l : Ledger) → LedgerFacts capacity (accountsOf (v .pair)) l (stateOf l (v .pair)) (stateOf (counterpart l) (v .pair))
-    both home far Home = home
-    both home far Far = far
+      ledgers = elim [ Home ↦ search (leb-true, unshared-distinct) | Far ↦ search (leb-true, unshared-distinct) ];
+      supply-fits = search;
+      sums = search eqb-true;
+    }
 
 -- and back
 pub facts-accepts : (capacity : ℕ) (v : PairView) → Accepted capacity v → pairAccepts capacity v ≡ true
-unfolding pairAccepts
+unfolding pairAccepts All
 facts-accepts capacity v a =
     let h = a .ledgers Home in
     let f = a .ledgers Far in
-    every-both _ _ (h .count)
-    (every-both _ _ (f .count)
-    (every-both _ _ (le-leb _ _ (h .room))
-    (every-both _ _ (le-leb _ _ (f .room))
-    (every-both _ _ (a .supply-fits)
-    (every-both _ _ (h .allowed)
-    (every-both _ _ (f .allowed)
-    (every-both _ _ (distinct-unshared _ (h .clean .distinct))
-    (every-both _ _ (distinct-unshared _ (f .clean .distinct))
-    (every-both _ _ (h .clean .receivings)
-    (every-both _ _ (f .clean .receivings)
-    (every-both _ _ (h .stand)
-    (every-both _ _ (f .stand)
-    (every-both _ _ (eq-eqb _ _ (a .sums))
-    every-none)))))))))))))
+    all-every _ (search (le-leb, distinct-unshared, eq-eqb) depth 20)
 
 -- ## A record that passes
 
@@ -111,119 +63,98 @@ facts-accepts capacity v a =
 pub allowed-held : (accounts : Ledger → ℕ) (passed : List Record) (r : Record)
     → Allowed (accounts (senderLedger (r .kind))) (accounts (receiverLedger (r .kind))) passed r
     → (0 < r .amount) × (r .amount ≤ maxAmount) → heldAllowed accounts r ≡ true
-unfolding heldAllowed any
+unfolding heldAllowed any All
 allowed-held accounts passed r a m =
     let b : Allowed (accounts (senderLedger (r .kind))) (accounts (receiverLedger (r .kind))) [] r =
     record { sender-open = a .sender-open; receiver-open = a .receiver-open; signed = a .signed; fresh = refl } in
-    every-both _ _ (lt-ltb _ _ (m .0))
-    (every-both _ _ (le-leb _ _ (m .1))
-    (every-both _ _ (eq-eqb (firstRefusal accounts [] r 0) 0 (none-first accounts [] r 0 b refl))
-    every-none))
+    all-every _ (lt-ltb _ _ (m .0), (le-leb _ _ (m .1), (eq-eqb _ 0 (none-first accounts [] r 0 b refl), tt)))
 
 -- and back
 pub held-allowed : (accounts : Ledger → ℕ) (r : Record) → heldAllowed accounts r ≡ true
     → Allowed (accounts (senderLedger (r .kind))) (accounts (receiverLedger (r .kind))) [] r × ((0 < r .amount) × (r .amount ≤ maxAmount))
-unfolding heldAllowed
+unfolding heldAllowed All
 held-allowed accounts r h =
-    let a = every-first _ _ h in
-    let b = every-first _ _ (a .1) in
-    let c = every-first _ _ (b .1) in
-    (first-none accounts [] r 0 (eqb-true _ _ (c .0)) .0, (ltb-true _ _ (a .0), leb-true _ _ (b .0)))
+    let a = every-all _ h in
+    (first-none accounts [] r 0 (eqb-true _ _ (a .1 .1 .0)) .0, (ltb-true _ _ (a .0), leb-true _ _ (a .1 .0)))
 
 -- a record stands under its ledger
 pub stands-own : (r : Record) → standsUnder (ledgerOf (r .kind)) r ≡ true
 unfolding standsUnder
 stands-own r = same-own (ledgerOf (r .kind))
 
--- the record's ledger
-facts-own : (capacity : ℕ) (accounts : Ledger → ℕ) (own other : LedgerState) (r : Record)
-    → Allowed (accounts (senderLedger (r .kind))) (accounts (receiverLedger (r .kind))) (own .passed) r
-    → (0 < r .amount) × (r .amount ≤ maxAmount) → Passable own other r (r .kind) → length (own .passed) < capacity
-    → LedgerFacts capacity accounts (ledgerOf (r .kind)) own other
-    → LedgerFacts capacity accounts (ledgerOf (r .kind)) (held own r) other
-facts-own capacity accounts own other r a m h room f =
-    record {
-      count = rw (length-moved (own .balances) r (r .kind)) (f .count);
-      room = omega (arith, length-append (own .passed) (r ∷ []));
-      allowed = all-snoc _ (own .passed) r (f .allowed) (allowed-held accounts (own .passed) r a m);
-      clean = clean-own own other r h (f .clean);
-      stand = all-snoc _ (own .passed) r (f .stand) (stands-own r);
-    }
+module _ (capacity : ℕ) (accounts : Ledger → ℕ) (l : Ledger) (own other : LedgerState) (r : Record) where
+  -- the record's ledger
+  facts-own : heldAllowed accounts r ≡ true → standsUnder l r ≡ true → Passable own other r (r .kind) → length (own .passed) < capacity
+      → LedgerFacts capacity accounts l own other → LedgerFacts capacity accounts l (held own r) other
+  facts-own a s h room f =
+      record {
+        count = rw (length-moved (own .balances) r (r .kind)) (f .count);
+        room = omega (arith, length-append (own .passed) (r ∷ []));
+        allowed = all-snoc _ (own .passed) r (f .allowed) a;
+        clean = clean-own own other r h (f .clean);
+        stand = all-snoc _ (own .passed) r (f .stand) s;
+      }
 
--- the other ledger
-facts-other : (capacity : ℕ) (accounts : Ledger → ℕ) (l : Ledger) (own other : LedgerState) (r : Record)
-    → LedgerFacts capacity accounts l own other → LedgerFacts capacity accounts l own (held other r)
-facts-other capacity accounts l own other r f =
-    record { count = f .count; room = f .room; allowed = f .allowed; clean = clean-other own other r (f .clean); stand = f .stand }
+  -- the other ledger
+  facts-other : LedgerFacts capacity accounts l own other → LedgerFacts capacity accounts l own (held other r)
+  facts-other f = let c = clean-other own other r (f .clean) in search
 
 -- balances and in flight, from the record's ledger
-sum-step : (own other : LedgerState) (r : Record) (supply : ℕ) → Passable own other r (r .kind) → Clean own other → Clean other own
-    → total (own .balances) + total (other .balances)
-    + (flight (own .passed) (other .passed) + flight (other .passed) (own .passed)) ≡ supply
-    → total (held own r .balances) + total (other .balances)
-    + (flight (held own r .passed) (other .passed) + flight (other .passed) (held own r .passed)) ≡ supply
-sum-step own other r supply h c d s =
-    omega (
-      arith,
-      own-sums own other r (r .kind) refl h,
-      crossing own other c d,
-      crossing other own d c,
-      crossing (held own r) other (clean-own own other r h c) (clean-other other own r d),
-      crossing other (held own r) (clean-other other own r d) (clean-own own other r h c),
-    )
+sum-step : (own other : LedgerState) (r : Record) → Passable own other r (r .kind) → Clean own other → Clean other own
+    → total (held own r .balances) + (flight (held own r .passed) (other .passed) + flight (other .passed) (held own r .passed))
+    ≡ total (own .balances) + (flight (own .passed) (other .passed) + flight (other .passed) (own .passed))
+sum-step own other r h c d =
+    let e = clean-own own other r h c in
+    let f = clean-other other own r d in
+    let a = crossing own other c d in
+    let b = crossing other own d c in
+    omega (arith, own-sums own other r (r .kind) refl h, crossing (held own r) other e f, crossing other (held own r) f e)
 
 -- both ledgers
-pub accepted-after : (capacity : ℕ) (v : PairView) (r : Record) → (0 < r .amount) × (r .amount ≤ maxAmount) → judge (v .pair) r ≡ 0
+accepted-after : (capacity : ℕ) (v : PairView) (r : Record) → (0 < r .amount) × (r .amount ≤ maxAmount) → judge (v .pair) r ≡ 0
     → length (stateOf (ledgerOf (r .kind)) (v .pair) .passed) < capacity → Accepted capacity v
     → Accepted capacity (record { pair = after (v .pair) r; supply = v .supply })
-unfolding judge after
+unfolding judge after inFlight
 accepted-after capacity v r m j room a =
-    record {
-      ledgers = subst Facts (sym (accounts-after p r))
-          (each-ledger (LedgerFacts capacity (accountsOf p)) l (held own r) p
-          (facts-own capacity (accountsOf p) own other r (first-none _ _ r _ j .0) m h room (a .ledgers l))
-          (facts-other capacity (accountsOf p) (counterpart l) other own r
-          (from-other (LedgerFacts capacity (accountsOf p)) l p (a .ledgers))));
-      supply-fits = a .supply-fits;
-      sums = sum-from l (held own r) p
-          ∙ sum-step own other r (v .supply) h (a .ledgers l .clean) (from-other (λ m s t. Clean s t) l p (λ m. a .ledgers m .clean))
-          (sym (sum-from l own p)
-          ∙ ap (λ (q : PairState). total (q .home .balances) + total (q .far .balances) + inFlight q) (with-same l p)
-          ∙ a .sums);
-    }
+    go (ledgerOf (r .kind)) (stands-own r) (judge-none (v .pair) r (r .kind) refl j) room
   where
     p : PairState
     p = v .pair
 
-    l : Ledger
-    l = ledgerOf (r .kind)
+    ok : heldAllowed (accountsOf p) r ≡ true
+    ok = allowed-held (accountsOf p) _ r (first-none _ _ r _ j .0) m
 
-    own : LedgerState
-    own = stateOf l p
-
-    other : LedgerState
-    other = stateOf (counterpart l) p
-
-    h : Passable own other r (r .kind)
-    h = judge-none p r (r .kind) refl j
-
-    Facts : (Ledger → ℕ) → Type 0
-    Facts accounts = (m : Ledger) → LedgerFacts capacity accounts m (stateOf m (after p r)) (stateOf (counterpart m) (after p r))
+    go : (l : Ledger) → standsUnder l r ≡ true → Passable (stateOf l p) (stateOf (counterpart l) p) r (r .kind)
+        → length (stateOf l p .passed) < capacity
+        → Accepted capacity (record { pair = withState l (held (stateOf l p) r) p; supply = v .supply })
+    go Home s h room =
+        record {
+          ledgers = rw (accounts-with Home r p) (elim [
+            | Home ↦ facts-own capacity (accountsOf p) Home (p .home) (p .far) r ok s h room (a .ledgers Home)
+            | Far ↦ facts-other capacity (accountsOf p) Far (p .far) (p .home) r (a .ledgers Far)
+          ]);
+          supply-fits = a .supply-fits;
+          sums = omega (arith, a .sums, sum-step (p .home) (p .far) r h (a .ledgers Home .clean) (a .ledgers Far .clean));
+        }
+    go Far s h room =
+        record {
+          ledgers = rw (accounts-with Far r p) (elim [
+            | Home ↦ facts-other capacity (accountsOf p) Home (p .home) (p .far) r (a .ledgers Home)
+            | Far ↦ facts-own capacity (accountsOf p) Far (p .far) (p .home) r ok s h room (a .ledgers Far)
+          ]);
+          supply-fits = a .supply-fits;
+          sums = omega (arith, a .sums, sum-step (p .far) (p .home) r h (a .ledgers Far .clean) (a .ledgers Home .clean));
+        }
 
 -- a record of bytes that passes
 pub pair-step : (capacity : ℕ) (v : PairView) (b : List ℕ) → pairAccepts capacity v ≡ true → pairJudge capacity (v .pair) (reading b) ≡ 0
     → pairAccepts capacity (record { pair = afterBytes (v .pair) b; supply = v .supply }) ≡ true
 unfolding afterBytes
-pair-step capacity v b ok j = go (reading b) refl j
-  where
-    go : (x : Reading) → reading b ≡ x → pairJudge capacity (v .pair) x ≡ 0
-        → pairAccepts capacity (record { pair = afterBytes (v .pair) b; supply = v .supply }) ≡ true
-    go Unreadable q h = absurd (omega arith)
-    go (Read r) q h =
-        let o = or-else-zero (judge (v .pair) r) _ h in
-        rw q
-        (facts-accepts capacity (record { pair = after (v .pair) r; supply = v .supply })
-        (accepted-after capacity v r (read-amount b r q) (o .0) (room-none capacity _ (o .1)) (accepts-facts capacity v ok)))
+pair-step capacity v b ok j =
+    let x = pair-read capacity (v .pair) (reading b) j in
+    rw (x .1)
+    (facts-accepts capacity (record { pair = after (v .pair) (x .0); supply = v .supply })
+    (accepted-after capacity v (x .0) (read-amount b (x .0) (x .1)) (x .2) (x .3) (accepts-facts capacity v ok)))
 
 -- every call of the pair validator in an accepted state hands back an accepted one
 pub pair-keeps-accepted : PairKeepsAccepted

@@ -3,17 +3,20 @@ use Prim.Native.Nat.{ℕ, _≤_, _<_}
 use mathlib.Core.Path.{_≡_, refl, sym, subst}
 use mathlib.Core.Bool.{true, false}
 use mathlib.Core.List.{List}
+use mathlib.Core.Logic.{_↔_, Iff·rfl}
 use native.Mathlib.Omega.{arith}
+use Rattle.rules.proofs.Lists.{never-both-tests}
 use lib.Dec.{lit<}
 use lib.ListN.{length, getD}
 use borrow.Author.Tests.{le-ltb, ltb-false, le-leb, lt-leb, leb-false, not-false}
-use Rattle.answers.proofs.Answers.{refuse-zero}
+use Rattle.answers.proofs.Answers.{or-else-zero, refuse-zero}
 use Rattle.ledgers.specs.Ledgers.{counterpart, ledgerOf, senderLedger, receiverLedger}
-use Rattle.rules.specs.HomeValidator.{HomeView, homeAccounts, isFar, poolRefusal, homeLastRefusal, homeJudgeRecord}
+use Rattle.rules.specs.HomeValidator.{HomeView, homeAccounts, isFar, poolRefusal, homeLastRefusal, homeJudgeRecord, homeJudge}
 use Rattle.rules.specs.Lists.{any}
-use Rattle.rules.specs.PairValidator.{roomRefusal}
-use Rattle.rules.specs.Rules.{Ledger, Home, Far, Kind, Local, Sending, Receiving, Record, LedgerState, PairState, stateOf}
-use Rattle.rules.specs.Rules.{accountsOf, clashes, debit, matches, firstRefusal, fundsRefusal, matchRefusal, lastRefusal, judge}
+use Rattle.rules.specs.PairValidator.{roomRefusal, pairJudge}
+use Rattle.rules.specs.Rules.{Reading, Read, Unreadable, judgeReading, Ledger, Home, Far, Kind, Local, Sending, Receiving, Record}
+use Rattle.rules.specs.Rules.{LedgerState, PairState, stateOf, accountsOf, clashes, debit, matches, firstRefusal, fundsRefusal}
+use Rattle.rules.specs.Rules.{matchRefusal, lastRefusal, judge}
 
 -- ## 22, 23 and 24
 
@@ -42,40 +45,14 @@ pub none-first : (accounts : Ledger → ℕ) (passed : List Record) (r : Record)
     → Allowed (accounts (senderLedger (r .kind))) (accounts (receiverLedger (r .kind))) passed r → later ≡ 0
     → firstRefusal accounts passed r later ≡ 0
 unfolding firstRefusal
-none-first accounts passed r later a h =
-    simp (lt-leb _ _ (a .sender-open), lt-leb _ _ (a .receiver-open), a .signed, a .fresh, h)
+none-first accounts passed r later a h = simp (lt-leb _ _ (a .sender-open), lt-leb _ _ (a .receiver-open), a .signed, a .fresh, h)
 
--- ## 25, 31 and 32
+-- ## 25, 31, 32 and 41
 
 -- the sender has what is taken
-pub funds-none : (balances : List ℕ) (r : Record) → fundsRefusal balances r ≡ 0 → debit r ≤ getD balances (r .sender) 0
+funds : (balances : List ℕ) (r : Record) → (fundsRefusal balances r ≡ 0) ↔ (debit r ≤ getD balances (r .sender) 0)
 unfolding fundsRefusal
-funds-none balances r h = ltb-false _ _ (refuse-zero _ 25 0 (lit< tt) h .0)
-
--- and back
-pub none-funds : (balances : List ℕ) (r : Record) → debit r ≤ getD balances (r .sender) 0 → fundsRefusal balances r ≡ 0
-unfolding fundsRefusal
-none-funds balances r h = simp (le-ltb _ _ h)
-
--- the sending is there
-pub match-none : (passed : List Record) (r : Record) → matchRefusal passed r ≡ 0 → any (matches r) passed ≡ true
-unfolding matchRefusal
-match-none passed r h = not-false _ (refuse-zero _ 31 0 (lit< tt) h .0)
-
--- and back
-pub none-match : (passed : List Record) (r : Record) → any (matches r) passed ≡ true → matchRefusal passed r ≡ 0
-unfolding matchRefusal
-none-match passed r h = simp h
-
--- the far pool has the amount
-pub pool-none : (farPool : ℕ) (r : Record) → poolRefusal farPool r ≡ 0 → r .amount ≤ farPool
-unfolding poolRefusal
-pool-none farPool r h = ltb-false _ _ (refuse-zero _ 32 0 (lit< tt) h .0)
-
--- and back
-pub none-pool : (farPool : ℕ) (r : Record) → r .amount ≤ farPool → poolRefusal farPool r ≡ 0
-unfolding poolRefusal
-none-pool farPool r h = simp (le-ltb _ _ h)
+funds balances r = (λ h. ltb-false _ _ (refuse-zero _ 25 0 (lit< tt) h .0), λ h. simp (le-ltb _ _ h))
 
 -- there is room
 pub room-none : (capacity : ℕ) (passed : List Record) → roomRefusal capacity passed ≡ 0 → length passed < capacity
@@ -103,34 +80,31 @@ Passable own other r (Sending l) =
 Passable own other r (Receiving l) =
     Allowed (length (other .balances)) (length (own .balances)) (own .passed) r × (any (matches r) (other .passed) ≡ true)
 
--- what the refusals say of a kind
-Judged : PairState → Record → Kind → Type 0
-Judged p r k =
-    Allowed (accountsOf p (senderLedger k)) (accountsOf p (receiverLedger k)) (stateOf (ledgerOf k) p .passed) r × (lastRefusal p r k ≡ 0)
+module _ (p : PairState) (r : Record) where
+  -- what the refusals say of a kind
+  Judged : Kind → Type 0
+  Judged k =
+      Allowed (accountsOf p (senderLedger k)) (accountsOf p (receiverLedger k)) (stateOf (ledgerOf k) p .passed) r
+      × (lastRefusal p r k ≡ 0)
 
--- what the rules pass is passable
-pub judge-none : (p : PairState) (r : Record) (k : Kind) → r .kind ≡ k → judge p r ≡ 0
-    → Passable (stateOf (ledgerOf k) p) (stateOf (counterpart (ledgerOf k)) p) r k
-unfolding judge Passable Judged
-judge-none p r k q h = go k (subst (Judged p r) q (first-none _ _ r _ h))
-  where
-    go : (k : Kind) → Judged p r k → Passable (stateOf (ledgerOf k) p) (stateOf (counterpart (ledgerOf k)) p) r k
-    go (Local l) a = (a .0, funds-none _ r (a .1))
-    go (Sending l) a = (a .0, funds-none _ r (a .1))
-    go (Receiving l) a = (a .0, match-none _ r (a .1))
+  -- it is what the rules ask
+  judged : (k : Kind) → Judged k ↔ Passable (stateOf (ledgerOf k) p) (stateOf (counterpart (ledgerOf k)) p) r k
+  unfolding Passable Judged matchRefusal
+  judged (Local l) = simp funds Iff·rfl
+  judged (Sending l) = simp funds Iff·rfl
+  judged (Receiving l) = (λ a. (a .0, not-false _ (refuse-zero _ 31 0 (lit< tt) (a .1) .0)), λ a. (a .0, simp (a .1)))
 
--- and back
-pub none-judge : (p : PairState) (r : Record) (k : Kind) → r .kind ≡ k
-    → Passable (stateOf (ledgerOf k) p) (stateOf (counterpart (ledgerOf k)) p) r k → judge p r ≡ 0
-unfolding judge Passable Judged
-none-judge p r k q h =
-    let a : Judged p r (r .kind) = subst (Judged p r) (sym q) (go k h) in
-    none-first _ _ r _ (a .0) (a .1)
-  where
-    go : (k : Kind) → Passable (stateOf (ledgerOf k) p) (stateOf (counterpart (ledgerOf k)) p) r k → Judged p r k
-    go (Local l) a = (a .0, none-funds _ r (a .1))
-    go (Sending l) a = (a .0, none-funds _ r (a .1))
-    go (Receiving l) a = (a .0, none-match _ r (a .1))
+  -- what the rules pass is passable
+  pub judge-none : (k : Kind) → r .kind ≡ k → judge p r ≡ 0
+      → Passable (stateOf (ledgerOf k) p) (stateOf (counterpart (ledgerOf k)) p) r k
+  unfolding judge Judged
+  judge-none k q h = judged k .0 (subst Judged q (first-none _ _ r _ h))
+
+  -- and back
+  pub none-judge : (k : Kind) → r .kind ≡ k → Passable (stateOf (ledgerOf k) p) (stateOf (counterpart (ledgerOf k)) p) r k
+      → judge p r ≡ 0
+  unfolding judge Judged
+  none-judge k q h = let a = subst Judged (sym q) (judged k .1 h) in none-first _ _ r _ (a .0) (a .1)
 
 -- ## The home validator
 
@@ -141,44 +115,64 @@ HomePassable v r (Local Home) =
     × (debit r ≤ getD (v .home .balances) (r .sender) 0)
 HomePassable v r (Sending Home) =
     Allowed (length (v .home .balances)) (v .farAccounts) (v .home .passed) r × (debit r ≤ getD (v .home .balances) (r .sender) 0)
-HomePassable v r (Receiving Home) =
-    Allowed (v .farAccounts) (length (v .home .balances)) (v .home .passed) r × (r .amount ≤ v .farPool)
+HomePassable v r (Receiving Home) = Allowed (v .farAccounts) (length (v .home .balances)) (v .home .passed) r × (r .amount ≤ v .farPool)
 HomePassable v r (Local Far) = ⊥
 HomePassable v r (Sending Far) = ⊥
 HomePassable v r (Receiving Far) = ⊥
 
--- what the refusals say of a kind
-HomeJudged : HomeView → Record → Kind → Type 0
-HomeJudged v r k =
-    (isFar (ledgerOf k) ≡ false)
-    × (Allowed (homeAccounts v (senderLedger k)) (homeAccounts v (receiverLedger k)) (v .home .passed) r × (homeLastRefusal v r k ≡ 0))
+module _ (v : HomeView) (r : Record) where
+  -- what the refusals say of a kind
+  HomeJudged : Kind → Type 0
+  HomeJudged k =
+      (isFar (ledgerOf k) ≡ false)
+      × Allowed (homeAccounts v (senderLedger k)) (homeAccounts v (receiverLedger k)) (v .home .passed) r × (homeLastRefusal v r k ≡ 0)
 
--- what the home validator passes is passable
-pub home-judge-none : (v : HomeView) (r : Record) (k : Kind) → r .kind ≡ k → homeJudgeRecord v r ≡ 0 → HomePassable v r k
-unfolding homeJudgeRecord HomePassable HomeJudged
-home-judge-none v r k q h =
-    let a = refuse-zero _ 33 _ (lit< tt) h in
-    go k (subst (HomeJudged v r) q (a .0, first-none _ _ r _ (a .1)))
-  where
-    go : (k : Kind) → HomeJudged v r k → HomePassable v r k
-    go (Local Home) a = (a .1 .0, funds-none _ r (a .1 .1))
-    go (Sending Home) a = (a .1 .0, funds-none _ r (a .1 .1))
-    go (Receiving Home) a = (a .1 .0, pool-none _ r (a .1 .1))
-    go (Local Far) a = let z : _≡_ {A = ℕ} 0 1 = cc (a .0) in omega arith
-    go (Sending Far) a = let z : _≡_ {A = ℕ} 0 1 = cc (a .0) in omega arith
-    go (Receiving Far) a = let z : _≡_ {A = ℕ} 0 1 = cc (a .0) in omega arith
+  -- it is what it asks
+  home-judged : (k : Kind) → HomeJudged k ↔ HomePassable v r k
+  unfolding HomePassable HomeJudged poolRefusal
+  home-judged (Local Home) = (λ a. (a .1, funds _ r .0 (a .2)), λ a. (refl, a .0, funds _ r .1 (a .1)))
+  home-judged (Sending Home) = (λ a. (a .1, funds _ r .0 (a .2)), λ a. (refl, a .0, funds _ r .1 (a .1)))
+  home-judged (Receiving Home) =
+      (λ a. (a .1, ltb-false _ _ (refuse-zero _ 32 0 (lit< tt) (a .2) .0)), λ a. (refl, a .0, simp (le-ltb _ _ (a .1))))
+  home-judged (Local Far) = (λ a. never-both-tests (a .0), absurd)
+  home-judged (Sending Far) = (λ a. never-both-tests (a .0), absurd)
+  home-judged (Receiving Far) = (λ a. never-both-tests (a .0), absurd)
 
--- and back
-pub none-home-judge : (v : HomeView) (r : Record) (k : Kind) → r .kind ≡ k → HomePassable v r k → homeJudgeRecord v r ≡ 0
-unfolding homeJudgeRecord HomePassable HomeJudged
-none-home-judge v r k q h =
-    let a : HomeJudged v r (r .kind) = subst (HomeJudged v r) (sym q) (go k h) in
-    simp (a .0) (none-first _ _ r _ (a .1 .0) (a .1 .1))
-  where
-    go : (k : Kind) → HomePassable v r k → HomeJudged v r k
-    go (Local Home) a = (refl, (a .0, none-funds _ r (a .1)))
-    go (Sending Home) a = (refl, (a .0, none-funds _ r (a .1)))
-    go (Receiving Home) a = (refl, (a .0, none-pool _ r (a .1)))
-    go (Local Far) a = absurd a
-    go (Sending Far) a = absurd a
-    go (Receiving Far) a = absurd a
+  -- what the home validator passes is passable
+  pub home-judge-none : (k : Kind) → r .kind ≡ k → homeJudgeRecord v r ≡ 0 → HomePassable v r k
+  unfolding homeJudgeRecord HomeJudged
+  home-judge-none k q h =
+      let a = refuse-zero _ 33 _ (lit< tt) h in
+      let b = first-none _ _ r _ (a .1) in
+      home-judged k .0 (subst HomeJudged q (a .0, b .0, b .1))
+
+  -- and back
+  pub none-home-judge : (k : Kind) → r .kind ≡ k → HomePassable v r k → homeJudgeRecord v r ≡ 0
+  unfolding homeJudgeRecord HomeJudged
+  none-home-judge k q h =
+      let a = subst HomeJudged (sym q) (home-judged k .1 h) in
+      simp (a .0) (none-first _ _ r _ (a .1) (a .2))
+
+-- the ledger of a home record
+pub is-home : (l : Ledger) → isFar l ≡ false → l ≡ Home
+is-home Home e = refl
+is-home Far e = cc
+
+-- ## Bytes
+
+-- what the pair validator passes reads as a record that the rules pass, and there is room for it
+pub pair-read : (capacity : ℕ) (p : PairState) (x : Reading) → pairJudge capacity p x ≡ 0
+    → (r : Record) × (x ≡ Read r) × (judge p r ≡ 0) × (length (stateOf (ledgerOf (r .kind)) p .passed) < capacity)
+pair-read capacity p Unreadable h = absurd (omega arith)
+pair-read capacity p (Read r) h = let o = or-else-zero (judge p r) _ h in (r, refl, o .0, room-none capacity _ (o .1))
+
+-- what the home validator passes likewise
+pub home-read : (capacity : ℕ) (v : HomeView) (x : Reading) → homeJudge capacity v x ≡ 0
+    → (r : Record) × (x ≡ Read r) × (homeJudgeRecord v r ≡ 0) × (length (v .home .passed) < capacity)
+home-read capacity v Unreadable h = absurd (omega arith)
+home-read capacity v (Read r) h = let o = or-else-zero (homeJudgeRecord v r) _ h in (r, refl, o .0, room-none capacity _ (o .1))
+
+-- what the rules pass reads as a record that they pass
+pub rules-read : (p : PairState) (x : Reading) → judgeReading p x ≡ 0 → (r : Record) × (x ≡ Read r) × (judge p r ≡ 0)
+rules-read p Unreadable h = absurd (omega arith)
+rules-read p (Read r) h = (r, refl, h)

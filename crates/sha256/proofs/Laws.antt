@@ -25,19 +25,12 @@ length-zeros k = length-replicate k 0
 -- how long the padding is
 length-padding : (n : ℕ) → length (padding n) ≡ zeroCount n + 9
 unfolding padding
-length-padding n =
-    let z = length-append (zeros (zeroCount n)) (bytesOf 8 (8 * n % 2 ^ 64)) in
-    let r = length-zeros (zeroCount n) in
-    let b = length-bytesOf 8 (8 * n % 2 ^ 64) in
-    omega arith
+length-padding n = simp (length-append, length-replicate, length-bytesOf) (omega arith)
 
 -- how long a padded message is
 length-padded : (m : List ℕ) → length (padded m) ≡ length m + zeroCount (length m) + 9
 unfolding padded
-length-padded m =
-    let a = length-append m (padding (length m)) in
-    let p = length-padding (length m) in
-    omega arith
+length-padded m = omega (arith, length-append m (padding (length m)), length-padding (length m))
 
 -- how many blocks a padded message has
 pub block-count : (m : List ℕ) → length (padded m) / 64 ≡ length m / 64 + (length m % 64 + 72) / 64
@@ -60,13 +53,9 @@ block-within m i h =
     sym (ap (take 64) (drop-append-le (64 * i) m q (omega arith)) ∙ take-append-le 64 (drop (64 * i) m) q s)
 
 -- where bytes b begin with the rest of a message after its whole blocks and the padding, they have the last blocks
-pub block-last :
-    (m b : List ℕ)
-    (i k e : ℕ) →
-    take e b ≡ take (length m - 64 * (length m / 64)) (drop (64 * (length m / 64)) m) ++ padding (length m) →
-    k ≡ length m / 64 + i →
-    (64 * i + 64 ≤ e) × (e ≤ length b) →
-    take 64 (drop (64 * i) b) ≡ block (padded m) k
+pub block-last : (m b : List ℕ) (i k e : ℕ)
+    → take e b ≡ take (length m - 64 * (length m / 64)) (drop (64 * (length m / 64)) m) ++ padding (length m)
+    → k ≡ length m / 64 + i → (64 * i + 64 ≤ e) × (e ≤ length b) → take 64 (drop (64 * i) b) ≡ block (padded m) k
 unfolding block padded
 block-last m b i k e h ek f =
     let n : ℕ = length m in
@@ -107,17 +96,10 @@ pub length-bits : (n : ℕ) → n % 2305843009213693952 * 8 ≡ 8 * n % 2 ^ 64
 length-bits n = omega arith
 
 -- the rest p of a message of n bytes in zeros, a mark after it and the length l in its place: the rest and the padding
-pub rest-padded :
-    (p : List ℕ)
-    (n r : ℕ)
-    {b l x : List ℕ}
-    (t u : List ℕ) →
-    length p ≡ n % 64 →
-    r ≡ length p →
-    b ≡ take (length p) p ++ drop (length p) (zeros 128) →
-    l ≡ bytesOf 8 (n % 2305843009213693952 * 8) →
-    x ≡ take (length l) l ++ t →
-    take (n % 64 + zeroCount n + 9) (take (r + 1 + (119 - r) % 64) (set b r 0x80) ++ (x ++ u)) ≡ p ++ padding n
+pub rest-padded : (p : List ℕ) (n r : ℕ) {b l x : List ℕ} (t u : List ℕ)
+    → length p ≡ n % 64 → r ≡ length p → b ≡ take (length p) p ++ drop (length p) (zeros 128)
+    → l ≡ bytesOf 8 (n % 2305843009213693952 * 8) → x ≡ take (length l) l ++ t
+    → take (n % 64 + zeroCount n + 9) (take (r + 1 + (119 - r) % 64) (set b r 0x80) ++ (x ++ u)) ≡ p ++ padding n
 unfolding padding
 rest-padded p n r {b = b} {l = l} {x = x} t u h er eb el ex =
     let z : ℕ = zeroCount n in
@@ -148,21 +130,11 @@ abbrev four : List ℕ → List ℕ
 four a = getD a 0 0 ∷ getD a 1 0 ∷ getD a 2 0 ∷ getD a 3 0 ∷ []
 
 -- the bytes of the eight words, one by one
-pub bytes-of-words :
-    (x : Hash)
-    {a b c d e f g h : List ℕ} →
-    a ≡ bytesOf 4 (x .a) →
-    b ≡ bytesOf 4 (x .b) →
-    c ≡ bytesOf 4 (x .c) →
-    d ≡ bytesOf 4 (x .d) →
-    e ≡ bytesOf 4 (x .e) →
-    f ≡ bytesOf 4 (x .f) →
-    g ≡ bytesOf 4 (x .g) →
-    h ≡ bytesOf 4 (x .h) →
-    four a ++ (four b ++ (four c ++ (four d ++ (four e ++ (four f ++ (four g ++ four h)))))) ≡ hashBytes x
+pub bytes-of-words : (x : Hash) {a b c d e f g h : List ℕ}
+    → a ≡ bytesOf 4 (x .a) → b ≡ bytesOf 4 (x .b) → c ≡ bytesOf 4 (x .c) → d ≡ bytesOf 4 (x .d)
+    → e ≡ bytesOf 4 (x .e) → f ≡ bytesOf 4 (x .f) → g ≡ bytesOf 4 (x .g) → h ≡ bytesOf 4 (x .h)
+    → four a ++ (four b ++ (four c ++ (four d ++ (four e ++ (four f ++ (four g ++ four h)))))) ≡ hashBytes x
 unfolding hashBytes bytesOf
 bytes-of-words x ea eb ec ed ee ef eg eh =
     λ i.
-    four (ea i)
-    ++ (four (eb i)
-    ++ (four (ec i) ++ (four (ed i) ++ (four (ee i) ++ (four (ef i) ++ (four (eg i) ++ four (eh i)))))))
+    four (ea i) ++ (four (eb i) ++ (four (ec i) ++ (four (ed i) ++ (four (ee i) ++ (four (ef i) ++ (four (eg i) ++ four (eh i)))))))

@@ -5,6 +5,8 @@ use mathlib.Core.Bool.{Bool, cond, false, not, _&&_, _||_}
 use mathlib.Core.List.{List, [], _∷_}
 use lib.Dec.{eqb}
 use lib.ListN.{drop, getD, set, take}
+use Rattle.exact_sums.specs.Sums.{Halves}
+use Rattle.exact_sums.specs.declared.Flows.{Flows}
 use Rattle.ledgers.specs.declared.Ledger.{Ledger}
 use Rattle.ledgers.specs.declared.Ledger.the-variants.{Far, Home}
 use Rattle.number_index.specs.Index.{Chains, chainCount}
@@ -16,7 +18,7 @@ use Rattle.records.specs.declared.Words.{Words}
 use Rattle.rules.specs.PairValidator.{heldAllowed, standsUnder}
 use Rattle.rules.specs.Rules.{LedgerState}
 use Rattle.tables.specs.Columns.{movedAt}
-use Rattle.tables.specs.Places.{anyAt, listAt}
+use Rattle.tables.specs.Places.{anyAt, listAt, sumAt}
 use Rattle.wire.specs.BigEndian.{every}
 
 -- ## The records
@@ -114,9 +116,18 @@ backedBy s o others n w =
 abbrev pub backedAt : List ℕ → ℕ → ℕ → ℕ → ℕ → ℕ → Bool
 backedAt s from o others n i = backedBy s o others n (wordsAt s from i)
 
--- the amount at place i where its kind is a given byte
+-- the amount in words where their kind is a given byte
+abbrev pub flowBy : ℕ → Words → ℕ
+flowBy kind w = cond (eqb (within 0 1 (w .head)) kind) (w .amount) 0
+
+-- of those at a place
 abbrev pub flowAt : ℕ → List ℕ → ℕ → ℕ → ℕ
-flowAt kind s from i = cond (eqb (within 0 1 (headAt s from i)) kind) (amountAt s from i) 0
+flowAt kind s from i = flowBy kind (wordsAt s from i)
+
+-- what m records sent and received, for inner functions
+pub record FlowsAt (s : List ℕ) (from m : ℕ) (f : Flows) : Type 0 where
+  pub sent : Halves (sumAt (flowAt 2 s from) 0 m) m (f .sent .high) (f .sent .low)
+  pub received : Halves (sumAt (flowAt 3 s from) 0 m) m (f .received .high) (f .received .low)
 
 -- ## A ledger
 

@@ -1,24 +1,23 @@
 // A ledger's table: held records of four words each, from a word of the state on, and the index of their numbers.
 ghost use Prim.Native.Nat.{_+_, _*_, _/_, _%_, _^_, _<_, _≤_};
-ghost use mathlib.Core.Bool.{cond, true, _&&_};
+ghost use mathlib.Core.Bool.{true, _&&_};
 ghost use mathlib.Core.Path.{_≡_};
-ghost use lib.Dec.{eqb};
 ghost use lib.ListN.{getD, length, set};
 ghost use Rattle.entries.specs.Entries.{givenBy, takenBy};
-ghost use Rattle.exact_sums.specs.Sums.{Added};
 ghost use Rattle.ledgers.specs.Ledgers.{ledgerAt};
 ghost use Rattle.ledgers.specs.Limits.{accountLimit, capacity};
 ghost use Rattle.number_index.specs.Index.{Kept, chainCount};
-ghost use Rattle.records.specs.Records.{readingWords, within};
+ghost use Rattle.records.specs.Records.{readingWords};
 ghost use Rattle.table.specs.Table.{accountsBy, headBases, mayHold, mayHoldAt, receiverLimits, senderLimits, wordsAt};
 ghost use Rattle.rules.specs.Lists.{lowered, raised};
-ghost use Rattle.table.specs.Table.{IndexOf, backedAt, backedBy, flowAt, numberAt, numberedAt, sendingHead, sentAt, stored, withWords};
-ghost use Rattle.tables.specs.Places.{allAt, anyAt, apartAt, sumAt};
+ghost use Rattle.table.specs.Table.{FlowsAt, IndexOf, backedAt, backedBy, flowBy, numberAt, numberedAt, sendingHead, sentAt};
+ghost use Rattle.table.specs.Table.{stored, withWords};
+ghost use Rattle.tables.specs.Places.{allAt, anyAt, apartAt};
 use entries::as_index;
 use entries::given_by;
 use entries::taken_by;
 use exact_sums::Flows;
-use exact_sums::Wide;
+use exact_sums::Halved;
 use number_index::CHAINS;
 use number_index::low_bits;
 use number_index::next_place;
@@ -126,22 +125,21 @@ fn may_hold<'a>(
 // ## Numbers
 
 // The steps down a chain after which the places are scanned instead.
-const STEPS: usize = 8;
+const STEPS: usize = 3;
 
 // Whether one of n records has the number, by a scan.
 fn scanned(words: &[u64], from: usize, n: usize, x: u64) -> bool
     requires { ⌜ from + 4 * n ≤ length (now words) ⌝ }
     ensures { λ b. ⌜ b ≡ anyAt (numberedAt x (now (words .entry)) from) 0 n ⌝ }
 {
-    let mut found = false;
     let mut i = 0;
     while i < n {
         if x == words[from + 4 * i + 1] {
-            found = true; // going on lets the compiler compare several at a time
+            return true;
         }
         i += 1;
     }
-    found
+    false
 }
 
 // Whether one of n records has the number.
@@ -315,8 +313,65 @@ pub fn is_backed<'a>(
     is_sent(words, index, others, base, n, w.number, head, w.amount)
 }
 
-// Whether each arrival of m records has its sending among the n records of the ledger with byte o, whose index this is.
-pub fn all_backed<'a>(
+// Whether words are at once seen to be of no arrival, or its sending to be the first of its number's chain, as it is most often.
+fn is_backed_first<'a>(
+    words: &'a [u64],
+    index: &'a [u16],
+    o: u64,
+    others: usize,
+    base: usize,
+    n: usize,
+    w: Words,
+) -> bool
+    requires { ⌜ (others + 4 * n ≤ length (now words)) × (base + chainCount + n ≤ length (now index))
+        × IndexOf (now words) others (now index) base n × (o ≤ 1) ⌝ }
+    ensures { λ b. ⌜ (b ≡ true → backedBy (now (words .entry)) o others n w ≡ true) ⌝ }
+{
+    let kind = w.head / BYTE % 256;
+    if kind != 3 {
+        return true;
+    }
+    let at = as_index(index[base + low_bits(w.number)]);
+    if at == 0 {
+        return false;
+    }
+    let head = sending_head(o, w.head);
+    sent_at(words, others, at - 1, w.number, head, w.amount)
+}
+
+// The amount of words more, in what was sent or in what was received, by their kind.
+fn add_flow(f: Flows, w: Words) -> Flows
+    requires { ⌜ (f .sent .high < 2 ^ 63) × (f .sent .low < 2 ^ 63) × (f .received .high < 2 ^ 63) × (f .received .low < 2 ^ 63) ⌝ }
+    ensures sent { λ r. ⌜ (r .sent .high ≡ f .sent .high + flowBy 2 w / 2 ^ 32) × (r .sent .low ≡ f .sent .low + flowBy 2 w % 2 ^ 32) ⌝ }
+    ensures received { λ r. ⌜ (r .received .high ≡ f .received .high + flowBy 3 w / 2 ^ 32)
+        × (r .received .low ≡ f .received .low + flowBy 3 w % 2 ^ 32) ⌝ }
+{
+    let kind = w.head / BYTE % 256;
+    let sent = f.sent;
+    let received = f.received;
+    if kind == 2 {
+        return Flows {
+            sent: sent.add(w.amount),
+            received,
+        };
+    }
+    if kind == 3 {
+        return Flows {
+            sent,
+            received: received.add(w.amount),
+        };
+    }
+    f
+}
+
+// Whether each arrival among records has its sending, and where so, what they sent and what they received.
+pub struct Crossed {
+    pub backed: bool,
+    pub flows: Flows,
+}
+
+// Those of m records, with the sendings among the n records of the ledger with byte o, whose index this is.
+pub fn add_crossings<'a>(
     words: &'a [u64],
     index: &'a [u16],
     from: usize,
@@ -325,59 +380,34 @@ pub fn all_backed<'a>(
     others: usize,
     base: usize,
     n: usize,
-) -> bool
-    requires { ⌜ (from + 4 * m ≤ length (now words)) × (others + 4 * n ≤ length (now words))
+) -> Crossed
+    requires { ⌜ (from + 4 * m ≤ length (now words)) × (others + 4 * n ≤ length (now words)) × (m ≤ capacity)
         × (base + chainCount + n ≤ length (now index)) × IndexOf (now words) others (now index) base n × (o ≤ 1) ⌝ }
-    ensures { λ b. ⌜ b ≡ allAt (backedAt (now (words .entry)) from o others n) 0 m ⌝ }
+    ensures backed { λ r. ⌜ r .backed ≡ allAt (backedAt (now (words .entry)) from o others n) 0 m ⌝ }
+    ensures sums { λ r. ⌜ (r .backed ≡ true → FlowsAt (now (words .entry)) from m (r .flows)) ⌝ }
 {
+    let mut flows = Flows {
+        sent: Halved { high: 0, low: 0 },
+        received: Halved { high: 0, low: 0 },
+    };
     let mut i = 0;
     while i < m {
         let w = words_at(words, from, i);
-        if !is_backed(words, index, o, others, base, n, w) {
-            return false;
+        if !is_backed_first(words, index, o, others, base, n, w) {
+            let v = words_at(words, from, i); // of its own, so that no other words are stored
+            if !is_backed(words, index, o, others, base, n, v) {
+                return Crossed {
+                    backed: false,
+                    flows,
+                };
+            }
         }
+        flows = add_flow(flows, w);
         i += 1;
     }
-    true
-}
-
-// The amount of words whose kind is the one that is wanted.
-fn counted(w: Words, kind: u64) -> u64
-    ensures { λ r. ⌜ r ≡ cond (eqb (within 0 1 (w .head)) kind) (w .amount) 0 ⌝ }
-{
-    if w.head / BYTE % 256 == kind {
-        return w.amount;
-    }
-    0
-}
-
-// The amounts of the sendings and of the arrivals of n records added.
-pub fn add_crossings(words: &[u64], from: usize, n: usize, sent: Wide, received: Wide) -> Flows
-    requires { ⌜ (from + 4 * n ≤ length (now words)) × (sent .low < 2 ^ 63) × (sent .high + 2 * n < 65535) × (received .low < 2 ^ 63)
-        × (received .high + 2 * n < 65535) ⌝ }
-    ensures sent { λ w. ⌜ Added sent (sumAt (flowAt 2 (now (words .entry)) from) 0 n) (2 * n) (w .sent) ⌝ }
-    ensures received { λ w. ⌜ Added received (sumAt (flowAt 3 (now (words .entry)) from) 0 n) (2 * n) (w .received) ⌝ }
-{
-    let mut sent_high: u64 = 0;
-    let mut sent_low: u64 = 0;
-    let mut received_high: u64 = 0;
-    let mut received_low: u64 = 0;
-    let mut i = 0;
-    while i < n {
-        let w = words_at(words, from, i);
-        let x = counted(w, 2);
-        let y = counted(w, 3);
-        sent_high += x / HALF;
-        sent_low += x % HALF;
-        received_high += y / HALF;
-        received_low += y % HALF;
-        i += 1;
-    }
-    let all_sent = sent.add_halves(sent_high, sent_low);
-    let all_received = received.add_halves(received_high, received_low);
-    Flows {
-        sent: all_sent,
-        received: all_received,
+    Crossed {
+        backed: true,
+        flows,
     }
 }
 

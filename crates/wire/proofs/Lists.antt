@@ -1,14 +1,14 @@
 -- Laws of tests, properties and zero bytes over lists. Assumes nothing.
 use Prim.Native.Nat.{ℕ, zero, suc, _+_, _-_, _≤_, _<_}
-use mathlib.Core.Path.{_≡_, refl, ap, ap₂, _∙_}
-use mathlib.Core.Bool.{Bool, true, false, _&&_}
+use mathlib.Core.Path.{_≡_, refl, sym, ap, ap₂, _∙_}
+use mathlib.Core.Bool.{Bool, true, false, _&&_, and-true, false≢true}
 use mathlib.Core.List.{List, [], _∷_, _++_}
 use native.Mathlib.Omega.{arith}
 use native.Mathlib.Numerals.{add-one}
 use lib.Dec.{eqb}
 use lib.ListN.{length, take, drop, getD, replicate, drop-of-length-le}
 use lib.Seq.{drop-cons}
-use borrow.Author.Tests.{eqb-true, eq-eqb, ne-eqb}
+use borrow.Author.Tests.{eqb-true, eq-eqb}
 use Rattle.wire.specs.BigEndian.{All, Bytes, every, zeros, same}
 
 -- ## Tests
@@ -18,10 +18,15 @@ pub and-both : (s t : Bool) → (s && t) ≡ true → (s ≡ true) × (t ≡ tru
 and-both true t h = (refl, h)
 and-both false t h = (h, let z : false ≡ true = h in cc)
 
--- a conjunction with true
-pub and-true : (t : Bool) → (t && true) ≡ t
-and-true true = refl
-and-true false = refl
+-- a test that cannot hold does not
+pub not-held : (t : Bool) → (t ≡ true → ⊥) → false ≡ t
+not-held true h = absurd (h refl)
+not-held false h = refl
+
+-- tests that hold together are the same
+pub same-tests : (s t : Bool) → (s ≡ true → t ≡ true) → (t ≡ true → s ≡ true) → s ≡ t
+same-tests true t p q = sym (p refl)
+same-tests false t p q = not-held t (λ h. false≢true (q h))
 
 -- a conjunction with false
 pub and-false : (t : Bool) → (t && false) ≡ false
@@ -43,8 +48,8 @@ pub every-first : (t : Bool) (ts : List Bool) → every (t ∷ ts) ≡ true → 
 unfolding every
 every-first t ts h = and-both t (every ts) h
 
--- all tests hold where the first and the others do
-pub every-both : (t : Bool) (ts : List Bool) → t ≡ true → every ts ≡ true → every (t ∷ ts) ≡ true
+-- where the first test holds, all do as the others do
+pub every-both : (t : Bool) (ts : List Bool) {s : Bool} → t ≡ true → every ts ≡ s → every (t ∷ ts) ≡ s
 unfolding every
 every-both t ts h k = rw h k
 
@@ -52,6 +57,22 @@ every-both t ts h k = rw h k
 pub every-skip : (t : Bool) (ts : List Bool) → t ≡ true → every (t ∷ ts) ≡ every ts
 unfolding every
 every-skip t ts h = rw h
+
+-- every test of a list holds
+abbrev pub Hold : List Bool → Type 0
+Hold = All (λ (t : Bool). t ≡ true)
+
+-- each where all do
+pub every-hold : (ts : List Bool) → every ts ≡ true → Hold ts
+unfolding every All
+every-hold [] h = tt
+every-hold (t ∷ ts) h = let b = and-both t (every ts) h in (b .0, every-hold ts (b .1))
+
+-- and all where each does
+pub hold-every : (ts : List Bool) → Hold ts → every ts ≡ true
+unfolding every All
+hold-every [] h = refl
+hold-every (t ∷ ts) h = rw (h .0) (hold-every ts (h .1))
 
 -- not all tests hold where the one at k does not
 pub every-not : (k : ℕ) (ts : List Bool) → getD ts k true ≡ false → every ts ≡ false
@@ -91,13 +112,6 @@ module _ {A : Type 0} (P : A → Type 0) where
   all-split [] ys h = (tt, h)
   all-split (x ∷ xs) ys h = let t = all-split xs ys (h .1) in ((h .0, t .0), t .1)
 
-  -- of one element
-  pub all-at : (d : A) (i : ℕ) (xs : List A) → P d → All P xs → P (getD xs i d)
-  unfolding All
-  all-at d i [] p h = p
-  all-at d zero (x ∷ xs) p h = h .0
-  all-at d (suc i) (x ∷ xs) p h = all-at d i xs p (h .1)
-
   -- of what holds at every index
   pub all-of : (d : A) (xs : List A) → ((i : ℕ) → P (getD xs i d)) → All P xs
   unfolding All
@@ -120,22 +134,13 @@ zeros-are (x ∷ xs) h =
     let b = and-both (eqb x 0) (zeros xs) h in
     ap₂ (λ (y : ℕ) (l : List ℕ). y ∷ l) (eqb-true x 0 (b .0)) (zeros-are xs (b .1))
 
--- the test over s from index i up to e, where the byte at i is not zero, where it is, and at the end
-part-cons : (s : List ℕ) (i e : ℕ) → i < e → e ≤ length s → take (e - i) (drop i s) ≡ getD s i 0 ∷ take (e - (i + 1)) (drop (i + 1) s)
-part-cons s i e h k =
+-- the test of s from index i up to e: the byte at i, and the others
+pub zeros-cons : (s : List ℕ) (i e : ℕ) → i < e → e ≤ length s
+    → zeros (take (e - i) (drop i s)) ≡ (eqb (getD s i 0) 0 && zeros (take (e - (i + 1)) (drop (i + 1) s)))
+unfolding zeros
+zeros-cons s i e h k =
     let z : e - i ≡ suc (e - (i + 1)) = omega arith in
-    ap₂ (λ (n : ℕ) (l : List ℕ). take n l) z (drop-cons s i 0 (omega arith)) ∙ rw add-one
-
--- the test of that part where the byte at i is not zero
-pub zeros-here : (s : List ℕ) (i e : ℕ) → i < e → e ≤ length s → (getD s i 0 ≡ 0 → ⊥) → zeros (take (e - i) (drop i s)) ≡ false
-unfolding zeros
-zeros-here s i e h k n = ap zeros (part-cons s i e h k) ∙ rw (ne-eqb _ _ n)
-
--- where it is zero
-pub zeros-on : (s : List ℕ) (i e : ℕ) → i < e → e ≤ length s → getD s i 0 ≡ 0
-    → zeros (take (e - i) (drop i s)) ≡ zeros (take (e - (i + 1)) (drop (i + 1) s))
-unfolding zeros
-zeros-on s i e h k n = ap zeros (part-cons s i e h k) ∙ rw (eq-eqb _ _ n)
+    ap₂ (λ (n : ℕ) (l : List ℕ). zeros (take n l)) z (drop-cons s i 0 (omega arith)) ∙ rw add-one
 
 -- and at the end
 pub zeros-end : (s : List ℕ) (i e : ℕ) → e ≤ i → zeros (take (e - i) (drop i s)) ≡ true
@@ -160,20 +165,11 @@ same-equal (x ∷ xs) (y ∷ ys) h =
     let b = and-both (eqb x y) (same xs ys) h in
     ap₂ (λ (z : ℕ) (l : List ℕ). z ∷ l) (eqb-true x y (b .0)) (same-equal xs ys (b .1))
 
--- the test from index i on, where the bytes there differ, where they do not, and at the end
-module _ (xs ys : List ℕ) (i : ℕ) (h : i < length xs) (k : i < length ys) where
-  -- the test from one byte on
-  same-cons : same (drop i xs) (drop i ys) ≡ (eqb (getD xs i 0) (getD ys i 0) && same (drop (i + 1) xs) (drop (i + 1) ys))
-  unfolding same
-  same-cons = ap₂ same (drop-cons xs i 0 h) (drop-cons ys i 0 k) ∙ rw add-one
-
-  -- where the bytes there differ
-  pub same-here : (getD xs i 0 ≡ getD ys i 0 → ⊥) → same (drop i xs) (drop i ys) ≡ false
-  same-here n = same-cons ∙ rw (ne-eqb _ _ n)
-
-  -- where they do not
-  pub same-on : getD xs i 0 ≡ getD ys i 0 → same (drop i xs) (drop i ys) ≡ same (drop (i + 1) xs) (drop (i + 1) ys)
-  same-on e = same-cons ∙ rw (eq-eqb _ _ e)
+-- the test from index i on: the bytes there, and the others
+pub same-cons : (xs ys : List ℕ) (i : ℕ) → i < length xs → i < length ys
+    → same (drop i xs) (drop i ys) ≡ (eqb (getD xs i 0) (getD ys i 0) && same (drop (i + 1) xs) (drop (i + 1) ys))
+unfolding same
+same-cons xs ys i h k = ap₂ same (drop-cons xs i 0 h) (drop-cons ys i 0 k) ∙ rw add-one
 
 -- and at the end
 pub same-end : (xs ys : List ℕ) (i : ℕ) → length xs ≤ i → length ys ≤ i → same (drop i xs) (drop i ys) ≡ true

@@ -3,12 +3,12 @@ use Prim.Native.Nat.{ℕ, zero, suc, _+_, _*_, _/_, _%_, _^_, _≤_, _<_}
 use mathlib.Core.Path.{_≡_, refl, sym, ap, ap₂, _∙_, subst}
 use mathlib.Core.List.{List, [], _∷_, _++_}
 use native.Mathlib.Omega.{arith}
-use native.Mathlib.Nat.{pow-suc, mul-assoc, mul-comm, add-mul, mul-add-div-right, mod-eq-of-lt, one-le-pow}
+use native.Mathlib.Nat.{pow-suc, mul-comm, add-mul, mul-add-div-right, mod-eq-of-lt, one-le-pow}
 use lib.Arith.{digits-lt, digits-div, digits-mod, mod-mul}
 use lib.Dec.{lit<}
 use lib.ListN.{length, take, drop, getD, length-drop, take-append-drop, drop-of-length-le}
 use lib.Seq.{take-add, drop-drop, drop-cons, length-take-le, take-nil}
-use Rattle.wire.proofs.Lists.{all-take, all-drop}
+use Rattle.wire.proofs.Lists.{all-take, all-drop, bytes-append}
 use Rattle.wire.specs.BigEndian.{All, Bytes, valueAfter, value, field, bytesOf}
 
 -- a power of 256 is positive
@@ -103,16 +103,18 @@ unfolding bytesOf All
 bytes-bytesOf zero n = tt
 bytes-bytesOf (suc k) n = (omega arith, bytes-bytesOf k n)
 
+-- and so are they with bytes after them
+pub bytes-then : (k n : ℕ) (s : List ℕ) → Bytes s → Bytes (bytesOf k n ++ s)
+bytes-then k n s h = bytes-append (bytesOf k n) s (bytes-bytesOf k n) h
+
 -- what k bytes write of a number
 pub value-bytesOf : (k n : ℕ) → value (bytesOf k n) ≡ n % 256 ^ k
 unfolding bytesOf valueAfter
 value-bytesOf zero n = omega arith
 value-bytesOf (suc k) n =
     after-splits (0 * 256 + n / 256 ^ k % 256) (bytesOf k n)
-    ∙ ap₂ (λ (l v : ℕ). (0 * 256 + n / 256 ^ k % 256) * 256 ^ l + v) (length-bytesOf k n) (value-bytesOf k n)
-    ∙ ap (λ (x : ℕ). x * 256 ^ k + n % 256 ^ k) (omega arith)
-    ∙ sym (mod-mul n {m = 256} {c = 256 ^ k} (lit< tt) (positive k))
-    ∙ ap (λ (x : ℕ). n % x) (mul-comm 256 (256 ^ k) ∙ sym (pow-suc 256 k))
+    ∙ rw (length-bytesOf, value-bytesOf k n, pow-suc, mul-comm (256 ^ k) 256)
+    (rw (mod-mul n {m = 256} {c = 256 ^ k} (lit< tt) (positive k)) (omega arith))
 
 -- a number that fits in k bytes reads back from them
 pub value-back : (k n : ℕ) → n < 256 ^ k → value (bytesOf k n) ≡ n
@@ -123,13 +125,8 @@ bytes-low : (k a n : ℕ) → bytesOf k (a * 256 ^ k + n) ≡ bytesOf k n
 unfolding bytesOf
 bytes-low zero a n = refl
 bytes-low (suc k) a n =
-    let e : a * 256 ^ suc k + n ≡ a * 256 * 256 ^ k + n =
-    ap (λ (x : ℕ). x + n) (ap (λ (x : ℕ). a * x) (pow-suc 256 k ∙ mul-comm (256 ^ k) 256) ∙ sym (mul-assoc a 256 (256 ^ k))) in
-    let q : (a * 256 ^ suc k + n) / 256 ^ k ≡ a * 256 + n / 256 ^ k =
-    ap (λ (x : ℕ). x / 256 ^ k) e ∙ mul-add-div-right (positive k) (a * 256) n in
-    ap₂ (λ (x : ℕ) (l : List ℕ). x ∷ l)
-    (ap (λ (x : ℕ). x % 256) q ∙ omega arith)
-    (ap (bytesOf k) e ∙ bytes-low k (a * 256) n)
+    let e : a * 256 ^ suc k + n ≡ a * 256 * 256 ^ k + n = rw pow-suc (omega arith) in
+    rw (e, mul-add-div-right (positive k) (a * 256) n, bytes-low k (a * 256) n) (ap (λ (x : ℕ). x ∷ bytesOf k n) (omega arith))
 
 -- bytes are those of the number that they write
 pub bytes-back : (xs : List ℕ) → Bytes xs → bytesOf (length xs) (value xs) ≡ xs
@@ -137,13 +134,8 @@ unfolding bytesOf valueAfter All
 bytes-back [] h = refl
 bytes-back (x ∷ xs) h =
     let l : ℕ = length xs in
-    let p : value (x ∷ xs) ≡ x * 256 ^ l + value xs =
-    after-splits (0 * 256 + x) xs
-    ∙ ap (λ (y : ℕ). y * 256 ^ l + value xs) (omega arith) in
-    let q : value (x ∷ xs) / 256 ^ l ≡ x = ap (λ (y : ℕ). y / 256 ^ l) p ∙ digits-div x (value-fits xs (h .1)) in
-    ap₂ (λ (y : ℕ) (t : List ℕ). y ∷ t)
-    (ap (λ (y : ℕ). y % 256) q ∙ mod-eq-of-lt (h .0))
-    (ap (bytesOf l) p ∙ bytes-low l x (value xs) ∙ bytes-back xs (h .1))
+    let p : value (x ∷ xs) ≡ x * 256 ^ l + value xs = omega (arith, after-splits (0 * 256 + x) xs) in
+    rw (p, digits-div x (value-fits xs (h .1)), mod-eq-of-lt (h .0), bytes-low l x (value xs), bytes-back xs (h .1))
 
 -- the bytes of a field are those that stand there
 pub bytes-field : (i n : ℕ) (s : List ℕ) → Bytes s → i + n ≤ length s → bytesOf n (field i n s) ≡ take n (drop i s)
@@ -155,8 +147,7 @@ bytes-field i n s b h =
 
 -- what stands from index i on: the bytes of the field there, and what follows them
 pub drop-field : (i n : ℕ) (s : List ℕ) → Bytes s → i + n ≤ length s → drop i s ≡ bytesOf n (field i n s) ++ drop (i + n) s
-drop-field i n s b h =
-    sym (take-append-drop n (drop i s)) ∙ ap₂ (λ (x y : List ℕ). x ++ y) (sym (bytes-field i n s b h)) (drop-drop n i s)
+drop-field i n s b h = rw (bytes-field i n s b h, ← drop-drop n i s, take-append-drop)
 
 -- a number below 256 is its one byte
 pub one-byte : (n : ℕ) → n < 256 → bytesOf 1 n ≡ n ∷ []

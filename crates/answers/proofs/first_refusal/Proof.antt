@@ -4,9 +4,5 @@ use Rattle.answers.proofs.Answers.{else-refused}
 use Rattle.answers.proofs.first_refusal.Statement.{statement}
 use Rattle.answers.proofs.first_refusal.Tie as tie
 
-returns-2 : tie.Need-returns-2
-returns-2 c =
-    else-refused _ _ (c .if1 .left)
-
 pub first-refusal-spec : {M : Type 1} → statement M
-first-refusal-spec = tie.close (tie.spec (λ c. search needs) returns-2)
+first-refusal-spec = tie.close (tie.spec (λ c. search needs) (λ c. else-refused _ _ (c .if1 .left)))

@@ -6,16 +6,10 @@ use Rattle.balances.proofs.Among.{among-closed, among-open}
 use Rattle.balances.proofs.balance_among.Statement.{statement}
 use Rattle.balances.proofs.balance_among.Tie as tie
 
-returns : tie.Need-returns
-returns c =
-    let a = c .before .before .before .args in
-    c .balance-refused .ensures ∙ among-closed (a .balances .now) (a .from) (a .accounts) (a .account) (omega arith) (omega arith)
-
-returns-2 : tie.Need-returns-2
-returns-2 c =
-    let a = c .before .before .before .args in
-    among-open (a .balances .now) (a .from) (a .accounts) (a .account) (omega arith) (omega arith)
-
 pub balance-among-spec : {M : Type 1} → statement M
-balance-among-spec = tie.close (tie.spec (λ c κs. search needs) returns (λ c. search needs) (λ c. search needs) (λ c. search needs)
-    returns-2)
+balance-among-spec = tie.close (tie.spec (λ c κs. search needs) (λ c.
+    let a = c .before .before .before .args in
+    c .balance-refused .ensures ∙ among-closed (a .balances .now) (a .from) (a .accounts) (a .account) (omega arith) (omega arith))
+    (λ c. search needs) (λ c. search needs) (λ c. search needs) (λ c.
+    let a = c .before .before .before .args in
+    among-open (a .balances .now) (a .from) (a .accounts) (a .account) (omega arith) (omega arith)))

@@ -6,8 +6,6 @@ use Rattle.balances.specs.declared.Balance.{Balance}
 use Rattle.balances.proofs.balance_refused.Statement.{statement}
 use Rattle.balances.proofs.balance_refused.Tie as tie
 
-returns : tie.Need-returns
-returns c = ap {B = Balance} (λ (a : Answer). record { answer = a; balance = 0 }) (c .new .ensures)
-
 pub balance-refused-spec : {M : Type 1} → statement M
-balance-refused-spec = tie.close (tie.spec (λ c κs. search needs) returns)
+balance-refused-spec = tie.close (tie.spec (λ c κs. search needs)
+    (λ c. ap {B = Balance} (λ (a : Answer). record { answer = a; balance = 0 }) (c .new .ensures)))

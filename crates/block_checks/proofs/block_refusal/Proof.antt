@@ -12,36 +12,22 @@ use Rattle.block_checks.specs.Checked.{checked, blockRefusal}
 use Rattle.block_checks.proofs.block_refusal.Statement.{statement}
 use Rattle.block_checks.proofs.block_refusal.Tie as tie
 
-returns : tie.Need-returns
-unfolding blockRefusal
-returns c =
-    rw (ne-eqb _ _ (c .if1 .taken))
-
-returns-2 : tie.Need-returns-2
-unfolding blockRefusal
-returns-2 c =
-    let c3 = c .before .before .before in
-    let c4 = c3 .before in
-    let c5 = c4 .before in
-    let c6 = c5 .before in
-    let c7 = c6 .before in
-    let c8 = c7 .before in
-    let c9 = c8 .before in
-    let c10 = c9 .before in
-    let c12 = c10 .before .before in
-    let a = c12 .args in
-    let b = a .block .now in
-    let low = c9 .refusal-if .ensures in
-    let check = c7 .refusal-if2 .ensures ∙ ap (λ (t : Bool). refuse (not t) 12 0) (c8 .is-checked .ensures) in
-    let number = c5 .refusal-if3 .ensures ∙ ap (λ (n : ℕ). refuse (not (eqb n (a .k))) 13 0) (c6 .u32-at .ensures) in
-    let form = c3 .refusal-if4 .ensures ∙ ap (λ (t : Bool). refuse (not t) 14 0) (c4 .is-block-formed .ensures) in
-    rw (eq-eqb _ _ (c10 .if1 .left))
-    (c .first-refusal3 .ensures
-    ∙ ap₂ orElse low
-    (c .before .first-refusal2 .ensures ∙ ap₂ orElse check (c .before .before .first-refusal .ensures ∙ ap₂ orElse number form))
-    ∙ in-order (ltb maxBlock (a .k)) (not (checked b)) (not (eqb (blockNumber b) (a .k))) (not (blockFormed b (a .k) (a .before))))
-
 pub block-refusal-spec : {M : Type 1} → statement M
-block-refusal-spec = tie.close (tie.spec returns (λ c κs. search needs) (λ c κs. search needs) (λ c κs. search needs)
-    (λ c κs. search needs) (λ c. search needs) (λ c κs. search needs) (λ c κs. search needs) (λ c κs. search needs)
-    (λ c κs. search needs) (λ c κs. search needs) (λ c κs. search needs) returns-2)
+unfolding blockRefusal
+block-refusal-spec = tie.close (tie.spec (λ c. rw (ne-eqb _ _ (c .if1 .taken))) (λ c κs. search needs) (λ c κs. search needs)
+    (λ c κs. search needs) (λ c κs. search needs) (λ c. search needs) (λ c κs. search needs) (λ c κs. search needs) (λ c κs. search needs)
+    (λ c κs. search needs) (λ c κs. search needs) (λ c κs. search needs) (λ c.
+    let c3 = c .before .before .before in
+    let c5 = c3 .before .before in
+    let c7 = c5 .before .before in
+    let c9 = c7 .before .before in
+    let a = c9 .before .before .before .args in
+    let b = a .block .now in
+    let check = c7 .refusal-if2 .ensures ∙ ap (λ (t : Bool). refuse (not t) 12 0) (c7 .before .is-checked .ensures) in
+    let number = c5 .refusal-if3 .ensures ∙ ap (λ (n : ℕ). refuse (not (eqb n (a .k))) 13 0) (c5 .before .u32-at .ensures) in
+    let form = c3 .refusal-if4 .ensures ∙ ap (λ (t : Bool). refuse (not t) 14 0) (c3 .before .is-block-formed .ensures) in
+    rw (eq-eqb _ _ (c9 .before .if1 .left))
+    (c .first-refusal3 .ensures
+    ∙ ap₂ orElse (c9 .refusal-if .ensures)
+    (c .before .first-refusal2 .ensures ∙ ap₂ orElse check (c .before .before .first-refusal .ensures ∙ ap₂ orElse number form))
+    ∙ in-order (ltb maxBlock (a .k)) (not (checked b)) (not (eqb (blockNumber b) (a .k))) (not (blockFormed b (a .k) (a .before))))))

@@ -10,18 +10,10 @@ use Rattle.wire.specs.BigEndian.{same}
 use Rattle.block_checks.proofs.is_checked.Statement.{statement}
 use Rattle.block_checks.proofs.is_checked.Tie as tie
 
-slice-aggregate-digest : tie.Need-slice-aggregate-digest
-slice-aggregate-digest c =
-    omega (arith, length-take 480 (c .before .before .args .block .now))
-
-returns : tie.Need-returns
-unfolding checked
-returns c =
-    let c3 = c .before .before .before in
-    let c6 = c3 .before .before .before in
-    let b = c6 .args .block .now in
-    c .equal .ensures ∙ ap₂ same (c3 .digest .ensures) (take-all (length b - 480) (drop 480 b) (omega (arith, length-drop 480 b)))
-
 pub is-checked-spec : {M : Type 1} → statement M
-is-checked-spec = tie.close (tie.spec slice-aggregate-digest (λ c κs. search needs) (λ c. search needs) (λ c. search needs)
-    (λ c. search needs) (λ c. search needs) (λ c κs. search needs) returns)
+unfolding checked
+is-checked-spec = tie.close (tie.spec (λ c. omega (arith, length-take 480 (c .before .before .args .block .now))) (λ c κs. search needs)
+    (λ c. search needs) (λ c. search needs) (λ c. search needs) (λ c. search needs) (λ c κs. search needs) (λ c.
+    let c3 = c .before .before .before in
+    let b = c3 .before .before .before .args .block .now in
+    c .equal .ensures ∙ ap₂ same (c3 .digest .ensures) (take-all (length b - 480) (drop 480 b) (omega (arith, length-drop 480 b)))))

@@ -1,13 +1,10 @@
 -- `block_listing::list_records` meets its contract. Assumes nothing.
 use Prim.Native.Nat.{_≤_, _-_}
-use Rattle.block_listing.proofs.Records.{Listed, listed-next, listed-start, part-read, records-done, take-most, text-room}
-use borrow.Author.Needs.{needs}
-use borrow.Author.Needs.{needs}
-use lib.ListN.{length}
-use lib.Seq.{length-take-le}
-use mathlib.Core.Path.{_≡_, refl, sym}
-use native.Mathlib.Nat.{lt-of-lt-of-le}
+use mathlib.Core.Path.{_≡_, refl}
 use native.Mathlib.Omega.{arith}
+use lib.ListN.{length, length-take}
+use borrow.Author.Needs.{needs}
+use Rattle.block_listing.proofs.Listed.{Listed, listed-next, listed-start, part-long, records-done}
 use Rattle.block_listing.proofs.list_records.Statement.{statement}
 use Rattle.block_listing.proofs.list_records.Tie as tie
 
@@ -18,150 +15,38 @@ Inv-loop run block count pairs out₀ state₀ index₀ text₀ row₀ n₀ i₀
 abbrev μ-loop : tie.MeasureT-loop
 μ-loop run block count pairs out₀ state₀ index₀ text₀ row₀ n₀ i₀ p₀ out state index text row n i p = count - i
 
-loop-holds : tie.Need-loop-holds Inv-loop μ-loop
-loop-holds c =
-    let o = c .before .before .before .before .before .before in (
-      omega arith,
-      listed-start (o .args .block .now) _ _ (o .args .out .now) (o .args .state .now) (o .pre .6) (c .before .put-figures
-          .ensures) refl,
-    )
-
-judged-part-requires : tie.Need-judged-part-requires Inv-loop μ-loop
-judged-part-requires c κs = (
-  c .before .before .before .before .before .before .before .before .pre .2,
-  lt-of-lt-of-le (c .loop-test
-      .taken) (c .before .before .before .before .before .before .before .before .pre .3),
-)
-
-next-row-requires : tie.Need-next-row-requires Inv-loop μ-loop
-next-row-requires c κs = c .before .before .before .before .loop .inv .1 .ready
-
-slice-aggregate-put-figures-if : tie.Need-slice-aggregate-put-figures-if Inv-loop μ-loop
-slice-aggregate-put-figures-if c = sym (c .before .before .before .before .before .before .loop .inv .1 .text-long)
-
-put-figures-if-requires : tie.Need-put-figures-if-requires Inv-loop μ-loop
-put-figures-if-requires c κs = (
-  c .before .before .before .before .before .before .loop .inv .1 .text-long,
-  c .before .before .before
-      .before .before .before .loop .inv .1 .text-fits,
-)
-
-add-put-record : tie.Need-add-put-record Inv-loop μ-loop
-add-put-record c =
-    let o = c .before .before .before .before .before .before .before .before .before .before .before .before .before .before .before
-    .before .before in
-    omega (
-      arith,
-      o .pre .0 .index-fits,
-      o .pre .1,
-      o .pre .3,
-      c .before .before .before .before .before .before .before .before
-          .before .loop-test .taken,
-    )
-
-array-share-prefix-text : tie.Need-array-share-prefix-text Inv-loop μ-loop
-array-share-prefix-text c =
-    let r = c .before .before .before .before .put-figures-if in
-    text-room (r .result) (r .last .0) (r .ensures .1 .1 .0) (r .ensures .1 .1 .1)
-
-slice-aggregate-put-record : tie.Need-slice-aggregate-put-record Inv-loop μ-loop
-slice-aggregate-put-record c =
-    let r = c .before .before .before .before .before .put-figures-if in
-    sym (length-take-le (r .result) (r .last .0) (text-room (r .result) (r .last .0) (r .ensures .1 .1 .0) (r .ensures .1 .1 .1)))
+-- the call, from within the loop
+abbrev entry : tie.In-loop Inv-loop μ-loop → tie.Start Inv-loop μ-loop
+entry c = c .before .before .before .before .before .before .before .before
 
 -- the bytes of a record
 bytes-at : (c : tie.After-judged-part Inv-loop μ-loop) → length (c .judged-part .result .now) ≡ 32
-bytes-at c =
-    let o = c .before .before .before .before .before .before .before .before .before in
-    part-read (o .args .block .now) (c .before .before .loop .i) (c .judged-part .result .now) (c .judged-part .ensures) (o .pre .2)
-    (lt-of-lt-of-le (c .before .loop-test .taken) (o .pre .3))
-
-put-record-requires : tie.Need-put-record-requires Inv-loop μ-loop
-put-record-requires c κs =
-    let o = c .before .before .before .before .before .before .before .before .before .before .before .before .before .before .before
-    .before .before .before .before in
-    let v = c .before .before .before .before .before .before .before .before .before .before .before .before .loop .inv .1 in
-    let r = c .before .before .before .before .before .put-figures-if in (
-      omega (
-        arith,
-        o .pre .4,
-        o .pre .3,
-        c .before .before .before .before .before .before .before .before .before .before .before
-            .loop-test .taken,
-        v .room,
-        v .puts .size,
-      ),
-      o .pre .5,
-      bytes-at (c .before .before .before .before .before .before .before .before .before .before),
-      take-most (r .result) (r .last .0) (r .ensures .1 .1 .0),
-    )
-
-add-i : tie.Need-add-i Inv-loop μ-loop
-add-i c = omega (
-  arith,
-  c .before .before .before .before .before .before .before .before .before .before .before .before .before
-      .before .loop-test .taken,
-  c .before .before .before .before .before .before .before .before .before .before .before .before
-      .before .before .before .before .before .before .before .before .before .before .pre .3,
-)
-
-loop-less : tie.Need-loop-less Inv-loop μ-loop
-loop-less c = omega (
-  arith,
-  c .before .before .before .before .before .before .before .before .before .before .before .before .before
-      .before .loop-test .taken,
-)
-
-loop-again : tie.Need-loop-again Inv-loop μ-loop
-loop-again c =
-    let o = c .before .before .before .before .before .before .before .before .before .before .before .before .before .before .before
-    .before .before .before .before .before .before .before in
-    let l = c .before .before .before .before .before .before .before .before .before .before .before .before .before .before .before
-    .loop in (
-      omega (
-        arith,
-        c .before .before .before .before .before .before .before .before .before .before .before .before .before .before
-            .loop-test .taken,
-      ),
-      listed-next (o .args .block .now) _ _ (o .args .out .now) (o .args .state .now) (l .i) (c .before .before .before .before .before
-          .before .before .before .before .before .before .before .before .judged-part .result .now) (l .inv .1)
-          (c .before .before .before .before .before .before .before .before .before .before .before .before .before .judged-part
-          .ensures) (bytes-at (c .before .before .before .before .before .before .before .before .before .before .before .before
-          .before)) (c .before .before .before .before .before .before .before .before .before .before .next-row .ensures) (c .before
-          .before .before .before .before .before .before .before .put-figures-if .ensures)
-          (c .before .before .put-record .ensures),
-    )
-
-add-t27 : tie.Need-add-t27 Inv-loop μ-loop
-add-t27 c = omega (
-  arith,
-  c .before .before .before .before .before .before .before .before .before .pre .0 .index-fits,
-  c .before
-      .before .before .before .before .before .before .before .before .pre .1,
-  c .before .before .before .before .before .before .before
-      .before .before .pre .3,
-)
-
-add-t28 : tie.Need-add-t28 Inv-loop μ-loop
-add-t28 c = omega (arith, c .before .before .before .before .before .before .before .before .before .before .pre .1)
-
-same-length : tie.Need-same-length Inv-loop μ-loop
-same-length c = c .before .before .before .loop .inv .1 .puts .size
-
-returns : tie.Need-returns Inv-loop μ-loop
-returns c =
-    let o = c .before .before .before .before .before .before .before .before .before .before in
-    let l = c .before .before .before .loop in
-    records-done (o .args .run) (o .args .block .now) (o .args .out .now) (o .args .state .now) (l .out) (l .state) (l .index) (l
-    .text) (l .i)
-    (o .args .count) (l .p) (l .n) (l .row) (o .pre .0) (o .pre .1) (o .pre .3) (omega (
-      arith,
-      l .inv .0,
-      c .before .before .loop-test
-          .left,
-    )) (l .inv .1)
+bytes-at c = let o = entry (c .before) in
+    part-long (o .args .block .now) (c .before .before .loop .i) (c .judged-part .ensures) (o .pre .2) (omega (arith, o .pre .3))
 
 pub list-records-spec : {M : Type 1} → statement M
-list-records-spec = tie.close (tie.spec Inv-loop μ-loop (λ c. search needs) (λ c κs. search needs) loop-holds judged-part-requires
-    next-row-requires slice-aggregate-put-figures-if put-figures-if-requires add-put-record (λ c. search needs) array-share-prefix-text
-    slice-aggregate-put-record put-record-requires add-i loop-less loop-again add-t27 add-t28 same-length returns)
+list-records-spec = tie.close (tie.spec Inv-loop μ-loop (λ c. search needs) (λ c κs. search needs)
+    (λ c. (omega arith, listed-start (c .before .before .before .before .before .before .pre .6) (c .before .put-figures .ensures) refl))
+    (λ c κs. omega (arith, entry c .pre)) (λ c κs. c .before .before .before .before .loop .inv .1 .ready)
+    (λ c. omega (arith, c .before .before .before .before .before .before .loop .inv .1))
+    (λ c κs. omega (arith, c .before .before .before .before .before .before .loop .inv .1))
+    (λ c. let l = c .before .before .before .before .before .before .before .before .before in
+    omega (arith, entry l .pre, l .loop-test .taken)) (λ c. search needs)
+    (λ c. omega (arith, c .before .before .before .before .put-figures-if .ensures .1 .1))
+    (λ c. simp length-take (omega (arith, c .before .before .before .before .before .put-figures-if .ensures .1 .1)))
+    (λ c κs. let f = c .before .before .before .before .before in let j = f .before .before .before .before .before in let b = bytes-at j in
+    let o = entry (j .before) in let v = j .before .before .loop .inv .1 in let fits = f .put-figures-if .ensures .1 .1 in
+    (omega (arith, o .pre, j .before .loop-test .taken, v .room, v .puts .size), o .pre .5, b, simp length-take (omega (arith, fits))))
+    (λ c. let l = c .before .before .before .before .before .before .before .before .before .before .before .before .before .before in
+    omega (arith, l .loop-test .taken, entry l .pre .3))
+    (λ c. let l = c .before .before .before .before .before .before .before .before .before .before .before .before .before .before in
+    omega (arith, l .loop-test .taken))
+    (λ c. let f = c .before .before .before .before .before .before .before .before in let r = f .before .before in
+    let j = r .before .before .before in let l = j .before in let n = listed-next (l .before .loop .inv .1) (j .judged-part .ensures)
+    (r .next-row .ensures) (f .put-figures-if .ensures) (c .before .before .put-record .ensures) in (omega (arith, l .loop-test .taken), n))
+    (λ c. omega (arith, c .before .before .before .before .before .before .before .before .before .pre))
+    (λ c. omega (arith, c .before .before .before .before .before .before .before .before .before .before .pre .1))
+    (λ c. c .before .before .before .loop .inv .1 .puts .size)
+    (λ c. let l = c .before .before .before in let o = l .before .before .before .before .before .before .before in
+    records-done (o .pre .0) (o .pre .1) (o .pre .3) (omega (arith, l .loop .inv .0, c .before .before .loop-test .left))
+    (l .loop .inv .1)))

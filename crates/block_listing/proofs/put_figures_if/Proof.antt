@@ -1,28 +1,15 @@
 -- `block_listing::put_figures_if` meets its contract. Assumes nothing.
-use Rattle.lines.proofs.Puts.{figures-short}
-use borrow.Author.Needs.{needs}
 use mathlib.Core.Path.{refl, _∙_}
 use native.Mathlib.Omega.{arith}
+use borrow.Author.Needs.{needs}
+use Rattle.lines.proofs.Puts.{figures-short}
 use Rattle.block_listing.proofs.put_figures_if.Statement.{statement}
 use Rattle.block_listing.proofs.put_figures_if.Tie as tie
 
-returns : tie.Need-returns
-returns c = ((λ e. absurd (c .if1 .taken e)), ((λ e. refl), (c .before .before .before .pre .1, c .before .before .before .pre .0)))
-
-returns-2 : tie.Need-returns-2
-returns-2 c =
-    let row = c .before .before .before .before .before .before .before .args .row in
-    let p = c .before .before .put-figures .ensures in (
-      (λ e. p .text),
-      (
-        (λ z. absurd (z (c .before .before .before .before .if1 .left))),
-        (
-          omega (arith, p .next, figures-short (row .home) (row .far) (row .flight)),
-          p .size ∙ c .before .before .before .before
-              .before .before .before .pre .0,
-        ),
-      ),
-    )
-
 pub put-figures-if-spec : {M : Type 1} → statement M
-put-figures-if-spec = tie.close (tie.spec returns (λ c κs. search needs) (λ c. search needs) returns-2)
+put-figures-if-spec = tie.close (tie.spec
+    (λ c. let p = c .before .before .before .pre in ((λ e. absurd (c .if1 .taken e)), ((λ e. refl), (p .1, p .0)))) (λ c κs. search needs)
+    (λ c. search needs)
+    (λ c. let i = c .before .before .before .before in let o = i .before .before .before in let row = o .args .row in
+    let p = c .before .before .put-figures .ensures in let short = figures-short (row .home) (row .far) (row .flight) in
+    ((λ e. p .text), ((λ z. absurd (z (i .if1 .left))), (omega (arith, p .next, short), p .size ∙ o .pre .0)))))

@@ -16,20 +16,6 @@ Inv-loop xs at out₀ n i₀ out i = (i ≤ length xs) × (length out ≡ length
 abbrev μ-loop : tie.MeasureT-loop
 μ-loop xs at out₀ n i₀ out i = length xs - i
 
-loop-holds : tie.Need-loop-holds Inv-loop μ-loop
-loop-holds c =
-    let a = c .args in
-    (search needs, refl, paste-zero (a .out .now) (a .at) (a .xs .now))
-
-loop-again : tie.Need-loop-again Inv-loop μ-loop
-loop-again c =
-    let a = c .before .before .before .args in
-    let l = c .before .before .loop in
-    let x = getD (a .xs .now) (l .i) 0 in
-    let e = ap (λ (o : List ℕ). set o (a .at + l .i) x) (l .inv .2) in
-    let f = paste-suc (a .out .now) (a .at) (a .xs .now) (l .i) 0 (omega arith) (omega arith) in
-    (omega arith, length-set (l .out) (a .at + l .i) x ∙ l .inv .1, e ∙ rw add-one f)
-
 returns : tie.Need-returns Inv-loop μ-loop
 returns c =
     let a = c .before .before .args in
@@ -43,5 +29,15 @@ returns c =
     ∙ ap (λ (o : List ℕ). take (a .at) d ++ (o ++ drop (a .at + length s) d)) (take-length s)
 
 pub copy-numbers-spec : {M : Type 1} → statement M
-copy-numbers-spec = tie.close (tie.spec Inv-loop μ-loop loop-holds (λ c. search needs) (λ c. search needs) (λ c. search needs)
-    (λ c. search needs) (λ c. search needs) (λ c. search needs) (λ c. search needs) loop-again (λ c. search needs) returns)
+copy-numbers-spec = tie.close (tie.spec Inv-loop μ-loop (λ c.
+    let a = c .args in
+    (search needs, refl, paste-zero (a .out .now) (a .at) (a .xs .now)))
+    (λ c. search needs) (λ c. search needs) (λ c. search needs) (λ c. search needs) (λ c. search needs) (λ c. search needs)
+    (λ c. search needs) (λ c.
+    let a = c .before .before .before .args in
+    let l = c .before .before .loop in
+    let x = getD (a .xs .now) (l .i) 0 in
+    let e = ap (λ (o : List ℕ). set o (a .at + l .i) x) (l .inv .2) in
+    let f = paste-suc (a .out .now) (a .at) (a .xs .now) (l .i) 0 (omega arith) (omega arith) in
+    (omega arith, length-set (l .out) (a .at + l .i) x ∙ l .inv .1, e ∙ rw add-one f))
+    (λ c. search needs) returns)

@@ -7,13 +7,7 @@ use Rattle.wire.proofs.Lists.{every-not, every-one, every-skip}
 use Rattle.entries.proofs.is_count_allowed.Statement.{statement}
 use Rattle.entries.proofs.is_count_allowed.Tie as tie
 
-returns : tie.Need-returns
-unfolding countAllowed
-returns c = sym (every-not 0 _ (le-ltb 0 (c .before .args .n) (omega arith)))
-
-returns-2 : tie.Need-returns-2
-unfolding countAllowed
-returns-2 c = sym (every-skip _ _ (lt-ltb 0 (c .before .args .n) (omega arith)) ∙ every-one _)
-
 pub is-count-allowed-spec : {M : Type 1} → statement M
-is-count-allowed-spec = tie.close (tie.spec returns returns-2)
+unfolding countAllowed
+is-count-allowed-spec = tie.close (tie.spec (λ c. sym (every-not 0 _ (le-ltb 0 (c .before .args .n) (omega arith))))
+    (λ c. sym (every-skip _ _ (lt-ltb 0 (c .before .args .n) (omega arith)) ∙ every-one _)))

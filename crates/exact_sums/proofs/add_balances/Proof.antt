@@ -4,7 +4,8 @@ use mathlib.Core.Path.{_≡_}
 use native.Mathlib.Omega.{arith}
 use lib.ListN.{getD}
 use borrow.Author.Needs.{needs}
-use Rattle.exact_sums.proofs.Sums.{Halves, all-places, half-fits, half-low, halves-added, halves-fit, halves-more, halves-none}
+use Rattle.exact_sums.proofs.Sums.{all-places, half-fits, half-low, halves-added, halves-fit, halves-more, halves-none}
+use Rattle.exact_sums.specs.Sums.{Halves}
 use Rattle.tables.proofs.Places.{sum-more, sum-none}
 use Rattle.tables.specs.Places.{sumAt}
 use Rattle.exact_sums.proofs.add_balances.Statement.{statement}

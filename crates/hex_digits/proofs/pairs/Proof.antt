@@ -4,9 +4,6 @@ use Rattle.hex_digits.specs.Hex.{pairTable, pairsFrom}
 use Rattle.hex_digits.proofs.pairs.Statement.{statement}
 use Rattle.hex_digits.proofs.pairs.Tie as tie
 
-returns : tie.Need-returns
-unfolding pairTable pairsFrom
-returns c = refl
-
 pub pairs-spec : {M : Type 1} → statement M
-pairs-spec = tie.close (tie.spec returns)
+unfolding pairTable pairsFrom
+pairs-spec = tie.close (tie.spec (λ c. refl))

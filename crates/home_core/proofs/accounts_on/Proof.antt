@@ -8,12 +8,6 @@ use native.Mathlib.Omega.{arith}
 use Rattle.home_core.proofs.accounts_on.Statement.{statement}
 use Rattle.home_core.proofs.accounts_on.Tie as tie
 
-shared-slice-read-result : tie.Need-shared-slice-read-result
-shared-slice-read-result c = let o = c .before .before .before in omega (arith, sound-of (o .args .s .now) (o .pre) .long)
-
-shared-slice-read-result-2 : tie.Need-shared-slice-read-result-2
-shared-slice-read-result-2 c = let o = c .before .before .before in omega (arith, sound-of (o .args .s .now) (o .pre) .long)
-
 returns : tie.Need-returns
 returns c =
     let o = c .before .before .before in
@@ -25,5 +19,6 @@ returns-2 : tie.Need-returns-2
 returns-2 c = ap (homeAccounts (homeViewOf (c .before .before .before .args .s .now))) (sym (c .before .enum-told2 .given .1))
 
 pub accounts-on-spec : {M : Type 1} → statement M
-accounts-on-spec = tie.close (tie.spec (λ c. search needs) shared-slice-read-result (λ c. search needs) shared-slice-read-result-2
-    returns returns-2)
+accounts-on-spec = tie.close (tie.spec (λ c. search needs)
+    (λ c. let o = c .before .before .before in omega (arith, sound-of (o .args .s .now) (o .pre) .long)) (λ c. search needs)
+    (λ c. let o = c .before .before .before in omega (arith, sound-of (o .args .s .now) (o .pre) .long)) returns returns-2)

@@ -11,9 +11,6 @@ use native.Mathlib.Omega.{arith}
 use Rattle.home_core.proofs.judge.Statement.{statement}
 use Rattle.home_core.proofs.judge.Tie as tie
 
-shared-slice-read-count : tie.Need-shared-slice-read-count
-shared-slice-read-count c = let o = c .before .before .before in omega (arith, sound-of (o .args .s .now) (o .pre .accepted) .long)
-
 is-used-requires : tie.Need-is-used-requires
 is-used-requires c κs =
     let o = c .before .before .before .before .before .before .before .before .before .before .before .before in
@@ -31,7 +28,7 @@ returns c =
     let c10 = c8 .before .before in
     let a = c10 .before .before .before .before .before .before .args in
     let s = a .s .now in
-    judge-by s (a .r) _ _ _ _ _ _ _ _ _
+    judge-by s (a .r)
     (c10 .refusal-if .ensures
     ∙ ap (λ (t : Bool). refuse t 33 0) (c10 .before .is-far .ensures ∙ ap isFar (c10 .before .before .ledger .ensures)))
     (c8 .accounts-on .ensures ∙ ap (homeAccounts (homeViewOf s)) (c8 .before .sender-ledger .ensures))
@@ -44,6 +41,8 @@ returns c =
     (c .first-refusal2 .ensures)
 
 pub judge-spec : {M : Type 1} → statement M
-judge-spec = tie.close (tie.spec shared-slice-read-count (λ c κs. search needs) (λ c κs. search needs) (λ c κs. search needs)
+judge-spec = tie.close (tie.spec
+    (λ c. let o = c .before .before .before in omega (arith, sound-of (o .args .s .now) (o .pre .accepted) .long))
     (λ c κs. search needs) (λ c κs. search needs) (λ c κs. search needs) (λ c κs. search needs) (λ c κs. search needs)
-    (λ c κs. search needs) is-used-requires (λ c κs. search needs) (λ c κs. search needs) (λ c κs. search needs) returns)
+    (λ c κs. search needs) (λ c κs. search needs) (λ c κs. search needs) (λ c κs. search needs) is-used-requires (λ c κs. search needs)
+    (λ c κs. search needs) (λ c κs. search needs) returns)

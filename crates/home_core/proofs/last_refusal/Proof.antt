@@ -7,9 +7,6 @@ use native.Mathlib.Omega.{arith}
 use Rattle.home_core.proofs.last_refusal.Statement.{statement}
 use Rattle.home_core.proofs.last_refusal.Tie as tie
 
-shared-slice-read-pool-refusal : tie.Need-shared-slice-read-pool-refusal
-shared-slice-read-pool-refusal c = let o = c .before .before .before .before in omega (arith, sound-of (o .args .s .now) (o .pre) .long)
-
 returns : tie.Need-returns
 returns c =
     let a = c .before .before .before .before .before .args in
@@ -37,5 +34,6 @@ returns-2 c =
     ∙ last-paid (a .s .now) (a .r) (a .r .kind) (sym (c .before .before .before .is-receiving .ensures) ∙ c .before .before .if1 .left)
 
 pub last-refusal-spec : {M : Type 1} → statement M
-last-refusal-spec = tie.close (tie.spec (λ c κs. search needs) shared-slice-read-pool-refusal (λ c κs. search needs) returns
-    shared-slice-read-funds-refusal funds-refusal-requires returns-2)
+last-refusal-spec = tie.close (tie.spec (λ c κs. search needs)
+    (λ c. let o = c .before .before .before .before in omega (arith, sound-of (o .args .s .now) (o .pre) .long)) (λ c κs. search needs)
+    returns shared-slice-read-funds-refusal funds-refusal-requires returns-2)

@@ -18,27 +18,17 @@ sound-at : (c : tie.Start) → HomeSound (c .args .state .now)
 sound-at c = sound-of (c .args .state .now) (c .pre .0)
 
 -- the record passes
-passes-at : (c : tie.Start) → HomePasses (c .args .state .now) (c .args .r)
+passes-at : (c : tie.Start) → HomePasses (c .args .state .now) (c .args .r) (c .args .r .kind)
 passes-at c = passes-of (c .args .state .now) (sound-at c) (c .args .r) (c .pre .3)
-
-mul-store : tie.Need-mul-store
-mul-store c = omega (arith, passes-at (c .before .before .before) .room)
 
 store-requires : tie.Need-store-requires
 store-requires c κs =
     let o = c .before .before .before in
     let a = o .args in
     let h = sound-at o in
-    let p = passes-at o in (
-      omega (arith, h .long, p .sender),
-      omega (arith, h .long, p .receiver),
-      omega (arith, h .long, p .room),
-      p .pays,
-      paid-fits (a .state .now) h (a .r) p (amount-fits (a .w) (a .r) (o .pre .1) (o .pre .2)),
-    )
-
-add-state : tie.Need-add-state
-add-state c = omega (arith, c .taken-by .ensures, passes-at (c .before .before .before .before .before) .pool-fits)
+    let p = passes-at o in
+    let f = paid-fits (a .state .now) h (a .r) p (amount-fits (a .w) (a .r) (o .pre .1) (o .pre .2)) in
+    omega (arith, h .long, p .room, p .sender, p .receiver, p .pays, f)
 
 sub-state : tie.Need-sub-state
 sub-state c = omega (
@@ -48,9 +38,6 @@ sub-state c = omega (
   passes-at (c .before .before .before .before .before
       .before) .pool-has,
 )
-
-add-state-2 : tie.Need-add-state-2
-add-state-2 c = omega (arith, passes-at (c .before .before .before .before .before .before) .room)
 
 returns : tie.Need-returns
 unfolding homeWith
@@ -62,5 +49,8 @@ returns c =
     ap₂ (λ (x : List ℕ) (y : ℕ). set (set x poolWord y) countWord (countOf s + 1)) (c .before .before .store .ensures) m
 
 pub pass-spec : {M : Type 1} → statement M
-pass-spec = tie.close (tie.spec (λ c. search needs) (λ c. search needs) mul-store store-requires (λ c κs. search needs) add-state
-    (λ c κs. search needs) sub-state (λ c. search needs) add-state-2 (λ c. search needs) returns)
+pass-spec = tie.close (tie.spec (λ c. search needs) (λ c. search needs)
+    (λ c. omega (arith, passes-at (c .before .before .before) .room)) store-requires (λ c κs. search needs)
+    (λ c. omega (arith, c .taken-by .ensures, passes-at (c .before .before .before .before .before) .pool-fits)) (λ c κs. search needs)
+    sub-state (λ c. search needs) (λ c. omega (arith, passes-at (c .before .before .before .before .before .before) .room))
+    (λ c. search needs) returns)

@@ -1,13 +1,11 @@
 -- `home_core::step` meets its contract. Assumes nothing.
-use Rattle.home_core.proofs.Accept.{sound-of}
-use Rattle.home_core.proofs.Passing.{passes-of}
-use Rattle.home_core.proofs.Stepping.{step-passed, step-refused}
-use Rattle.home_core.specs.Layout.{homeViewOf, homeWith}
+use Rattle.home_core.proofs.Stepping.{number-room, step-leaves}
+use Rattle.home_core.specs.Layout.{HomeReady, homeViewOf, homeWordsChecker}
+use Rattle.inputs.proofs.Parts.{ReadsAs, formed-as, step-refused}
 use Rattle.ledgers.specs.Limits.{capacity}
 use Rattle.records.proofs.Formed.{read-formed}
-use Rattle.records.specs.Records.{formed, reading, recordIn}
+use Rattle.records.specs.Records.{reading}
 use Rattle.records.specs.declared.Reading.the-variants.{Read}
-use Rattle.records.specs.declared.Words.{Words}
 use Rattle.rules.specs.HomeValidator.{homeJudge}
 use borrow.Author.Needs.{needs}
 use mathlib.Core.Path.{_∙_, _≡_, ap, sym}
@@ -18,65 +16,56 @@ use Rattle.home_core.proofs.step.Tie as tie
 returns : tie.Need-returns
 returns c =
     let o = c .before .before .before .before in
-    let s = o .args .state .now in
-    step-refused s (o .args .index .now) (o .args .bytes .now) (o .pre) 21
-    (ap (homeJudge capacity (homeViewOf s)) (sym (c .before .before .read .ensures) ∙ c .enum-told .given .1)) (λ q. omega (arith, q))
+    step-refused homeWordsChecker HomeReady (o .args .state .now) (o .args .bytes .now) 21 (o .pre)
+    (ap (homeJudge capacity (homeViewOf (o .args .state .now))) (sym (c .before .before .read .ensures) ∙ c .enum-told .given .1))
+    (λ q. omega (arith, q))
 
 -- what the bytes read as
-reads-at : (c : tie.After-judge) → reading (c .before .before .before .before .before .before .before .before .before .before .args
-    .bytes .now) ≡ Read (c .before .before .before .before .before .before .r .given .0 .0)
-reads-at c = sym (c .before .before .before .before .before .before .before .before .read .ensures) ∙ c .before .before .before .before
-    .before .before .r .given .1
+reads-at : (c : tie.After-known-told) → reading (c .before .before .before .before .before .args .bytes .now) ≡ Read (c .before .r
+    .given .0 .0)
+reads-at c = sym (c .before .before .before .read .ensures) ∙ c .before .r .given .1
 
 returns-2 : tie.Need-returns-2
 returns-2 c =
-    let j = c .before in
-    let o = j .before .before .before .before .before .before .before .before .before .before in
-    let s = o .args .state .now in
-    step-refused s (o .args .index .now) (o .args .bytes .now) (o .pre) (j .judge .result)
-    (ap (homeJudge capacity (homeViewOf s)) (reads-at j) ∙ sym (j .judge .ensures)) (c .if1 .taken)
+    let d = c .before .before .before .before .before .before in
+    let o = d .before .before .before .before .before in
+    step-refused homeWordsChecker HomeReady (o .args .state .now) (o .args .bytes .now) (c .before .judge .result) (o .pre)
+    (ap (homeJudge capacity (homeViewOf (o .args .state .now))) (reads-at d) ∙ sym (c .before .judge .ensures)) (c .if1 .taken)
+
+-- where the bytes were read, seen from past the test, and the start
+abbrev readAt : tie.Else1 → tie.After-known-told
+readAt c = c .before .before .before .before .before .before
+
+abbrev startAt : tie.Else1 → tie.Start
+startAt c = readAt c .before .before .before .before .before
 
 -- the record passes
-passes-at : (c : tie.Else1) → homeJudge capacity (homeViewOf (c .before .before .before .before .before .before .before .before .before
-    .before .before .args .state .now)) (Read (c .before .before .before .before .before .before .before .r .given .0 .0)) ≡ 0
+passes-at : (c : tie.Else1) → homeJudge capacity (homeViewOf (startAt c .args .state .now)) (Read (readAt c .before .r .given .0 .0)) ≡ 0
 passes-at c = sym (c .before .judge .ensures) ∙ c .if1 .left
 
-of-requires : tie.Need-of-requires
-of-requires c κs = read-formed (c .before .before .before .before .before .before .before .before .before .before .before .before
-    .before .args .bytes .now) (c .before .before .before .before .before .before .before .before .before .r .given .0 .0) (reads-at (c
-    .before .before .before)) .0
+-- its words are those of the record
+read-at : (c : tie.After-of) → ReadsAs (startAt (c .before .before .before) .args .bytes .now) (c .of .result) (readAt (c .before .before
+    .before) .before .r .given .0 .0)
+read-at c = record { reads = reads-at (readAt (c .before .before .before)); words = c .of .ensures }
 
 pass-requires : tie.Need-pass-requires
 pass-requires c κs =
-    let o = c .before .before .before .before .before .before .before .before .before .before .before .before .before .before in
-    let r = c .before .before .before .before .before .before .before .before .before .before .r .given .0 .0 in
-    let f = read-formed (o .args .bytes .now) r (reads-at (c .before .before .before .before)) in (
-      o .pre .accepted,
-      ap formed (c .of .ensures) ∙ f .1,
-      ap recordIn (c .of .ensures) ∙ f .2,
-      passes-at (c .before .before .before),
-    )
+    let d = c .before .before .before in
+    let f = formed-as (read-at c) in
+    (startAt d .pre .accepted, f .0, f .1, passes-at d)
 
 add-number-requires : tie.Need-add-number-requires
 add-number-requires c κs =
-    let o = c .before .before .before .before .before .before .before .before .before .before .before .before .before .before .before
-    .before in
-    let s = o .args .state .now in
-    let p = passes-of s (sound-of s (o .pre .accepted)) (c .before .before .before .before .before .before .before .before .before
-    .before .before .before .r .given .0 .0) (passes-at (c .before .before .before .before .before)) in
-    (omega (arith, o .pre .index-long, p .room), p .room)
+    let d = c .before .before .before .before .before in
+    number-room (startAt d .pre) (read-at (c .before .before)) (passes-at d)
 
 returns-3 : tie.Need-returns-3
 returns-3 c =
-    let o = c .before .before .before .before .before .before .before .before .before .before .before .before .before .before .before
-    .before .before in
-    let s = o .args .state .now in
-    let r = c .before .before .before .before .before .before .before .before .before .before .before .before .before .r .given .0 .0 in
-    step-passed s (o .args .index .now) (o .args .bytes .now) (o .pre) r (reads-at (c .before .before .before .before .before .before
-    .before)) (passes-at (c .before .before .before .before .before .before)) _ _
-    (c .before .before .pass .ensures ∙ ap (λ (w : Words). homeWith s w r) (c .before .before .before .of .ensures)) (c .add-number
+    let d = c .before .before .before .before .before .before in
+    step-leaves (startAt d .pre) (read-at (c .before .before .before)) (passes-at d) (c .before .before .pass .ensures) (c .add-number
     .ensures)
 
 pub step-spec : {M : Type 1} → statement M
 step-spec = tie.close (tie.spec (λ c κs. search needs) (λ c. search needs) (λ c. search needs) returns (λ c κs. search needs) returns-2
-    (λ c. search needs) of-requires pass-requires add-number-requires returns-3)
+    (λ c. search needs) (λ c κs. read-formed _ _ (reads-at (readAt (c .before .before))) .0) pass-requires add-number-requires
+    returns-3)

@@ -6,8 +6,6 @@ use mathlib.Core.Path.{refl}
 use Rattle.home_figures.proofs.accepted.Statement.{statement}
 use Rattle.home_figures.proofs.accepted.Tie as tie
 
-is-accepted-requires : tie.Need-is-accepted-requires
-is-accepted-requires c κs = (refl, index-none (c .before .before .args .words .now) 0 indexLength 0)
-
 pub accepted-spec : {M : Type 1} → statement M
-accepted-spec = tie.close (tie.spec (λ c. search needs) is-accepted-requires (λ c. search needs))
+accepted-spec = tie.close (tie.spec (λ c. search needs)
+    (λ c κs. (refl, index-none (c .before .before .args .words .now) 0 indexLength 0)) (λ c. search needs))

@@ -15,12 +15,9 @@ returns c = c .balance-refused .ensures ∙ rw (sym (c .before .before .accepted
 accepted-at : (c : tie.Else1) → acceptsHome (c .before .before .before .before .before .args .t1 .words) ≡ true
 accepted-at c = sym (c .before .accepted .ensures) ∙ not-false _ (c .if1 .left)
 
-balance-among-requires : tie.Need-balance-among-requires
-balance-among-requires c κs = home-on-ledger _ (accepted-at (c .before .before .before .before))
-
 returns-2 : tie.Need-returns-2
 returns-2 c = c .balance-among .ensures ∙ home-balance-passed _ (accepted-at (c .before .before .before .before .before)) _
 
 pub balance-spec : {M : Type 1} → statement M
-balance-spec = tie.close (tie.spec (λ c κs. search needs) (λ c κs. search needs) returns (λ c. search needs) balance-among-requires
-    returns-2)
+balance-spec = tie.close (tie.spec (λ c κs. search needs) (λ c κs. search needs) returns (λ c. search needs)
+    (λ c κs. home-on-ledger _ (accepted-at (c .before .before .before .before))) returns-2)

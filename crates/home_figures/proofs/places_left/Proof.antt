@@ -16,11 +16,6 @@ returns c = home-places-refused _ (sym (c .before .before .accepted .ensures) �
 accepted-at : (c : tie.Else1) → acceptsHome (c .before .before .before .before .before .args .t1 .words) ≡ true
 accepted-at c = sym (c .before .accepted .ensures) ∙ not-false _ (c .if1 .left)
 
-sub-t13 : tie.Need-sub-t13
-sub-t13 c = omega (arith, home-held-fits _ (accepted-at (c .before)))
-
-returns-2 : tie.Need-returns-2
-returns-2 c = home-places-passed _ (accepted-at (c .before))
-
 pub places-left-spec : {M : Type 1} → statement M
-places-left-spec = tie.close (tie.spec (λ c κs. search needs) (λ c κs. search needs) returns (λ c. search needs) sub-t13 returns-2)
+places-left-spec = tie.close (tie.spec (λ c κs. search needs) (λ c κs. search needs) returns (λ c. search needs)
+    (λ c. omega (arith, home-held-fits _ (accepted-at (c .before)))) (λ c. home-places-passed _ (accepted-at (c .before))))

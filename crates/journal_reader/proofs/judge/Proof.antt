@@ -6,9 +6,6 @@ use Rattle.answers.specs.Answers.{answer}
 use Rattle.journal_reader.proofs.judge.Statement.{statement}
 use Rattle.journal_reader.proofs.judge.Tie as tie
 
-returns : tie.Need-returns
-returns c =
-    c .new .ensures ∙ ap (λ (n : ℕ). answer n (c .before .before .before .args .k)) (c .before .block-refusal .ensures)
-
 pub judge-spec : {M : Type 1} → statement M
-judge-spec = tie.close (tie.spec (λ c κs. search needs) (λ c κs. search needs) returns)
+judge-spec = tie.close (tie.spec (λ c κs. search needs) (λ c κs. search needs)
+    (λ c. c .new .ensures ∙ ap (λ (n : ℕ). answer n (c .before .before .before .args .k)) (c .before .block-refusal .ensures)))

@@ -8,13 +8,10 @@ use Rattle.block_format.specs.Blocks.{recordPart}
 use Rattle.journal_reader.proofs.judged_part.Statement.{statement}
 use Rattle.journal_reader.proofs.judged_part.Tie as tie
 
-returns : tie.Need-returns
+pub judged-part-spec : {M : Type 1} → statement M
 unfolding recordPart
-returns c =
+judged-part-spec = tie.close (tie.spec (λ c. search needs) (λ c. search needs) (λ c. search needs) (λ c. search needs) (λ c. search needs)
+    (λ c. search needs) (λ c.
     let a : ℕ = 32 + 32 * c .before .args .place in
     let z : a + 32 - a ≡ 32 = omega arith in
-    ap (λ (n : ℕ). take n (drop a (c .before .args .block .now))) z
-
-pub judged-part-spec : {M : Type 1} → statement M
-judged-part-spec = tie.close (tie.spec (λ c. search needs) (λ c. search needs) (λ c. search needs) (λ c. search needs)
-    (λ c. search needs) (λ c. search needs) returns)
+    ap (λ (n : ℕ). take n (drop a (c .before .args .block .now))) z))

@@ -2,6 +2,7 @@
 use Prim.Native.Nat.{ℕ}
 use mathlib.Core.Path.{_≡_, sym, _∙_}
 use mathlib.Core.List.{[]}
+use native.Mathlib.Omega.{arith}
 use borrow.Author.Needs.{needs}
 use Rattle.answers.proofs.Answers.{passed-zero, refused-instead}
 use Rattle.block_format.specs.Blocks.{recordPart}
@@ -10,37 +11,19 @@ use Rattle.journal_reader.specs.Judged.{recordRefusal, partOf}
 use Rattle.journal_reader.proofs.record_part.Statement.{statement}
 use Rattle.journal_reader.proofs.record_part.Tie as tie
 
-returns : tie.Need-returns
-unfolding partOf
-returns c =
-    let c3 = c .before .before .before in
-    let c5 = c3 .before .before in
-    let a = c5 .args in
-    let b = a .block .now in
-    let n : ℕ = recordRefusal b (a .k) (a .before) (a .place) in
-    sym (refused-instead n (a .k) _ _ (recordPart b (a .place)) [] (sym (c3 .judge-record .ensures) ∙ c .before .enum-told2 .given .1))
-
-judged-part-requires : tie.Need-judged-part-requires
-judged-part-requires c κs =
-    let c4 = c .before .before .before .before in
-    let a = c4 .args in
-    let b = a .block .now in
-    let n : ℕ = recordRefusal b (a .k) (a .before) (a .place) in
-    let z : n ≡ 0 = passed-zero n (a .k) (sym (c .before .before .judge-record .ensures) ∙ c .enum-told .given .1) in
-    let p = placed b (a .k) (a .before) (a .place) z in
-    (p .long, p .low)
-
-returns-2 : tie.Need-returns-2
-unfolding partOf
-returns-2 c =
-    let c3 = c .before .before .before in
-    let c5 = c3 .before .before in
-    let a = c5 .args in
-    let b = a .block .now in
-    let n : ℕ = recordRefusal b (a .k) (a .before) (a .place) in
-    let z : n ≡ 0 = passed-zero n (a .k) (sym (c3 .judge-record .ensures) ∙ c .before .enum-told .given .1) in
-    rw (z, c .judged-part .ensures)
+-- block and place are not refused
+none-refused : (c : tie.After-enum-told) → let a = c .before .before .before .before .args in
+    recordRefusal (a .block .now) (a .k) (a .before) (a .place) ≡ 0
+none-refused c =
+    passed-zero _ (c .before .before .before .before .args .k) (sym (c .before .before .judge-record .ensures) ∙ c .enum-told .given .1)
 
 pub record-part-spec : {M : Type 1} → statement M
+unfolding partOf
 record-part-spec = tie.close (tie.spec (λ c κs. search needs) (λ c. search needs) (λ c. search needs) (λ c. search needs)
-    (λ c. search needs) (λ c. search needs) returns judged-part-requires returns-2)
+    (λ c. search needs) (λ c. search needs) (λ c.
+    let c3 = c .before .before .before in
+    let a = c3 .before .before .args in
+    let b = a .block .now in
+    let n : ℕ = recordRefusal b (a .k) (a .before) (a .place) in
+    sym (refused-instead n (a .k) _ _ (recordPart b (a .place)) [] (sym (c3 .judge-record .ensures) ∙ c .before .enum-told2 .given .1)))
+    (λ c κs. omega (arith, placed _ _ _ _ (none-refused c))) (λ c. rw (none-refused (c .before), c .judged-part .ensures)))

@@ -11,12 +11,10 @@ use Rattle.sha256_core.specs.Sha256.{sha256}
 use Rattle.journal_writer.proofs.seal.Statement.{statement}
 use Rattle.journal_writer.proofs.seal.Tie as tie
 
-slice-aggregate-digest : tie.Need-slice-aggregate-digest
-slice-aggregate-digest c =
-    omega (arith, length-take 480 (c .before .before .args .out .now))
-
-returns : tie.Need-returns
-returns c =
+pub seal-spec : {M : Type 1} → statement M
+seal-spec = tie.close (tie.spec (λ c. search needs) (λ c. omega (arith, length-take 480 (c .before .before .args .out .now)))
+    (λ c κs. search needs) (λ c. search needs) (λ c. search needs) (λ c. search needs) (λ c. search needs) (λ c κs. search needs)
+    (λ c. search needs) (λ c.
     let c5 = c .before .before .before .before .before in
     let c8 = c5 .before .before .before in
     let o = c8 .args .out .now in
@@ -24,8 +22,4 @@ returns c =
     let e : d ≡ sha256 (take 480 o) = c5 .digest .ensures in
     let x = c .before .before .copy in
     sealed o d (x .last .1 .0) (c8 .pre) (ap length e ∙ length-sha256 (take 480 o)) (x .ensures .1)
-    ∙ ap (λ (y : List ℕ). take 480 o ++ y) e
-
-pub seal-spec : {M : Type 1} → statement M
-seal-spec = tie.close (tie.spec (λ c. search needs) slice-aggregate-digest (λ c κs. search needs) (λ c. search needs)
-    (λ c. search needs) (λ c. search needs) (λ c. search needs) (λ c κs. search needs) (λ c. search needs) returns)
+    ∙ ap (λ (y : List ℕ). take 480 o ++ y) e))

@@ -2,7 +2,7 @@
 use Prim.Native.Nat.{_≤_}
 use native.Mathlib.Omega.{arith}
 use borrow.Author.Needs.{needs}
-use Rattle.lines.proofs.Decimals.{decimal-whole, few-digits}
+use Rattle.lines.proofs.Puts.{decimal-whole, few-digits}
 use Rattle.lines.proofs.put_decimal.Statement.{statement}
 use Rattle.lines.proofs.put_decimal.Tie as tie
 
@@ -10,18 +10,8 @@ use Rattle.lines.proofs.put_decimal.Tie as tie
 few-at : (c : tie.After-decimal) → c .decimal .result ≤ 20
 few-at c = few-digits (c .before .before .before .args .x) (c .decimal .result) (search needs) (c .decimal .ensures .1 .0)
 
-put-bytes-requires : tie.Need-put-bytes-requires
-put-bytes-requires c κs =
-    let d = c .before .before in
-    omega (arith, d .decimal .ensures .0 .1, few-at d, d .before .before .before .pre)
-
-returns : tie.Need-returns
-returns c =
-    let d = c .before .before .before .before .before in
-    let e = d .decimal .ensures .1 in
-    decimal-whole (d .before .before .before .args .x) (d .decimal .result) (d .decimal .last .1 .0) (few-at d) (e .0) (e .1)
-    (c .before .before .put-bytes .ensures)
-
 pub put-decimal-spec : {M : Type 1} → statement M
-put-decimal-spec = tie.close (tie.spec (λ c κs. search needs) (λ c. search needs) (λ c. search needs) put-bytes-requires
-    (λ c. search needs) returns)
+put-decimal-spec = tie.close (tie.spec (λ c κs. search needs) (λ c. search needs) (λ c. search needs)
+    (λ c κs. let d = c .before .before in omega (arith, d .decimal .ensures .0 .1, few-at d, d .before .before .before .pre))
+    (λ c. search needs) (λ c. let d = c .before .before .before .before .before in let e = d .decimal .ensures .1 in
+    decimal-whole _ _ (d .decimal .last .1 .0) (few-at d) (e .0) (e .1) (c .before .before .put-bytes .ensures)))

@@ -4,9 +4,6 @@ use Rattle.lines.proofs.put_header.Statement.{statement}
 use Rattle.lines.proofs.put_header.Tie as tie
 use Rattle.lines.specs.Lines.{headerLine}
 
-returns : tie.Need-returns
-unfolding headerLine
-returns c = c .before .before .put-bytes .ensures
-
 pub put-header-spec : {M : Type 1} → statement M
-put-header-spec = tie.close (tie.spec (λ c. search needs) (λ c κs. search needs) (λ c. search needs) returns)
+unfolding headerLine
+put-header-spec = tie.close (tie.spec (λ c. search needs) (λ c κs. search needs) (λ c. search needs) (λ c. search needs))

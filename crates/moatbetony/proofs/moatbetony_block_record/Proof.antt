@@ -10,40 +10,17 @@ use Rattle.moatbetony.proofs.Telling.{part-passed, part-refused}
 use Rattle.moatbetony.proofs.moatbetony_block_record.Statement.{statement}
 use Rattle.moatbetony.proofs.moatbetony_block_record.Tie as tie
 
-returns : tie.Need-returns
-returns c =
-    let c3 = c .before .before .before in
-    let a = c3 .before .before .args in
-    part-refused (a .block .now) (a .number) (a .before) (a .place) (c .tell .ensures) (c3 .judge-record .ensures) (c .before
-    .enum-told2 .given .1)
+-- the refusal of the block and the place
+abbrev refusal : tie.After-judge-record → ℕ
+refusal c = let a = c .before .before .args in recordRefusal (a .block .now) (a .number) (a .before) (a .place)
 
-mul-t9 : tie.Need-mul-t9
-mul-t9 c =
-    let c3 = c .before .before .before in
-    let a = c3 .before .before .args in
-    let b = a .block .now in
-    let n : ℕ = recordRefusal b (a .number) (a .before) (a .place) in
-    let z : n ≡ 0 = passed-zero n (a .number) (sym (c3 .judge-record .ensures) ∙ c .before .enum-told .given .1) in
-    omega (arith, placed b (a .number) (a .before) (a .place) z .low)
-
-add-t10 : tie.Need-add-t10
-add-t10 c =
-    let c3 = c .before .before .before in
-    let a = c3 .before .before .args in
-    let b = a .block .now in
-    let n : ℕ = recordRefusal b (a .number) (a .before) (a .place) in
-    let z : n ≡ 0 = passed-zero n (a .number) (sym (c3 .judge-record .ensures) ∙ c .before .enum-told .given .1) in
-    omega (arith, placed b (a .number) (a .before) (a .place) z .low)
-
-returns-2 : tie.Need-returns-2
-returns-2 c =
-    let c3 = c .before .before .before in
-    let a = c3 .before .before .args in
-    let b = a .block .now in
-    let n : ℕ = recordRefusal b (a .number) (a .before) (a .place) in
-    let z : n ≡ 0 = passed-zero n (a .number) (sym (c3 .judge-record .ensures) ∙ c .before .enum-told .given .1) in
-    part-passed b (a .number) (a .before) (a .place) (c .tell2 .ensures) (c3 .judge-record .ensures) z
+-- there is none where the record passed
+none-at : (c : tie.After-enum-told) → refusal (c .before .before) ≡ 0
+none-at c = passed-zero (refusal (c .before .before)) _ (sym (c .before .before .judge-record .ensures) ∙ c .enum-told .given .1)
 
 pub moatbetony-block-record-spec : {M : Type 1} → statement M
 moatbetony-block-record-spec = tie.close (tie.spec (λ c κs. search needs) (λ c. search needs) (λ c. search needs) (λ c κs. search needs)
-    returns (λ c κs. search needs) mul-t9 add-t10 returns-2)
+    (λ c. part-refused _ _ _ _ (c .tell .ensures) (c .before .before .before .judge-record .ensures) (c .before .enum-told2 .given .1))
+    (λ c κs. search needs) (λ c. omega (arith, placed _ _ _ _ (none-at (c .before)) .low))
+    (λ c. omega (arith, placed _ _ _ _ (none-at (c .before)) .low))
+    (λ c. part-passed _ _ _ _ (c .tell2 .ensures) (c .before .before .before .judge-record .ensures) (none-at (c .before))))

@@ -1,18 +1,11 @@
 -- `moatbetony::moatbetony_home_check_list` meets its contract. Assumes nothing.
-use Rattle.home_validator.proofs.Words.{state-called}
-use Rattle.moatbetony.specs.Told.{told}
-use Rattle.rules.specs.Calls.{list}
 use borrow.Author.Needs.{needs}
-use mathlib.Core.Path.{_∙_, ap}
+use Rattle.home_validator.proofs.Words.{state-called}
+use Rattle.rules.specs.Calls.{list}
 use Rattle.moatbetony.proofs.moatbetony_home_check_list.Statement.{statement}
 use Rattle.moatbetony.proofs.moatbetony_home_check_list.Tie as tie
 
-returns : tie.Need-returns
-returns c =
-    let a = c .before .before .before .before .args in
-    let e = c .before .take-list .ensures in
-    let g = state-called (a .t1) (list (a .bytes .now)) _ _ (e .0) (e .1) in
-    λ i. record { answer = (c .tell .ensures ∙ ap told (g .0)) i; state = g .1 i }
-
 pub moatbetony-home-check-list-spec : {M : Type 1} → statement M
-moatbetony-home-check-list-spec = tie.close (tie.spec (λ c κs. search needs) (λ c κs. search needs) returns)
+moatbetony-home-check-list-spec = tie.close (tie.spec (λ c κs. search needs) (λ c κs. search needs)
+    (λ c. let a = c .before .before .before .before .args in let e = c .before .take-list .ensures in
+    let g = state-called (a .t1) (list (a .bytes .now)) _ _ (e .0) (e .1) in rw (c .tell .ensures, g .0, g .1)))

@@ -6,17 +6,10 @@ use Rattle.moatbetony.proofs.Telling.{encoded-read, encoded-unread}
 use Rattle.moatbetony.proofs.moatbetony_record_encode.Statement.{statement}
 use Rattle.moatbetony.proofs.moatbetony_record_encode.Tie as tie
 
-returns : tie.Need-returns
-returns c =
-    let r = c .before .before .before .before in
-    encoded-unread (r .before .before .field-bytes .ensures) (r .read .ensures) (c .tell .ensures ∙ ap told (c .before .new .ensures)) (c
-    .before .before .enum-told2 .given .1)
-
-returns-2 : tie.Need-returns-2
-returns-2 c =
-    let r = c .before .before .before in
-    encoded-read (r .before .before .field-bytes .ensures) (r .read .ensures) (c .tell2 .ensures) (c .before .enum-told .given .1)
-
 pub moatbetony-record-encode-spec : {M : Type 1} → statement M
 moatbetony-record-encode-spec = tie.close (tie.spec (λ c κs. search needs) (λ c. search needs) (λ c κs. search needs)
-    (λ c. search needs) (λ c. search needs) (λ c κs. search needs) (λ c κs. search needs) returns (λ c κs. search needs) returns-2)
+    (λ c. search needs) (λ c. search needs) (λ c κs. search needs) (λ c κs. search needs)
+    (λ c. let r = c .before .before .before .before in encoded-unread (r .before .before .field-bytes .ensures) (r .read .ensures)
+    (c .tell .ensures ∙ ap told (c .before .new .ensures)) (c .before .before .enum-told2 .given .1)) (λ c κs. search needs)
+    (λ c. let r = c .before .before .before in encoded-read (r .before .before .field-bytes .ensures) (r .read .ensures)
+    (c .tell2 .ensures) (c .before .enum-told .given .1)))

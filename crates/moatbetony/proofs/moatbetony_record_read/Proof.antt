@@ -6,16 +6,9 @@ use Rattle.moatbetony.proofs.Telling.{record-unread}
 use Rattle.moatbetony.proofs.moatbetony_record_read.Statement.{statement}
 use Rattle.moatbetony.proofs.moatbetony_record_read.Tie as tie
 
-returns : tie.Need-returns
-returns c =
-    let c2 = c .before .before in
-    record-unread (c .tell .ensures ∙ ap told (c .before .new .ensures))
-    (sym (c2 .before .before .read .ensures) ∙ c2 .enum-told .given .1)
-
-returns-2 : tie.Need-returns-2
-returns-2 c = c .tell-record .ensures ∙ ap recordTold (sym (sym (c .before .before .before .before .read .ensures) ∙ c .before
-    .before .r .given .1))
-
 pub moatbetony-record-read-spec : {M : Type 1} → statement M
 moatbetony-record-read-spec = tie.close (tie.spec (λ c κs. search needs) (λ c. search needs) (λ c. search needs) (λ c κs. search needs)
-    (λ c κs. search needs) returns (λ c κs. search needs) returns-2)
+    (λ c κs. search needs) (λ c. let r = c .before .before .before .before in
+    record-unread (r .read .ensures) (c .tell .ensures ∙ ap told (c .before .new .ensures)) (c .before .before .enum-told .given .1))
+    (λ c κs. search needs) (λ c. let r = c .before .before .before .before in
+    c .tell-record .ensures ∙ ap recordTold (sym (c .before .before .r .given .1) ∙ r .read .ensures)))

@@ -117,8 +117,8 @@ indexed-at c =
     (not-false _ (c .before .before .before .before .before .if5 .left)))
     (h .1 .0 (not-false _ (c .if6 .left)))
 
-is-ledger-backed-requires : tie.Need-is-ledger-backed-requires
-is-ledger-backed-requires c κs =
+crossings-on-requires : tie.Need-crossings-on-requires
+crossings-on-requires c κs =
     let d = c .before in (
       d .before .before .before .before .before .before .before .before .before .before .before .before .before .before .before .before
           .if1 .left,
@@ -134,13 +134,15 @@ returns-7 : tie.Need-returns-7
 unfolding testsOf
 returns-7 c =
     tests-refused (c .before .before .before .before .before .before .before .before .before .before .before .before .before .before
-    .before .before .before .before .before .before .before .before .args .s .now) (small-at (c .before .before .before .before .before
-    .before .before .before .before .before .before .before .before .before .before .before .before .before .before .before .before))
-    (every-not 6 _ (sym (c .before .is-ledger-backed .ensures) ∙ not-true _ (c .if7 .taken))) (long-at (c .before .before .before))
+    .before .before .before .before .before .before .before .before .before .args .s .now) (small-at (c .before .before .before .before
+    .before .before .before .before .before .before .before .before .before .before .before .before .before .before .before .before
+    .before .before))
+    (every-not 6 _ (sym (c .before .before .crossings-on .ensures .0) ∙ not-true _ (c .if7 .taken))) (long-at (c .before .before .before
+    .before))
 
-is-ledger-backed-requires-2 : tie.Need-is-ledger-backed-requires-2
-is-ledger-backed-requires-2 c κs =
-    let d = c .before .before .before .before in (
+crossings-on-requires-2 : tie.Need-crossings-on-requires-2
+crossings-on-requires-2 c κs =
+    let d = c .before .before .before .before .before in (
       d .before .before .before .before .before .before .before .before .before .before .before .before .before .before .before .before
           .if1 .left,
       bounded-at (d .before .before .before .before .before .before .before .before .before .before .before .before .before
@@ -151,28 +153,36 @@ is-ledger-backed-requires-2 c κs =
       indexed-at d,
     )
 
+same-length-4 : tie.Need-same-length-4
+same-length-4 c = long-at (c .before .before .before .before .before .before .before .before)
+
 returns-8 : tie.Need-returns-8
 unfolding testsOf
 returns-8 c =
     tests-refused (c .before .before .before .before .before .before .before .before .before .before .before .before .before .before
-    .before .before .before .before .before .before .before .before .before .before .before .args .s .now) (small-at (c .before .before
+    .before .before .before .before .before .before .before .before .before .before .before .before .before .args .s .now) (small-at (c
     .before .before .before .before .before .before .before .before .before .before .before .before .before .before .before .before
-    .before .before .before .before .before .before))
-    (every-not 7 _ (sym (c .before .is-ledger-backed2 .ensures) ∙ not-true _ (c .if8 .taken))) (long-at (c .before .before .before
-    .before .before .before))
+    .before .before .before .before .before .before .before .before .before .before))
+    (every-not 7 _ (sym (c .before .before .crossings-on2 .ensures .0) ∙ not-true _ (c .if8 .taken))) (long-at (c .before .before .before
+    .before .before .before .before .before))
 
 adds-up-requires : tie.Need-adds-up-requires
 adds-up-requires c κs = (
-  c .before .before .before .before .before .before .before .before .before .before .before .before .before
-      .before .before .before .before .before .before .before .before .before .if1 .left,
-  bounded-at (c .before .before .before .before
-      .before .before .before .before .before .before .before .before .before .before .before .before .before .before .before .before),
+  c .before .before .before .before .before .before .before .before .before .before .before .before .before .before .before .before
+      .before .before .before .before .before .before .before .before .if1 .left,
+  bounded-at (c .before .before .before .before .before .before .before .before .before .before .before .before .before .before .before
+      .before .before .before .before .before .before .before),
+  c .before .before .before .before .before .before .crossings-on .ensures .1 (not-false _ (c .before .before .before .before .if7 .left)),
+  c .before .before .crossings-on2 .ensures .1 (not-false _ (c .if8 .left)),
 )
+
+same-length-5 : tie.Need-same-length-5
+same-length-5 c = long-at (c .before .before .before .before .before .before .before .before .before)
 
 returns-9 : tie.Need-returns-9
 unfolding testsOf
 returns-9 c =
-    let d = c .before .before .before .before .before .before .before in
+    let d = c .before .before .before .before .before .before .before .before .before in
     let o = d .before .before .before .before .before .before .before .before .before .before .before .before .before .before .before
     .before .before .before .before in
     let s = o .args .s .now in
@@ -190,9 +200,9 @@ returns-9 c =
     ∙ every-skip _ _ (sym (d .before .before .before .before .before .before .before .before .is-held .ensures .0) ∙ not-false _ (d
     .before .before .before .before .before .if5 .left))
     ∙ every-skip _ _ (sym (d .before .before .before .is-held2 .ensures .0) ∙ not-false _ (d .if6 .left))
-    ∙ every-skip _ _ (sym (c .before .before .before .before .before .is-ledger-backed .ensures) ∙ not-false _ (c .before .before
-    .before .before .if7 .left))
-    ∙ every-skip _ _ (sym (c .before .before .is-ledger-backed2 .ensures) ∙ not-false _ (c .before .if8 .left))
+    ∙ every-skip _ _ (sym (c .before .before .before .before .before .before .before .crossings-on .ensures .0) ∙ not-false _ (c .before
+    .before .before .before .before .if7 .left))
+    ∙ every-skip _ _ (sym (c .before .before .before .crossings-on2 .ensures .0) ∙ not-false _ (c .before .if8 .left))
     ∙ every-one _)
     ∙ accepts-is s (small-at (d .before .before .before .before .before .before .before .before .before .before .before .before .before
     .before .before .before .before .before)) in
@@ -201,5 +211,5 @@ returns-9 c =
 pub is-accepted-spec : {M : Type 1} → statement M
 is-accepted-spec = tie.close (tie.spec returns (λ c κs. search needs) returns-2 is-zero-beyond-requires returns-3
     is-zero-beyond-requires-2 returns-4 is-held-requires (λ c. search needs) returns-5 is-held-requires-2 (λ c. search needs) returns-6
-    is-ledger-backed-requires (λ c. search needs) returns-7 is-ledger-backed-requires-2 (λ c. search needs) returns-8 adds-up-requires
-    (λ c. search needs) returns-9)
+    crossings-on-requires (λ c. search needs) returns-7 crossings-on-requires-2 same-length-4 returns-8 adds-up-requires
+    same-length-5 returns-9)

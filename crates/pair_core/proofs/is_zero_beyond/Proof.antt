@@ -12,19 +12,11 @@ use Rattle.pair_core.proofs.is_zero_beyond.Tie as tie
 fits-at : (c : tie.Start) → accountsOn (c .args .s .now) (c .args .l) ≤ accountLimit
 fits-at c = accounts-fit (c .args .s .now) (bounds-of (c .args .s .now) (c .pre .1)) (c .args .l) (c .pre .2) .1
 
-add-zeros-2 : tie.Need-add-zeros-2
-add-zeros-2 c = omega (arith, fits-at (c .before .before), c .before .before .pre .2)
-
-sub-zeros : tie.Need-sub-zeros
-sub-zeros c = fits-at (c .before .before)
-
-zeros-requires : tie.Need-zeros-requires
-zeros-requires c κs = omega (arith, fits-at (c .before .before), c .before .before .pre .0, c .before .before .pre .2)
-
 returns : tie.Need-returns
 unfolding zeroBeyond
 returns c = c .zeros .ensures
 
 pub is-zero-beyond-spec : {M : Type 1} → statement M
 is-zero-beyond-spec = tie.close (tie.spec (λ c. search needs) (λ c. search needs) (λ c. search needs) (λ c. search needs)
-    (λ c. search needs) add-zeros-2 sub-zeros zeros-requires returns)
+    (λ c. search needs) (λ c. omega (arith, fits-at (c .before .before), c .before .before .pre .2)) (λ c. fits-at (c .before .before))
+    (λ c κs. omega (arith, fits-at (c .before .before), c .before .before .pre .0, c .before .before .pre .2)) returns)

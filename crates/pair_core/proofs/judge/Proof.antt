@@ -42,7 +42,7 @@ returns c =
     let c10 = c7 .before .before .before in
     let a = c10 .before .before .before .before .args in
     let p = pairViewOf (a .s .now) .pair in
-    judge-by (a .s .now) (a .r) _ _ _ _ _ _ _ _
+    judge-by (a .s .now) (a .r)
     (c10 .ledger-index .ensures .0 ∙ ap ledgerByte (c10 .before .ledger .ensures))
     (c7 .accounts-of .ensures ∙ ap (accountsOf p) (c7 .before .sender-ledger .ensures))
     (c5 .accounts-of2 .ensures ∙ ap (accountsOf p) (c5 .before .receiver-ledger .ensures))

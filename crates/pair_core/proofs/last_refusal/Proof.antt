@@ -24,9 +24,6 @@ ledger-at : (c : tie.After-ledger-index) → c .ledger-index .result ≡ ledgerB
     .kind))
 ledger-at c = c .ledger-index .ensures .0 ∙ ap ledgerByte (c .before .ledger .ensures)
 
-shared-slice-read-count : tie.Need-shared-slice-read-count
-shared-slice-read-count c = omega (arith, sound-at (c .before .before .before .before .before .before .before) .long)
-
 is-backed-requires : tie.Need-is-backed-requires
 is-backed-requires c κs =
     let o = c .before .before .before .before .before .before .before in
@@ -85,6 +82,7 @@ returns-2 c =
 
 pub last-refusal-spec : {M : Type 1} → statement M
 last-refusal-spec = tie.close (tie.spec (λ c κs. search needs) (λ c κs. search needs) (λ c κs. search needs) (λ c. search needs)
-    (λ c. search needs) (λ c. search needs) shared-slice-read-count (λ c. search needs) (λ c. search needs) is-backed-requires
-    (λ c κs. search needs) returns (λ c. search needs) (λ c. search needs) (λ c. search needs) (λ c. search needs)
-    shared-slice-read-funds-refusal funds-refusal-requires returns-2)
+    (λ c. search needs) (λ c. search needs)
+    (λ c. omega (arith, sound-at (c .before .before .before .before .before .before .before) .long)) (λ c. search needs)
+    (λ c. search needs) is-backed-requires (λ c κs. search needs) returns (λ c. search needs) (λ c. search needs) (λ c. search needs)
+    (λ c. search needs) shared-slice-read-funds-refusal funds-refusal-requires returns-2)

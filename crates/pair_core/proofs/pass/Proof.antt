@@ -23,17 +23,11 @@ ledger-at c = c .ledger-index .ensures .0 ∙ ap ledgerByte (c .before .ledger .
 
 -- the record passes on it
 passes-at : (c : tie.After-ledger-index) → PairPasses (c .before .before .args .state .now) (c .before .before .args .r) (c
-    .ledger-index .result)
+    .before .before .args .r .kind) (c .ledger-index .result)
 passes-at c =
     let a = c .before .before .args in
-    subst (PairPasses (a .state .now) (a .r)) (sym (ledger-at c)) (passes-of (a .state .now) (sound-at (c .before .before)) (a .r) (c
+    subst (PairPasses (a .state .now) (a .r) (a .r .kind)) (sym (ledger-at c)) (passes-of (a .state .now) (sound-at (c .before .before)) (a .r) (c
     .before .before .pre .3))
-
-mul-store-3 : tie.Need-mul-store-3
-mul-store-3 c = omega (arith, passes-at (c .before .before) .room)
-
-add-store-2 : tie.Need-add-store-2
-add-store-2 c = omega (arith, passes-at (c .before .before) .room, c .before .before .ledger-index .ensures .1)
 
 store-requires : tie.Need-store-requires
 store-requires c κs =
@@ -41,16 +35,9 @@ store-requires c κs =
     let a = o .args in
     let h = sound-at o in
     let p = passes-at (c .before .before) in
-    let l = c .before .before .ledger-index in (
-      omega (arith, h .long, p .sender, l .ensures .1),
-      omega (arith, h .long, p .receiver, l .ensures .1),
-      omega (arith, h .long, p .room, l .ensures .1),
-      p .pays,
-      paid-fits (a .state .now) h (a .r) (l .result) (l .ensures .1) p (amount-fits (a .w) (a .r) (o .pre .1) (o .pre .2)),
-    )
-
-add-state : tie.Need-add-state
-add-state c = omega (arith, passes-at (c .before .before .before) .room)
+    let l = c .before .before .ledger-index in
+    let f = paid-fits (a .state .now) h (a .r) (l .result) (l .ensures .1) p (amount-fits (a .w) (a .r) (o .pre .1) (o .pre .2)) in
+    omega (arith, h .long, p .room, p .sender, p .receiver, p .pays, l .ensures .1, f)
 
 returns : tie.Need-returns
 unfolding pairWith
@@ -63,5 +50,8 @@ returns c =
 
 pub pass-spec : {M : Type 1} → statement M
 pass-spec = tie.close (tie.spec (λ c κs. search needs) (λ c κs. search needs) (λ c. search needs) (λ c. search needs)
-    (λ c. search needs) (λ c. search needs) (λ c. search needs) (λ c. search needs) mul-store-3 add-store-2 store-requires add-state
-    (λ c. search needs) (λ c. search needs) (λ c. search needs) returns)
+    (λ c. search needs) (λ c. search needs) (λ c. search needs) (λ c. search needs)
+    (λ c. omega (arith, passes-at (c .before .before) .room))
+    (λ c. omega (arith, passes-at (c .before .before) .room, c .before .before .ledger-index .ensures .1)) store-requires
+    (λ c. omega (arith, passes-at (c .before .before .before) .room)) (λ c. search needs) (λ c. search needs) (λ c. search needs)
+    returns)

@@ -1,15 +1,12 @@
 -- `pair_core::take` meets its contract. Assumes nothing.
-use Prim.Native.Nat.{_*_, ℕ}
-use Rattle.answers.specs.Answers.{answer}
-use Rattle.pair_core.specs.Layout.{acceptsPair, indexLength, indexOn, pairWordsChecker, recordsOn}
-use Rattle.inputs.proofs.Parts.{call-one, call-unaccepted}
-use Rattle.rules.specs.Calls.{Result, call, callOne, one}
+use Prim.Native.Nat.{_*_}
+use Rattle.pair_core.specs.Layout.{indexLength, indexOn, pairWordsChecker, recordsOn}
+use Rattle.inputs.proofs.Parts.{told-one, told-unaccepted}
+use Rattle.rules.specs.Calls.{one}
 use Rattle.table.proofs.Numbers.{index-none}
 use borrow.Author.Needs.{needs}
-use borrow.Author.Tests.{not-false, not-true}
-use mathlib.Core.Bool.{true}
-use mathlib.Core.List.{List}
-use mathlib.Core.Path.{_∙_, _≡_, ap, refl, sym}
+use borrow.Author.Tests.{not-false}
+use mathlib.Core.Path.{refl}
 use Rattle.pair_core.proofs.take.Statement.{statement}
 use Rattle.pair_core.proofs.take.Tie as tie
 
@@ -19,25 +16,18 @@ is-accepted-requires c κs = (refl, λ l p. index-none (c .before .before .befor
 returns : tie.Need-returns
 returns c =
     let a = c .before .before .before .before .before .before .before .args in
-    let e = call-unaccepted pairWordsChecker (a .state .now) (one (a .bytes .now))
-    (sym (c .before .before .is-accepted .ensures .0) ∙ not-true _ (c .if1 .taken)) in
-    (ap (λ (x : Result (List ℕ)). x .answer) (sym e), ap (λ (x : Result (List ℕ)). x .state) (sym e))
+    told-unaccepted pairWordsChecker (a .state .now) (one (a .bytes .now)) (c .before .before .is-accepted .ensures .0) (c .if1 .taken)
 
 step-requires : tie.Need-step-requires
 step-requires c κs = c .before .before .before .before .is-accepted .ensures .1 .0 (not-false _ (c .before .before .if1 .left))
 
 returns-2 : tie.Need-returns-2
-unfolding callOne
 returns-2 c =
-    let a = c .before .before .before .before .before .before .before .before .before .before .before .args in
-    let s = a .state .now in
-    let t : acceptsPair s ≡ true = sym (c .before .before .before .before .before .before .is-accepted .ensures .0) ∙ not-false _ (c
-    .before .before .before .before .if1 .left) in
-    let e : call pairWordsChecker s (one (a .bytes .now)) ≡ callOne pairWordsChecker s (a .bytes .now) =
-    call-one pairWordsChecker s (a .bytes .now) ∙ rw t in (
-      c .new .ensures ∙ ap (λ (n : ℕ). answer n 0) (c .before .step .ensures .0) ∙ ap (λ (x : Result (List ℕ)). x .answer) (sym e),
-      c .before .step .ensures .1 .0 ∙ ap (λ (x : Result (List ℕ)). x .state) (sym e),
-    )
+    let d = c .before .before .before .before in
+    let a = d .before .before .before .before .before .before .before .args in
+    let e = c .before .step .ensures in
+    told-one pairWordsChecker (a .state .now) (a .bytes .now) (d .before .before .is-accepted .ensures .0) (d .if1 .left) (e .0) (c .new .ensures)
+    (e .1 .0)
 
 pub take-spec : {M : Type 1} → statement M
 take-spec = tie.close (tie.spec (λ c. search needs) is-accepted-requires returns step-requires (λ c κs. search needs) returns-2)

@@ -16,9 +16,6 @@ returns c = c .balance-refused .ensures ∙ rw (sym (c .before .before .accepted
 accepted-at : (c : tie.Else1) → acceptsPair (c .before .before .before .before .before .args .t1 .words) ≡ true
 accepted-at c = sym (c .before .accepted .ensures) ∙ not-false _ (c .if1 .left)
 
-returns-2 : tie.Need-returns-2
-returns-2 c = c .balance-refused2 .ensures ∙ no-such-ledger _ (accepted-at (c .before .before)) _ _ (omega arith)
-
 balance-among-requires : tie.Need-balance-among-requires
 balance-among-requires c κs =
     let e = c .before .before .before .before .before in
@@ -29,6 +26,6 @@ returns-3 c = c .balance-among .ensures ∙ pair-balance-passed _ (accepted-at (
     (omega arith)
 
 pub balance-spec : {M : Type 1} → statement M
-balance-spec = tie.close (tie.spec (λ c κs. search needs) (λ c κs. search needs) returns (λ c κs. search needs) returns-2
-    (λ c. search needs) (λ c. search needs) (λ c. search needs) (λ c. search needs) (λ c. search needs) balance-among-requires
-    returns-3)
+balance-spec = tie.close (tie.spec (λ c κs. search needs) (λ c κs. search needs) returns (λ c κs. search needs)
+    (λ c. c .balance-refused2 .ensures ∙ no-such-ledger _ (accepted-at (c .before .before)) _ _ (omega arith)) (λ c. search needs)
+    (λ c. search needs) (λ c. search needs) (λ c. search needs) (λ c. search needs) balance-among-requires returns-3)

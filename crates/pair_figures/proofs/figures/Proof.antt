@@ -12,9 +12,6 @@ use native.Mathlib.Omega.{arith}
 use Rattle.pair_figures.proofs.figures.Statement.{statement}
 use Rattle.pair_figures.proofs.figures.Tie as tie
 
-returns : tie.Need-returns
-returns c = rw (sym (c .before .accepted .ensures) ∙ not-true _ (c .if1 .taken))
-
 -- the words that are asked
 abbrev wordsAt : tie.Else1 → List ℕ
 wordsAt c = c .before .before .before .before .before .args .t1 .words
@@ -23,11 +20,6 @@ wordsAt c = c .before .before .before .before .before .args .t1 .words
 accepted-at : (c : tie.Else1) → acceptsPair (wordsAt c) ≡ true
 accepted-at c = sym (c .before .accepted .ensures) ∙ not-false _ (c .if1 .left)
 
-add-balances-requires : tie.Need-add-balances-requires
-add-balances-requires c κs =
-    let w = pair-on-ledger _ (accepted-at (c .before .before .before .before .before .before)) 0 (omega arith) in
-    (w .0, omega arith, omega (arith, w .1))
-
 -- home's sum comes past the test
 abbrev pastHome : tie.After-add-balances → tie.Else1
 pastHome c = c .before .before .before .before .before .before .before
@@ -35,11 +27,6 @@ pastHome c = c .before .before .before .before .before .before .before
 -- it is home's total
 home-at : (c : tie.After-add-balances) → c .add-balances .result .low ≡ total (ledgerOn (wordsAt (pastHome c)) 0 .balances)
 home-at c = pair-total _ (accepted-at (pastHome c)) 0 (omega arith) (c .add-balances .ensures)
-
-add-balances-requires-2 : tie.Need-add-balances-requires-2
-add-balances-requires-2 c κs =
-    let w = pair-on-ledger _ (accepted-at (pastHome (c .before .before .before))) 1 (omega arith) in
-    (w .0, omega arith, omega (arith, w .1))
 
 -- far's sum comes past home's
 abbrev pastFar : tie.After-add-balances2 → tie.After-add-balances
@@ -66,5 +53,9 @@ returns-2 c =
     pair-figures-passed _ (accepted-at (pastHome h)) _ _ (home-at h) (far-at (c .before .before))
 
 pub figures-spec : {M : Type 1} → statement M
-figures-spec = tie.close (tie.spec (λ c κs. search needs) returns (λ c. search needs) (λ c. search needs) (λ c. search needs)
-    (λ c. search needs) (λ c. search needs) add-balances-requires (λ c. search needs) add-balances-requires-2 sub-t16 sub-t28 returns-2)
+figures-spec = tie.close (tie.spec (λ c κs. search needs) (λ c. rw (sym (c .before .accepted .ensures) ∙ not-true _ (c .if1 .taken)))
+    (λ c. search needs) (λ c. search needs) (λ c. search needs) (λ c. search needs) (λ c. search needs)
+    (λ c κs. omega (arith, pair-on-ledger _ (accepted-at (c .before .before .before .before .before .before)) 0 (omega arith)))
+    (λ c. search needs)
+    (λ c κs. omega (arith, pair-on-ledger _ (accepted-at (pastHome (c .before .before .before))) 1 (omega arith)))
+    sub-t16 sub-t28 returns-2)

@@ -16,15 +16,8 @@ returns c = pair-places-refused _ (sym (c .before .before .accepted .ensures) �
 accepted-at : (c : tie.Else1) → acceptsPair (c .before .before .before .before .before .args .t1 .words) ≡ true
 accepted-at c = sym (c .before .accepted .ensures) ∙ not-false _ (c .if1 .left)
 
-sub-t13 : tie.Need-sub-t13
-sub-t13 c = omega (arith, pair-held-fits _ (accepted-at (c .before .before)) 0 (omega arith))
-
-sub-t14 : tie.Need-sub-t14
-sub-t14 c = omega (arith, pair-held-fits _ (accepted-at (c .before .before)) 1 (omega arith))
-
-returns-2 : tie.Need-returns-2
-returns-2 c = pair-places-passed _ (accepted-at (c .before .before))
-
 pub places-left-spec : {M : Type 1} → statement M
 places-left-spec = tie.close (tie.spec (λ c κs. search needs) (λ c κs. search needs) returns (λ c. search needs) (λ c. search needs)
-    (λ c. search needs) (λ c. search needs) sub-t13 sub-t14 returns-2)
+    (λ c. search needs) (λ c. search needs) (λ c. omega (arith, pair-held-fits _ (accepted-at (c .before .before)) 0 (omega arith)))
+    (λ c. omega (arith, pair-held-fits _ (accepted-at (c .before .before)) 1 (omega arith)))
+    (λ c. pair-places-passed _ (accepted-at (c .before .before))))

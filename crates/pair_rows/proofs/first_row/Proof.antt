@@ -1,6 +1,7 @@
 -- `pair_rows::first_row` meets its contract. Assumes nothing.
-use Rattle.pair_rows.proofs.Opened.{home-low, opened-counts, opened-row}
-use Rattle.rules.specs.Lists.{total}
+use Rattle.pair_core.proofs.Opened.{opened-counts}
+use Rattle.pair_core.specs.Layout.{pairZeroWords}
+use Rattle.pair_rows.proofs.Opened.{FirstRow, first-row}
 use Rattle.rules.specs.PairValidator.{pairOpeningRefusal}
 use borrow.Author.Needs.{needs}
 use mathlib.Core.Path.{_∙_, _≡_, sym}
@@ -8,52 +9,32 @@ use native.Mathlib.Omega.{arith}
 use Rattle.pair_rows.proofs.first_row.Statement.{statement}
 use Rattle.pair_rows.proofs.first_row.Tie as tie
 
-returns : tie.Need-returns
-returns c = (c .before .before .pair-opening .ensures .0, λ e. absurd (c .if1 .taken e))
+open-requires : tie.Need-open-requires
+unfolding pairZeroWords
+open-requires c κs = c .before .before .before .pre
 
 -- the opening is accepted
 none-at : (c : tie.Else1) → pairOpeningRefusal (c .before .before .before .before .before .args .homes .now) (c .before .before .before
     .before .before .args .fars .now) ≡ 0
-none-at c = sym (c .before .before .pair-opening .ensures .0) ∙ c .if1 .left
-
-write-opening-requires : tie.Need-write-opening-requires
-write-opening-requires c κs =
-    let o = c .before .before .before .before .before .before in
-    let k = opened-counts (o .args .homes .now) (o .args .fars .now) (none-at (c .before)) in
-    (k .0, k .1, c .before .before .before .pair-opening .ensures .1 (c .before .if1 .left), o .pre)
+none-at c = sym (c .before .open .ensures .0) ∙ c .if1 .left
 
 add-balances-requires : tie.Need-add-balances-requires
 add-balances-requires c κs =
-    let o = c .before .before .before .before .before .before .before in
-    let k = opened-counts (o .args .homes .now) (o .args .fars .now) (none-at (c .before .before)) in
-    (omega arith, omega arith, omega (arith, k .0))
+    let a = c .before .before .before .before .before .args in
+    (omega arith, omega arith, omega (arith, opened-counts (a .homes .now) (a .fars .now) (none-at c) .0))
 
--- the low limb is home's total
-low-at : (c : tie.After-add-balances) → c .add-balances .result .low ≡ total (c .before .before .before .before .before .before .before
-    .before .args .homes .now)
-low-at c = home-low (c .before .before .before .before .before .before .before .before .args .homes .now) (c .before .before .before
-    .before .before .before .before .before .args .fars .now) (none-at (c .before .before .before)) (c .add-balances .ensures)
-
-sub-t11 : tie.Need-sub-t11
-sub-t11 c = omega (
-  arith,
-  low-at (c .before .before),
-  c .before .before .before .before .before .before .before .pair-opening .ensures
-      .1 (c .before .before .before .before .before .if1 .left),
-)
+-- its row
+row-at : (c : tie.After-add-balances) → FirstRow (c .before .before .before .before .before .before .args .homes .now) (c .before .before
+    .before .before .before .before .args .fars .now) (c .before .before .open .last .1 .1 .0) (c .add-balances .result .low)
+row-at c =
+    let a = c .before .before .before .before .before .before .args in
+    first-row (a .homes .now) (a .fars .now) (none-at (c .before)) (c .before .before .open .ensures .1) (c .add-balances .ensures)
 
 returns-2 : tie.Need-returns-2
 returns-2 c =
-    let o = c .before .before .before .before .before .before .before .before .before .before in
-    let s = c .before .before .before .before .before .before .before .pair-opening .ensures .1 (c .before .before .before .before
-    .before .if1 .left) in (
-      sym (none-at (c .before .before .before .before .before)),
-      λ e. (
-        opened-row (o .args .homes .now) (o .args .fars .now) (low-at (c
-            .before .before)) s,
-        c .before .before .before .write-opening .ensures,
-      ),
-    )
+    let w = row-at (c .before .before) in
+    (sym (none-at (c .before .before .before)), λ e. (w .row, w .words))
 
 pub first-row-spec : {M : Type 1} → statement M
-first-row-spec = tie.close (tie.spec (λ c κs. search needs) returns write-opening-requires add-balances-requires sub-t11 returns-2)
+first-row-spec = tie.close (tie.spec open-requires (λ c. (c .before .open .ensures .0, λ e. absurd (c .if1 .taken e)))
+    add-balances-requires (λ c. search needs) (λ c. row-at (c .before .before) .fits) returns-2)

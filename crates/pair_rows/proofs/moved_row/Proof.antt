@@ -13,35 +13,16 @@ home-pays : (c : tie.After-enum-told) → c .before .before .args .taken ≤ c .
 home-pays c = subst (λ (l : Ledger). c .before .before .args .taken ≤ totalIn (c .before .before .args .last) l) (c .enum-told .given
     .1) (c .before .before .pre .0)
 
-sub-home : tie.Need-sub-home
-sub-home c = home-pays (c .before)
-
-sub-t9 : tie.Need-sub-t9
-sub-t9 c = omega (arith, home-pays (c .before), c .before .before .before .pre .1)
-
-sub-t10 : tie.Need-sub-t10
-sub-t10 c = omega (arith, home-pays (c .before .before), c .before .before .before .before .pre .1)
-
 -- or far has
 far-pays : (c : tie.After-enum-told2) → c .before .before .args .taken ≤ c .before .before .args .last .far
 far-pays c = subst (λ (l : Ledger). c .before .before .args .taken ≤ totalIn (c .before .before .args .last) l) (c .enum-told2 .given
     .1) (c .before .before .pre .0)
 
-sub-far : tie.Need-sub-far
-sub-far c = far-pays (c .before)
-
-sub-t11 : tie.Need-sub-t11
-sub-t11 c = omega (arith, far-pays (c .before .before), c .before .before .before .before .pre .1)
-
-sub-t12 : tie.Need-sub-t12
-sub-t12 c = omega (arith, far-pays (c .before .before), c .before .before .before .before .pre .1)
-
-returns : tie.Need-returns
-returns c = rw (c .before .before .enum-told .given .1) refl
-
-returns-2 : tie.Need-returns-2
-returns-2 c = rw (c .before .before .enum-told2 .given .1) refl
-
 pub moved-row-spec : {M : Type 1} → statement M
-moved-row-spec = tie.close (tie.spec (λ c. search needs) sub-home (λ c. search needs) sub-t9 sub-t10 (λ c. search needs) sub-far
-    (λ c. search needs) sub-t11 sub-t12 returns returns-2)
+moved-row-spec = tie.close (tie.spec (λ c. search needs) (λ c. home-pays (c .before)) (λ c. search needs)
+    (λ c. omega (arith, home-pays (c .before), c .before .before .before .pre .1))
+    (λ c. omega (arith, home-pays (c .before .before), c .before .before .before .before .pre .1)) (λ c. search needs)
+    (λ c. far-pays (c .before)) (λ c. search needs)
+    (λ c. omega (arith, far-pays (c .before .before), c .before .before .before .before .pre .1))
+    (λ c. omega (arith, far-pays (c .before .before), c .before .before .before .before .pre .1))
+    (λ c. rw (c .before .before .enum-told .given .1) refl) (λ c. rw (c .before .before .enum-told2 .given .1) refl))

@@ -8,12 +8,8 @@ use Rattle.tables.specs.Columns.{fundsAt}
 use Rattle.record_refusals.proofs.funds_refusal.Statement.{statement}
 use Rattle.record_refusals.proofs.funds_refusal.Tie as tie
 
-returns : tie.Need-returns
-unfolding fundsAt
-returns c =
-    let c4 = c .before .before .before .before in
-    let a = c4 .args in
-    c .refusal-if .ensures ∙ ap (λ (b : ℕ). refuse (ltb b (a .r .amount)) 25 0) (c .before .before .balance-at .ensures)
-
 pub funds-refusal-spec : {M : Type 1} → statement M
-funds-refusal-spec = tie.close (tie.spec (λ c κs. search needs) (λ c κs. search needs) returns)
+unfolding fundsAt
+funds-refusal-spec = tie.close (tie.spec (λ c κs. search needs) (λ c κs. search needs) (λ c.
+    let a = c .before .before .before .before .args in
+    c .refusal-if .ensures ∙ ap (λ (b : ℕ). refuse (ltb b (a .r .amount)) 25 0) (c .before .before .balance-at .ensures)))

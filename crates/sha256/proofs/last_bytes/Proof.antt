@@ -6,28 +6,12 @@ use Rattle.sha256.proofs.Laws.{rest-padded}
 use Rattle.sha256.proofs.last_bytes.Statement.{statement}
 use Rattle.sha256.proofs.last_bytes.Tie as tie
 
-part-b-end : tie.Need-part-b-end
-part-b-end c = simp length-set (omega (arith, c .before .before .before .copy .kept .1 .0))
-
-returns : tie.Need-returns
-returns c =
-    let c4 = c .before .before .before .before in
-    let c5 = c4 .before in
-    let p = c5 .before in
-    let a = p .before .before .before in
-    rest-padded
-    (a .args .rest .now)
-    (a .args .n)
-    (p .copy .result)
-    _
-    _
-    (a .pre)
-    (p .copy .ensures .0)
-    (p .copy .ensures .1)
-    (c4 .u64-bytes .ensures)
-    (c .before .copy2 .ensures .1)
-
 pub last-bytes-spec : {M : Type 1} → statement M
-last-bytes-spec = tie.close (tie.spec (λ c. search needs) (λ c κs. search needs) (λ c. search needs) (λ c. search needs)
-    (λ c. search needs) (λ c. search needs) (λ c. search needs) (λ c κs. search needs) (λ c. search needs) (λ c. search needs)
-    (λ c. search needs) part-b-end (λ c κs. search needs) returns)
+last-bytes-spec = tie.close (tie.spec (λ c. search needs) (λ c κs. search needs) (λ c. search needs) (λ c. search needs) (λ c. search needs)
+    (λ c. search needs) (λ c. search needs) (λ c κs. search needs) (λ c. search needs) (λ c. search needs) (λ c. search needs)
+    (λ c. simp length-set (omega (arith, c .before .before .before .copy .kept .1 .0))) (λ c κs. search needs) (λ c.
+    let c4 = c .before .before .before .before in
+    let p = c4 .before .before in
+    let a = p .before .before .before in
+    rest-padded (a .args .rest .now) (a .args .n) (p .copy .result) _ _ (a .pre) (p .copy .ensures .0) (p .copy .ensures .1)
+    (c4 .u64-bytes .ensures) (c .before .copy2 .ensures .1)))

@@ -4,10 +4,7 @@ use Rattle.sha256_core.specs.Sha256.{sums}
 use Rattle.sha256_core.proofs.add_words.Statement.{statement}
 use Rattle.sha256_core.proofs.add_words.Tie as tie
 
-returns : tie.Need-returns
-unfolding sums
-returns c = cc
-
 pub add-words-spec : {M : Type 1} → statement M
+unfolding sums
 add-words-spec = tie.close (tie.spec (λ c κs. search needs) (λ c κs. search needs) (λ c κs. search needs) (λ c κs. search needs)
-    (λ c κs. search needs) (λ c κs. search needs) (λ c κs. search needs) (λ c κs. search needs) returns)
+    (λ c κs. search needs) (λ c κs. search needs) (λ c κs. search needs) (λ c κs. search needs) (λ c. cc))

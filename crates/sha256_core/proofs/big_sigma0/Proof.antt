@@ -4,9 +4,6 @@ use Rattle.sha256_core.specs.Sha256.{Σ₀}
 use Rattle.sha256_core.proofs.big_sigma0.Statement.{statement}
 use Rattle.sha256_core.proofs.big_sigma0.Tie as tie
 
-returns : tie.Need-returns
-unfolding Σ₀
-returns c = refl
-
 pub big-sigma0-spec : {M : Type 1} → statement M
-big-sigma0-spec = tie.close (tie.spec returns)
+unfolding Σ₀
+big-sigma0-spec = tie.close (tie.spec (λ c. refl))

@@ -4,9 +4,6 @@ use Rattle.sha256_core.specs.Sha256.{Ch}
 use Rattle.sha256_core.proofs.ch.Statement.{statement}
 use Rattle.sha256_core.proofs.ch.Tie as tie
 
-returns : tie.Need-returns
-unfolding Ch
-returns c = refl
-
 pub ch-spec : {M : Type 1} → statement M
-ch-spec = tie.close (tie.spec returns)
+unfolding Ch
+ch-spec = tie.close (tie.spec (λ c. refl))

@@ -4,10 +4,7 @@ use Rattle.sha256_core.specs.Sha256.{T₁}
 use Rattle.sha256_core.proofs.first_sum.Statement.{statement}
 use Rattle.sha256_core.proofs.first_sum.Tie as tie
 
-returns : tie.Need-returns
-unfolding T₁
-returns c = cc
-
 pub first-sum-spec : {M : Type 1} → statement M
+unfolding T₁
 first-sum-spec = tie.close (tie.spec (λ c κs. search needs) (λ c κs. search needs) (λ c κs. search needs) (λ c κs. search needs)
-    (λ c κs. search needs) (λ c κs. search needs) returns)
+    (λ c κs. search needs) (λ c κs. search needs) (λ c. cc))

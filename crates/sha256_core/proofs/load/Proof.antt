@@ -3,11 +3,8 @@ use borrow.Author.Needs.{needs}
 use Rattle.sha256_core.proofs.load.Statement.{statement}
 use Rattle.sha256_core.proofs.load.Tie as tie
 
-returns : tie.Need-returns
-returns c = cc
-
 pub load-spec : {M : Type 1} → statement M
 load-spec = tie.close (tie.spec (λ c κs. search needs) (λ c κs. search needs) (λ c κs. search needs) (λ c κs. search needs)
     (λ c κs. search needs) (λ c κs. search needs) (λ c κs. search needs) (λ c κs. search needs) (λ c κs. search needs)
     (λ c κs. search needs) (λ c κs. search needs) (λ c κs. search needs) (λ c κs. search needs) (λ c κs. search needs)
-    (λ c κs. search needs) (λ c κs. search needs) returns)
+    (λ c κs. search needs) (λ c κs. search needs) (λ c. cc))

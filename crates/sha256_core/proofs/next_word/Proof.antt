@@ -4,10 +4,7 @@ use Rattle.sha256_core.specs.Sixteen.{nextOf}
 use Rattle.sha256_core.proofs.next_word.Statement.{statement}
 use Rattle.sha256_core.proofs.next_word.Tie as tie
 
-returns : tie.Need-returns
-unfolding nextOf
-returns c = cc
-
 pub next-word-spec : {M : Type 1} → statement M
+unfolding nextOf
 next-word-spec = tie.close (tie.spec (λ c κs. search needs) (λ c κs. search needs) (λ c κs. search needs) (λ c κs. search needs)
-    (λ c κs. search needs) returns)
+    (λ c κs. search needs) (λ c. cc))

@@ -3,14 +3,12 @@ use borrow.Author.Needs.{needs}
 use Rattle.sha256_core.proofs.next_words.Statement.{statement}
 use Rattle.sha256_core.proofs.next_words.Tie as tie
 
-returns : tie.Need-returns
-returns c =
-    let c3 = c .before .before .before in
-    let c4 = c3 .before in
-    let c5 = c4 .before in
-    let c6 = c5 .before in
-    let c7 = c6 .before in
-    let p = c7 .before in
+pub next-words-spec : {M : Type 1} → statement M
+next-words-spec = tie.close (tie.spec (λ c κs. search needs) (λ c κs. search needs) (λ c κs. search needs) (λ c κs. search needs)
+    (λ c κs. search needs) (λ c κs. search needs) (λ c κs. search needs) (λ c κs. search needs) (λ c κs. search needs)
+    (λ c κs. search needs) (λ c κs. search needs) (λ c κs. search needs) (λ c κs. search needs) (λ c κs. search needs)
+    (λ c κs. search needs) (λ c κs. search needs) (λ c.
+    let p = c .before .before .before .before .before .before .before .before in
     record {
       f0 = p .before .before .before .before .before .before .before .next-word .ensures;
       f1 = p .before .before .before .before .before .before .next-word2 .ensures;
@@ -20,18 +18,12 @@ returns c =
       f5 = p .before .before .next-word6 .ensures;
       f6 = p .before .next-word7 .ensures;
       f7 = p .next-word8 .ensures;
-      f8 = c7 .next-word9 .ensures;
-      f9 = c6 .next-word10 .ensures;
-      f10 = c5 .next-word11 .ensures;
-      f11 = c4 .next-word12 .ensures;
-      f12 = c3 .next-word13 .ensures;
+      f8 = c .before .before .before .before .before .before .before .next-word9 .ensures;
+      f9 = c .before .before .before .before .before .before .next-word10 .ensures;
+      f10 = c .before .before .before .before .before .next-word11 .ensures;
+      f11 = c .before .before .before .before .next-word12 .ensures;
+      f12 = c .before .before .before .next-word13 .ensures;
       f13 = c .before .before .next-word14 .ensures;
       f14 = c .before .next-word15 .ensures;
       f15 = c .next-word16 .ensures;
-    }
-
-pub next-words-spec : {M : Type 1} → statement M
-next-words-spec = tie.close (tie.spec (λ c κs. search needs) (λ c κs. search needs) (λ c κs. search needs) (λ c κs. search needs)
-    (λ c κs. search needs) (λ c κs. search needs) (λ c κs. search needs) (λ c κs. search needs) (λ c κs. search needs)
-    (λ c κs. search needs) (λ c κs. search needs) (λ c κs. search needs) (λ c κs. search needs) (λ c κs. search needs)
-    (λ c κs. search needs) (λ c κs. search needs) returns)
+    }))

@@ -4,9 +4,6 @@ use Rattle.sha256_core.specs.Sha256.{T₂}
 use Rattle.sha256_core.proofs.second_sum.Statement.{statement}
 use Rattle.sha256_core.proofs.second_sum.Tie as tie
 
-returns : tie.Need-returns
-unfolding T₂
-returns c = search needs
-
 pub second-sum-spec : {M : Type 1} → statement M
-second-sum-spec = tie.close (tie.spec (λ c κs. search needs) (λ c κs. search needs) (λ c κs. search needs) returns)
+unfolding T₂
+second-sum-spec = tie.close (tie.spec (λ c κs. search needs) (λ c κs. search needs) (λ c κs. search needs) (λ c. search needs))

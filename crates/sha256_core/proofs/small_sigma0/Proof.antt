@@ -4,9 +4,6 @@ use Rattle.sha256_core.specs.Sha256.{σ₀}
 use Rattle.sha256_core.proofs.small_sigma0.Statement.{statement}
 use Rattle.sha256_core.proofs.small_sigma0.Tie as tie
 
-returns : tie.Need-returns
-unfolding σ₀
-returns c = refl
-
 pub small-sigma0-spec : {M : Type 1} → statement M
-small-sigma0-spec = tie.close (tie.spec returns)
+unfolding σ₀
+small-sigma0-spec = tie.close (tie.spec (λ c. refl))

@@ -4,9 +4,6 @@ use Rattle.sha256_core.specs.Sha256.{σ₁}
 use Rattle.sha256_core.proofs.small_sigma1.Statement.{statement}
 use Rattle.sha256_core.proofs.small_sigma1.Tie as tie
 
-returns : tie.Need-returns
-unfolding σ₁
-returns c = refl
-
 pub small-sigma1-spec : {M : Type 1} → statement M
-small-sigma1-spec = tie.close (tie.spec returns)
+unfolding σ₁
+small-sigma1-spec = tie.close (tie.spec (λ c. refl))

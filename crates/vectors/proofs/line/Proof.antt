@@ -10,11 +10,6 @@ use borrow.Author.Needs.{needs}
 use Rattle.vectors.proofs.line.Statement.{statement}
 use Rattle.vectors.proofs.line.Tie as tie
 
-part-out-end : tie.Need-part-out-end
-part-out-end c =
-    let c4 = c .before .before .before .before in
-    simp length-set (omega (arith, c4 .copy .kept .1 .0))
-
 -- the line of 82 bytes, with ys in it from index n + 1 on, keeps its length
 out-length :
     (n : ℕ)
@@ -31,11 +26,9 @@ array-share-prefix-out c =
     let q = c .before .copy2 in
     simp length-set (omega (arith, out-length (p .result) (p .last .1 .0) (q .last .1 .0) (p .kept .1 .0) (q .kept .1 .0)))
 
-slice-aggregate-write-all : tie.Need-slice-aggregate-write-all
-slice-aggregate-write-all c = sym (length-take-le _ _ (array-share-prefix-out (c .before)))
-
 pub line-spec : {M : Type 1} → statement M
-line-spec = tie.close (tie.spec (λ c. search needs) (λ c κs. search needs) (λ c. search needs) (λ c. search needs)
-    (λ c κs. search needs) (λ c κs. search needs) (λ c. search needs) (λ c. search needs) (λ c. search needs) part-out-end
-    (λ c κs. search needs) (λ c. search needs) (λ c. search needs) (λ c. search needs) array-share-prefix-out slice-aggregate-write-all
+line-spec = tie.close (tie.spec (λ c. search needs) (λ c κs. search needs) (λ c. search needs) (λ c. search needs) (λ c κs. search needs)
+    (λ c κs. search needs) (λ c. search needs) (λ c. search needs) (λ c. search needs)
+    (λ c. simp length-set (omega (arith, c .before .before .before .before .copy .kept .1 .0))) (λ c κs. search needs) (λ c. search needs)
+    (λ c. search needs) (λ c. search needs) array-share-prefix-out (λ c. sym (length-take-le _ _ (array-share-prefix-out (c .before))))
     (λ c κs. search needs) (λ c. search needs))

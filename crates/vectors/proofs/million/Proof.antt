@@ -6,8 +6,6 @@ use borrow.Author.Needs.{needs}
 use Rattle.vectors.proofs.million.Statement.{statement}
 use Rattle.vectors.proofs.million.Tie as tie
 
-slice-aggregate-line-2 : tie.Need-slice-aggregate-line-2
-slice-aggregate-line-2 c = sym (length-replicate {A = ℕ} 1000000 97)
-
 pub million-spec : {M : Type 1} → statement M
-million-spec = tie.close (tie.spec (λ c. search needs) slice-aggregate-line-2 (λ c κs. search needs) (λ c. search needs))
+million-spec = tie.close (tie.spec (λ c. search needs) (λ c. sym (length-replicate {A = ℕ} 1000000 97)) (λ c κs. search needs)
+    (λ c. search needs))

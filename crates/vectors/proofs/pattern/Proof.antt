@@ -6,12 +6,7 @@ use borrow.Author.Needs.{needs}
 use Rattle.vectors.proofs.pattern.Statement.{statement}
 use Rattle.vectors.proofs.pattern.Tie as tie
 
-abbrev Inv-loop : tie.InvT-loop
-Inv-loop p₀ x₀ i₀ p x i = (length p ≡ 130) × (x < 256) × (i ≤ 130)
-
-abbrev μ-loop : tie.MeasureT-loop
-μ-loop p₀ x₀ i₀ p x i = 130 - i
-
 pub pattern-spec : {M : Type 1} → statement M
-pattern-spec = tie.close (tie.spec Inv-loop μ-loop (λ c. search needs) (λ c. search needs) (λ c. search needs) (λ c. search needs)
-    (λ c. search needs) (λ c. search needs) (λ c. search needs) (λ c. search needs))
+pattern-spec = tie.close (tie.spec (λ p₀ x₀ i₀ p x i. (length p ≡ 130) × (x < 256) × (i ≤ 130)) (λ p₀ x₀ i₀ p x i. 130 - i)
+    (λ c. search needs) (λ c. search needs) (λ c. search needs) (λ c. search needs) (λ c. search needs) (λ c. search needs)
+    (λ c. search needs) (λ c. search needs))

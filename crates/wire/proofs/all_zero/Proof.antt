@@ -4,42 +4,23 @@ use mathlib.Core.Path.{_≡_, refl, sym, _∙_}
 use native.Mathlib.Omega.{arith}
 use lib.ListN.{take, drop}
 use borrow.Author.Needs.{needs}
-use Rattle.wire.proofs.Lists.{zeros-here, zeros-on, zeros-end}
+use borrow.Author.Tests.{eq-eqb, ne-eqb}
+use Rattle.wire.proofs.Lists.{zeros-cons, zeros-end}
 use Rattle.wire.specs.BigEndian.{zeros}
 use Rattle.wire.proofs.all_zero.Statement.{statement}
 use Rattle.wire.proofs.all_zero.Tie as tie
 
-abbrev Inv-loop : tie.InvT-loop
-Inv-loop s a e i₀ i = (a ≤ i) × (i ≤ e) × (zeros (take (e - a) (drop a s)) ≡ zeros (take (e - i) (drop i s)))
-
-abbrev μ-loop : tie.MeasureT-loop
-μ-loop s a e i₀ i = e - i
-
-loop-holds : tie.Need-loop-holds Inv-loop μ-loop
-loop-holds c = (search needs, search needs, refl)
-
-returns : tie.Need-returns Inv-loop μ-loop
-returns c =
-    let c3 = c .before .before .before in
-    let c4 = c3 .before in
-    let a = c4 .args in
-    let l = c3 .loop in
-    sym (l .inv .2 ∙ zeros-here (a .s .now) (l .i) (a .e) (omega arith) (omega arith) (c .if1 .taken))
-
-loop-again : tie.Need-loop-again Inv-loop μ-loop
-loop-again c =
-    let c3 = c .before .before .before in
-    let c4 = c3 .before in
-    let a = c4 .args in
-    let l = c3 .loop in
-    (search needs, search needs, l .inv .2 ∙ zeros-on (a .s .now) (l .i) (a .e) (omega arith) (omega arith) (c .if1 .left))
-
-returns-2 : tie.Need-returns-2 Inv-loop μ-loop
-returns-2 c =
-    let a = c .before .before .args in
-    let l = c .before .loop in
-    sym (l .inv .2 ∙ zeros-end (a .s .now) (l .i) (a .e) (omega arith))
-
 pub all-zero-spec : {M : Type 1} → statement M
-all-zero-spec = tie.close (tie.spec Inv-loop μ-loop loop-holds (λ c. search needs) returns (λ c. search needs) (λ c. search needs)
-    loop-again returns-2)
+all-zero-spec = tie.close (tie.spec (λ s a e i₀ i. (a ≤ i) × (i ≤ e) × (zeros (take (e - a) (drop a s)) ≡ zeros (take (e - i) (drop i s))))
+    (λ s a e i₀ i. e - i) (λ c. (search needs, search needs, refl)) (λ c. search needs)
+    (λ c.
+    let c3 = c .before .before .before in
+    let z = c3 .loop .inv .2 ∙ zeros-cons (c3 .before .args .s .now) (c3 .loop .i) (c3 .before .args .e) (omega arith) (omega arith) in
+    sym (z ∙ rw (ne-eqb _ _ (c .if1 .taken))))
+    (λ c. search needs) (λ c. search needs) (λ c.
+    let c3 = c .before .before .before in
+    let z = c3 .loop .inv .2 ∙ zeros-cons (c3 .before .args .s .now) (c3 .loop .i) (c3 .before .args .e) (omega arith) (omega arith) in
+    (search needs, search needs, z ∙ rw (eq-eqb _ _ (c .if1 .left))))
+    (λ c.
+    let c1 = c .before in
+    sym (c1 .loop .inv .2 ∙ zeros-end (c1 .before .args .s .now) (c1 .loop .i) (c1 .before .args .e) (omega arith))))

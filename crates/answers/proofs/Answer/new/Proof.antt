@@ -4,9 +4,5 @@ use Rattle.answers.proofs.Answers.{answer-refused}
 use Rattle.answers.proofs.Answer.new.Statement.{statement}
 use Rattle.answers.proofs.Answer.new.Tie as tie
 
-returns-2 : tie.Need-returns-2
-returns-2 c =
-    answer-refused _ _ (c .if1 .left)
-
 pub new-spec : {M : Type 1} → statement M
-new-spec = tie.close (tie.spec (λ c. search needs) returns-2)
+new-spec = tie.close (tie.spec (λ c. search needs) (λ c. answer-refused _ _ (c .if1 .left)))

@@ -1,13 +1,13 @@
--- `pair_core::is_ledger_backed` meets its contract. Assumes nothing.
+-- `pair_core::crossings_on` meets its contract. Assumes nothing.
 use Prim.Native.Nat.{_-_, _<_}
 use Rattle.pair_core.proofs.Ledgers.{bounds-of, index-within, records-within}
 use borrow.Author.Needs.{needs}
 use native.Mathlib.Omega.{arith}
-use Rattle.pair_core.proofs.is_ledger_backed.Statement.{statement}
-use Rattle.pair_core.proofs.is_ledger_backed.Tie as tie
+use Rattle.pair_core.proofs.crossings_on.Statement.{statement}
+use Rattle.pair_core.proofs.crossings_on.Tie as tie
 
-all-backed-requires : tie.Need-all-backed-requires
-all-backed-requires c κs =
+add-crossings-requires : tie.Need-add-crossings-requires
+add-crossings-requires c κs =
     let p = c .before .before .before .before .pre in
     let s = c .before .before .before .before .args .s .now in
     let l = c .before .before .before .before .args .l in
@@ -15,12 +15,13 @@ all-backed-requires c κs =
     let h : 1 - l < 2 = omega arith in (
       records-within s (p .0) b l (p .3),
       records-within s (p .0) b (1 - l) h,
+      b .room l (p .3),
       omega (arith, index-within s (p .0) b (1 - l) h, p .2),
       p .4 (1 - l) h,
       omega arith,
     )
 
-pub is-ledger-backed-spec : {M : Type 1} → statement M
-is-ledger-backed-spec = tie.close (tie.spec (λ c. search needs) (λ c. search needs) (λ c. search needs) (λ c. search needs)
+pub crossings-on-spec : {M : Type 1} → statement M
+crossings-on-spec = tie.close (tie.spec (λ c. search needs) (λ c. search needs) (λ c. search needs) (λ c. search needs)
     (λ c. search needs) (λ c. search needs) (λ c. search needs) (λ c. search needs) (λ c. search needs) (λ c. search needs)
-    all-backed-requires (λ c. search needs))
+    add-crossings-requires (λ c. search needs))

@@ -1,0 +1,108 @@
+-- The words of an opening: what the stores leave in words of zeros, what they are as the rules' state, and that they are accepted; and
+-- the words beside a refused one. Assumes nothing.
+use Prim.Native.Nat.{_*_, _+_, _≤_, ℕ}
+use mathlib.Core.Bool.{false}
+use mathlib.Core.List.{List, [], _++_, _∷_}
+use mathlib.Core.Path.{_∙_, _≡_, ap, refl}
+use native.Mathlib.Omega.{arith}
+use lib.ListN.{drop, getD, length, length-replicate, replicate, replicate-append-replicate, set, take}
+use borrow.Author.Tests.{leb-true}
+use Rattle.home_core.proofs.Accept.{HomeSound}
+use Rattle.home_core.specs.Layout.{acceptsHome, balancesFrom, farsWord, homeBounds, homeOpenedWords, homeViewOf, homeZeroWords}
+use Rattle.home_core.specs.Layout.{homesWord, poolWord, supplyWord}
+use Rattle.ledgers.specs.Limits.{accountLimit, capacity, maxAmount}
+use Rattle.rules.proofs.HomeAccepted.{home-opened-accepted}
+use Rattle.rules.proofs.PairConserved.{opening-none}
+use Rattle.rules.specs.HomeValidator.{homeAccepts, homeOpened, homeOpeningRefusal}
+use Rattle.rules.specs.Lists.{total}
+use Rattle.rules.specs.PairValidator.{countAllowed, supplyAllowed}
+use Rattle.table.specs.Table.{ledgerIn, recordsFrom}
+use Rattle.table_laws.proofs.Openings.{Stands, copied, count-facts, stands, stored-behind}
+use Rattle.tables.specs.Columns.{padded}
+use Rattle.tables.specs.Places.{allAt, listAt}
+use Rattle.wire.proofs.Lists.{every-not}
+
+-- ## The words
+
+-- words of zeros, in the parts that an opening writes
+zeros-split : (a b c : ℕ) → replicate {A = ℕ} (a + (b + c)) 0 ≡ replicate a 0 ++ (replicate b 0 ++ replicate c 0)
+zeros-split a b c = simp replicate-append-replicate
+
+-- what the stores leave behind other words
+stores-leave : (z : List ℕ) → length z ≡ balancesFrom → (homes : List ℕ) → length homes ≤ accountLimit → (s first : List ℕ)
+    → (supply pool n m : ℕ) → s ≡ z ++ (replicate accountLimit 0 ++ replicate 5 0)
+    → first ≡ take balancesFrom s ++ (homes ++ drop (balancesFrom + length homes) s)
+    → set (set (set (set first supplyWord supply) poolWord pool) homesWord n) farsWord m
+    ≡ z ++ (padded homes ++ supply ∷ pool ∷ n ∷ m ∷ 0 ∷ [])
+stores-leave z e homes h s first supply pool n m q a =
+    rw (
+      a,
+      q,
+      copied z balancesFrom e homes h (replicate 5 0),
+      stored-behind z balancesFrom e homes h (0 ∷ 0 ∷ 0 ∷ 0 ∷ 0 ∷ []) 0 supply,
+      stored-behind z balancesFrom e homes h (supply ∷ 0 ∷ 0 ∷ 0 ∷ 0 ∷ []) 1 pool,
+      stored-behind z balancesFrom e homes h (supply ∷ pool ∷ 0 ∷ 0 ∷ 0 ∷ []) 2 n,
+      stored-behind z balancesFrom e homes h (supply ∷ pool ∷ n ∷ 0 ∷ 0 ∷ []) 3 m,
+    )
+
+module _ (homes : List ℕ) (fars farTotal : ℕ) where
+  -- the words of an opening are what the stores leave in words of zeros
+  pub opened-by : length homes ≤ accountLimit → (s first : List ℕ) (supply : ℕ) → s ≡ homeZeroWords → supply ≡ total homes + farTotal
+      → first ≡ take balancesFrom s ++ (homes ++ drop (balancesFrom + length homes) s)
+      → set (set (set (set first supplyWord supply) poolWord farTotal) homesWord (length homes)) farsWord fars
+      ≡ homeOpenedWords homes fars farTotal
+  unfolding homeOpenedWords homeZeroWords
+  opened-by h s first supply q u a =
+      stores-leave (replicate (4 * capacity) 0) (length-replicate {A = ℕ} (4 * capacity) 0) homes h s first supply farTotal
+      (length homes) fars (q ∙ zeros-split (4 * capacity) accountLimit 5) a
+      ∙ ap (λ (n : ℕ). replicate (4 * capacity) 0 ++ (padded homes ++ n ∷ farTotal ∷ length homes ∷ fars ∷ 0 ∷ [])) u
+
+  -- ## An accepted opening
+
+  module _ (n : homeOpeningRefusal homes fars farTotal ≡ 0) where
+    -- its number of home accounts is within the limit
+    pub opened-count : length homes ≤ accountLimit
+    opened-count = count-facts (length homes) (opening-none (length homes) fars (total homes + farTotal) n .home-count) .1
+
+    -- its words
+    abbrev opened : List ℕ
+    opened = homeOpenedWords homes fars farTotal
+
+    -- the last five
+    abbrev scalars : List ℕ
+    scalars = (total homes + farTotal) ∷ farTotal ∷ length homes ∷ fars ∷ 0 ∷ []
+
+    -- the balances stand there
+    opened-stand : Stands opened balancesFrom homes scalars
+    unfolding homeOpenedWords
+    opened-stand =
+        stands (replicate (4 * capacity) 0) balancesFrom (length-replicate {A = ℕ} (4 * capacity) 0) homes opened-count scalars
+
+    -- each of the last five
+    last : (k : ℕ) → getD opened (supplyWord + k) 0 ≡ getD scalars k 0
+    last = opened-stand .behind
+
+    -- they are, seen as the rules' state, the rules' opened state
+    pub opened-view : homeViewOf opened ≡ homeOpened homes fars farTotal
+    unfolding ledgerIn recordsFrom listAt
+    opened-view = rw (last 0, last 1, last 2, last 3, last 4, opened-stand .balances)
+
+    -- so they are sound
+    pub opened-sound : HomeSound opened
+    unfolding supplyAllowed allAt
+    opened-sound =
+        let o = opening-none (length homes) fars (total homes + farTotal) n in
+        let h = count-facts (length homes) (o .home-count) in
+        let f = count-facts fars (o .far-count) in
+        record {
+          long = opened-stand .long;
+          bounds = omega (arith, last 0, last 2, last 3, last 4, h, f, leb-true (total homes + farTotal) maxAmount (o .supply-fits));
+          zeros = rw (last 2) (opened-stand .zeros);
+          reads = rw (last 4);
+          accepted = ap (homeAccepts capacity) opened-view ∙ home-opened-accepted capacity homes fars farTotal n;
+        }
+
+-- the all-zero words, beside a refused opening, are refused by every call
+pub zero-refused : acceptsHome homeZeroWords ≡ false
+unfolding acceptsHome homeBounds countAllowed homeZeroWords
+zero-refused = every-not 1 _ (every-not 0 _ (every-not 0 _ refl))

@@ -1,3 +1,0 @@
--- The bytes of a call. Assumes nothing.
-
-pub mod Inputs

@@ -1,0 +1,146 @@
+-- The words of an opening: what the stores leave in words of zeros, what they are as the rules' state, and that they are accepted; and
+-- the words beside a refused one. Assumes nothing.
+use Prim.Native.Nat.{_*_, _+_, _<_, _≤_, ℕ}
+use mathlib.Core.Bool.{false, true}
+use mathlib.Core.List.{List, [], _++_, _∷_, append-assoc}
+use mathlib.Core.Path.{_∙_, _≡_, ap, refl, subst, sym}
+use native.Mathlib.Omega.{arith}
+use lib.ListN.{drop, getD, length, length-replicate, replicate, replicate-append-replicate, set, take}
+use Rattle.ledgers.specs.Limits.{accountLimit, capacity}
+use Rattle.pair_core.proofs.Accept.{PairSound, sound-accepts}
+use Rattle.pair_core.proofs.Ledgers.{by-byte}
+use Rattle.pair_core.specs.Layout.{PairReady, acceptsPair, accountsOn, accountsWord, balancesOn, countOn, formedOn, indexLength, indexOn}
+use Rattle.pair_core.specs.Layout.{pairBounds, pairOpenedWords, pairViewOf, pairZeroWords, recordsOn, supplyWord, zeroBeyond}
+use Rattle.rules.proofs.PairConserved.{opening-none, pair-opened-accepted}
+use Rattle.rules.specs.Lists.{total}
+use Rattle.rules.specs.PairValidator.{countAllowed, pairAccepts, pairOpened, pairOpeningRefusal}
+use Rattle.table.proofs.Numbers.{index-none}
+use Rattle.table.specs.Table.{IndexOf, ledgerIn, recordsFrom}
+use Rattle.table_laws.proofs.Openings.{Stands, copied, count-facts, front-long, stands, stored-behind}
+use Rattle.tables.specs.Columns.{padded}
+use Rattle.tables.specs.Places.{allAt, listAt}
+use Rattle.wire.proofs.Lists.{every-not}
+
+-- ## The words
+
+-- words of zeros, in the parts that an opening writes
+zeros-split : (a b c : ℕ)
+    → replicate {A = ℕ} (a + (b + (b + c))) 0 ≡ replicate a 0 ++ (replicate b 0 ++ (replicate b 0 ++ replicate c 0))
+zeros-split a b c = simp replicate-append-replicate
+
+module _ (homes fars : List ℕ) (h : length homes ≤ accountLimit) (f : length fars ≤ accountLimit) where
+  module _ (z : List ℕ) (e : length z ≡ balancesOn 0) where
+    -- both ledgers' balances, behind other words
+    both-stand : (rest : List ℕ)
+        → Stands (z ++ (padded homes ++ (padded fars ++ rest))) (balancesOn 0) homes (padded fars ++ rest)
+        × Stands (z ++ (padded homes ++ (padded fars ++ rest))) (balancesOn 1) fars rest
+    both-stand rest = (
+      stands z (balancesOn 0) e homes h (padded fars ++ rest),
+      rw (append-assoc z (padded homes) (padded fars ++ rest)) at
+          (stands (z ++ padded homes) (balancesOn 1) (front-long z (balancesOn 0) e homes h) fars f rest),
+    )
+
+    -- what the stores leave behind them
+    stores-leave : (s first second : List ℕ) (supply n m : ℕ)
+        → s ≡ z ++ (replicate accountLimit 0 ++ (replicate accountLimit 0 ++ replicate 5 0))
+        → first ≡ take (balancesOn 0) s ++ (homes ++ drop (balancesOn 0 + length homes) s)
+        → second ≡ take (balancesOn 1) first ++ (fars ++ drop (balancesOn 1 + length fars) first)
+        → set (set (set second supplyWord supply) (accountsWord 0) n) (accountsWord 1) m
+        ≡ z ++ (padded homes ++ (padded fars ++ supply ∷ n ∷ m ∷ 0 ∷ 0 ∷ []))
+    stores-leave s first second supply n m q a b =
+        let l = front-long z (balancesOn 0) e homes h in
+        rw (
+          b,
+          a,
+          q,
+          copied z (balancesOn 0) e homes h (replicate accountLimit 0 ++ replicate 5 0),
+          ← append-assoc z (padded homes) (replicate accountLimit 0 ++ replicate 5 0),
+          copied (z ++ padded homes) (balancesOn 1) l fars f (replicate 5 0),
+          stored-behind (z ++ padded homes) (balancesOn 1) l fars f (0 ∷ 0 ∷ 0 ∷ 0 ∷ 0 ∷ []) 0 supply,
+          stored-behind (z ++ padded homes) (balancesOn 1) l fars f (supply ∷ 0 ∷ 0 ∷ 0 ∷ 0 ∷ []) 1 n,
+          stored-behind (z ++ padded homes) (balancesOn 1) l fars f (supply ∷ n ∷ 0 ∷ 0 ∷ 0 ∷ []) 2 m,
+        )
+        (append-assoc z (padded homes) (padded fars ++ supply ∷ n ∷ m ∷ 0 ∷ 0 ∷ []))
+
+  -- the words of an opening are what the stores leave in words of zeros
+  pub opened-by : (s first second : List ℕ) (supply : ℕ) → s ≡ pairZeroWords → supply ≡ total homes + total fars
+      → first ≡ take (balancesOn 0) s ++ (homes ++ drop (balancesOn 0 + length homes) s)
+      → second ≡ take (balancesOn 1) first ++ (fars ++ drop (balancesOn 1 + length fars) first)
+      → set (set (set second supplyWord supply) (accountsWord 0) (length homes)) (accountsWord 1) (length fars)
+      ≡ pairOpenedWords homes fars
+  unfolding pairOpenedWords pairZeroWords
+  opened-by s first second supply q u a b =
+      stores-leave (replicate (8 * capacity) 0) (length-replicate {A = ℕ} (8 * capacity) 0) s first second supply (length homes)
+      (length fars) (q ∙ zeros-split (8 * capacity) accountLimit 5) a b
+      ∙ ap (λ (n : ℕ). replicate (8 * capacity) 0 ++ (padded homes ++ (padded fars ++ n ∷ length homes ∷ length fars ∷ 0 ∷ 0 ∷ []))) u
+
+-- ## An accepted opening
+
+module _ (homes fars : List ℕ) (n : pairOpeningRefusal homes fars ≡ 0) where
+  -- its numbers of accounts are within the limit
+  pub opened-counts : (length homes ≤ accountLimit) × (length fars ≤ accountLimit)
+  opened-counts =
+      let o = opening-none (length homes) (length fars) (total homes + total fars) n in
+      (count-facts (length homes) (o .home-count) .1, count-facts (length fars) (o .far-count) .1)
+
+  -- its words
+  abbrev opened : List ℕ
+  opened = pairOpenedWords homes fars
+
+  -- the last five
+  abbrev scalars : List ℕ
+  scalars = (total homes + total fars) ∷ length homes ∷ length fars ∷ 0 ∷ 0 ∷ []
+
+  -- both ledgers' balances stand there
+  opened-stand : Stands opened (balancesOn 0) homes (padded fars ++ scalars) × Stands opened (balancesOn 1) fars scalars
+  unfolding pairOpenedWords
+  opened-stand =
+      both-stand homes fars (opened-counts .0) (opened-counts .1) (replicate (8 * capacity) 0)
+      (length-replicate {A = ℕ} (8 * capacity) 0) scalars
+
+  -- each of the last five
+  last : (k : ℕ) → getD opened (supplyWord + k) 0 ≡ getD scalars k 0
+  last = opened-stand .1 .behind
+
+  -- they are, seen as the rules' state, the rules' opened state
+  pub opened-view : pairViewOf opened ≡ pairOpened homes fars
+  unfolding ledgerIn recordsFrom listAt
+  opened-view = rw (last 0, last 1, last 2, last 3, last 4, opened-stand .0 .balances, opened-stand .1 .balances)
+
+  -- no record is held
+  count-none : (l : ℕ) → l < 2 → countOn opened l ≡ 0
+  count-none = by-byte (λ (l : ℕ). countOn opened l ≡ 0) (last 3) (last 4)
+
+  -- so they are sound
+  pub opened-sound : PairSound opened
+  unfolding zeroBeyond formedOn allAt
+  opened-sound =
+      let o = opening-none (length homes) (length fars) (total homes + total fars) n in
+      record {
+        long = opened-stand .1 .long;
+        bounds =
+            record {
+              count = by-byte (λ (l : ℕ). countAllowed (accountsOn opened l) ≡ true) (rw (last 1) (o .home-count))
+                  (rw (last 2) (o .far-count));
+              room = λ l h. omega (arith, count-none l h);
+              supply-fits = rw (last 0) (o .supply-fits);
+            };
+        zeros = by-byte (λ (l : ℕ). zeroBeyond opened l ≡ true) (rw (last 1) (opened-stand .0 .zeros)) (rw (last 2) (opened-stand .1 .zeros));
+        reads = λ l h. rw (count-none l h);
+        accepted = ap (pairAccepts capacity) opened-view ∙ pair-opened-accepted capacity homes fars n;
+      }
+
+  -- with indexes of zeros they are ready for a record
+  pub opened-ready : PairReady opened (replicate (2 * indexLength) 0)
+  opened-ready =
+      record {
+        accepted = sound-accepts opened opened-sound;
+        index-long = length-replicate {A = ℕ} (2 * indexLength) 0;
+        indexed = λ l h. subst (IndexOf opened (recordsOn l) (replicate (2 * indexLength) 0) (indexOn l)) (sym (count-none l h))
+            (index-none opened (recordsOn l) (2 * indexLength) (indexOn l));
+      }
+
+-- the all-zero words, beside a refused opening, are refused by every call
+pub zero-refused : acceptsPair pairZeroWords ≡ false
+unfolding acceptsPair pairBounds countAllowed pairZeroWords
+zero-refused = every-not 1 _ (every-not 0 _ (every-not 0 _ refl))
