@@ -1,2 +1,4 @@
--- Laws of answers. Assumes nothing.
+-- Laws of answers and of the balance of one account. Assumes nothing.
+
 pub mod Answers
+mod BalanceAmong

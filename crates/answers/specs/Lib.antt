@@ -1,1 +1,4 @@
+-- Answers, and the balance of one account. Assumes nothing.
+
 pub mod Answers
+pub mod Balances

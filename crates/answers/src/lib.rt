@@ -1,6 +1,12 @@
-// The answer that every call of the journal and of the validators gives (document 01, "Refusals"), and refusals in order.
+// The answer that every call of the journal and of the validators gives (document 01, "Refusals"), refusals in order, and the answer with
+// a balance.
+pub mod balance; // balance.rt: the balance of one account, beside the answer
+
 ghost use mathlib.Core.Path.{_≡_};
 ghost use Rattle.answers.specs.Answers.{numberOf, placeOf, answer, refuse, orElse};
+pub use balance::Balance;
+pub use balance::balance_among;
+pub use balance::balance_refused;
 
 // Passed, or one of document 01's refusals with its place.
 pub enum Answer {

@@ -3,5 +3,5 @@ use libc::STDIN_FILENO;
 use libc::STDOUT_FILENO;
 
 fn main() {
-    journal_listing::list(STDIN_FILENO, STDOUT_FILENO);
+    listing_journal::list(STDIN_FILENO, STDOUT_FILENO);
 }

@@ -10,16 +10,15 @@ use lib.Dec.{leb}
 use lib.ListN.{length}
 use borrow.Author.Tests.{leb-false, leb-true}
 use Rattle.answers.specs.Answers.{answer}
-use Rattle.home_core.proofs.Accept.{length-held, sound-accepts, sound-of}
-use Rattle.home_core.proofs.Passing.{next-of}
-use Rattle.home_core.specs.Layout.{acceptsHome, homeWordsChecker, poolOf}
-use Rattle.home_core.proofs.Opened.{opened-sound, opened-view, zero-refused}
 use Rattle.home_claims.specs.Claims.{HomeCallsAsRules, HomeFullWhenNoneLeft, HomeInPlaceAsByValue, HomeListsAndRefusals}
 use Rattle.home_claims.specs.Claims.{HomeOpenedAsRules, HomePlacesLeft, HomeStatesAnswer, HomeStatesStayAccepted, HomeStatesWithin}
 use Rattle.home_claims.specs.Claims.{HomeThreeExactly, HomeZeroRefused, homePassedOfRun, homePlacesLeft, homeStateOfRun}
+use Rattle.home_core.proofs.Accept.{length-held, sound-accepts, sound-of}
+use Rattle.home_core.proofs.Opened.{opened-sound, opened-view, zero-refused}
+use Rattle.home_core.proofs.Passing.{next-of}
+use Rattle.home_core.specs.Layout.{acceptsHome, homeWordsChecker, poolOf}
 use Rattle.home_validator.specs.State.{homeChecker, homeOpenedState, homeViewOfState, homeZeroState}
 use Rattle.home_validator.specs.declared.HomeValidator.{HomeValidator}
-use Rattle.inputs.proofs.Parts.{call-unaccepted}
 use Rattle.ledgers.specs.Limits.{capacity}
 use Rattle.ledgers.specs.declared.Ledger.the-variants.{Home}
 use Rattle.records.specs.Records.{reading}
@@ -27,6 +26,7 @@ use Rattle.rules.proofs.HomeExactly.{exactly-when-possible}
 use Rattle.rules.proofs.HomePool.{within-pool}
 use Rattle.rules.proofs.ListCalls.{lists-in-turn}
 use Rattle.rules.proofs.NeverThree.{home-never-3, never-3}
+use Rattle.rules.proofs.Parts.{call-unaccepted}
 use Rattle.rules.proofs.Refusals.{full-room, home-read, none-room}
 use Rattle.rules.proofs.Runs.{call-in-turn, never-both, one-passed, one-refused, refused-unaltered}
 use Rattle.rules.proofs.Simulation.{Agree, agree-call, simulation}

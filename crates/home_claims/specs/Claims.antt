@@ -9,10 +9,10 @@ use lib.ListN.{length}
 use Rattle.answers.specs.Answers.{answer}
 use Rattle.answers.specs.declared.Answer.the-variants.{Passed, Refused}
 use Rattle.home_core.specs.Layout.{acceptsHome, homeWordsChecker}
-use Rattle.home_figures.specs.Figures.{homeFiguresOf, homePlacesOf}
-use Rattle.home_figures.specs.declared.HomePlaces.{HomePlaces}
+use Rattle.home_validator.specs.Figures.{homeFiguresOf, homePlacesOf}
 use Rattle.home_validator.specs.State.{homeChecker, homeOpenedState, homeViewOfState, homeZeroState}
 use Rattle.home_validator.specs.declared.HomeValidator.{HomeValidator}
+use Rattle.home_validator.specs.declared.asked.HomePlaces.{HomePlaces}
 use Rattle.ledgers.specs.Limits.{capacity}
 use Rattle.ledgers.specs.declared.Kind.the-variants.{Receiving}
 use Rattle.ledgers.specs.declared.Ledger.the-variants.{Home}

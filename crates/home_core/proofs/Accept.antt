@@ -13,6 +13,10 @@ use Rattle.home_core.specs.Layout.{homesOf, poolOf, supplyOf}
 use Rattle.ledgers.specs.Limits.{accountLimit, capacity, maxAmount}
 use Rattle.ledgers.specs.declared.Ledger.{Ledger}
 use Rattle.ledgers.specs.declared.Ledger.the-variants.{Far, Home}
+use Rattle.places.proofs.BalanceTotals.{balances-sum}
+use Rattle.places.proofs.Openings.{count-facts, facts-count}
+use Rattle.places.specs.LedgerBalances.{zerosAt}
+use Rattle.places.specs.OverPlaces.{allAt, apartAt, sumAt}
 use Rattle.records.specs.Records.{formed}
 use Rattle.rules.proofs.Clashes.{distinct-unshared, unshared-distinct}
 use Rattle.rules.proofs.HomeAccepted.{HomeFacts, home-accepts-facts, home-facts-accepts}
@@ -23,10 +27,6 @@ use Rattle.rules.specs.PairValidator.{supplyAllowed}
 use Rattle.table.proofs.Numbers.{apart-records}
 use Rattle.table.proofs.Records.{AllHeld, all-held, held-all, length-records}
 use Rattle.table.specs.Table.{accountsBy, ledgerIn, mayHoldAt, numberAt, wordsAt}
-use Rattle.table_laws.proofs.Allowed.{balances-sum}
-use Rattle.table_laws.proofs.Openings.{count-facts, facts-count}
-use Rattle.tables.specs.Columns.{zerosAt}
-use Rattle.tables.specs.Places.{allAt, apartAt, sumAt}
 use Rattle.wire.proofs.Lists.{and-both, every-both, every-first, every-none}
 use Rattle.wire.specs.BigEndian.{every}
 

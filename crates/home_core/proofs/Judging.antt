@@ -12,6 +12,9 @@ use Rattle.ledgers.specs.Ledgers.{ledgerOf, receiverLedger, senderLedger}
 use Rattle.ledgers.specs.Limits.{capacity}
 use Rattle.ledgers.specs.declared.Kind.{Kind}
 use Rattle.ledgers.specs.declared.Kind.the-variants.{Local, Receiving, Sending}
+use Rattle.places.proofs.Refusals.{funds-at, judged-by}
+use Rattle.places.specs.LedgerBalances.{firstBy, fundsAt}
+use Rattle.places.specs.OverPlaces.{anyAt}
 use Rattle.records.specs.declared.Reading.the-variants.{Read}
 use Rattle.records.specs.declared.Record.{Record}
 use Rattle.rules.proofs.Lists.{never-both-tests}
@@ -20,9 +23,6 @@ use Rattle.rules.specs.PairValidator.{roomRefusal}
 use Rattle.rules.specs.Rules.{firstRefusal, isReceiving}
 use Rattle.table.proofs.Numbers.{clash-records}
 use Rattle.table.specs.Table.{ledgerIn, numberedAt}
-use Rattle.table_laws.proofs.Judged.{funds-at, judged-by}
-use Rattle.tables.specs.Columns.{firstBy, fundsAt}
-use Rattle.tables.specs.Places.{anyAt}
 
 module _ (s : List ℕ) (r : Record) where
   -- a receiving is within the pool

@@ -11,15 +11,15 @@ use Rattle.home_core.proofs.Accept.{HomeSound}
 use Rattle.home_core.specs.Layout.{acceptsHome, balancesFrom, farsWord, homeBounds, homeOpenedWords, homeViewOf, homeZeroWords}
 use Rattle.home_core.specs.Layout.{homesWord, poolWord, supplyWord}
 use Rattle.ledgers.specs.Limits.{accountLimit, capacity, maxAmount}
+use Rattle.places.proofs.Openings.{Stands, copied, count-facts, stands, stored-behind}
+use Rattle.places.specs.LedgerBalances.{padded}
+use Rattle.places.specs.OverPlaces.{allAt, listAt}
 use Rattle.rules.proofs.HomeAccepted.{home-opened-accepted}
 use Rattle.rules.proofs.PairConserved.{opening-none}
 use Rattle.rules.specs.HomeValidator.{homeAccepts, homeOpened, homeOpeningRefusal}
 use Rattle.rules.specs.Lists.{total}
 use Rattle.rules.specs.PairValidator.{countAllowed, supplyAllowed}
 use Rattle.table.specs.Table.{ledgerIn, recordsFrom}
-use Rattle.table_laws.proofs.Openings.{Stands, copied, count-facts, stands, stored-behind}
-use Rattle.tables.specs.Columns.{padded}
-use Rattle.tables.specs.Places.{allAt, listAt}
 use Rattle.wire.proofs.Lists.{every-not}
 
 -- ## The words

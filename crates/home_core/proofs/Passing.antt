@@ -9,7 +9,6 @@ use native.Mathlib.Omega.{arith}
 use lib.ListN.{getD, length, length-set, set}
 use lib.Seq.{getD-set-other, getD-set-same}
 use Rattle.answers.proofs.Answers.{or-else-zero}
-use Rattle.entries.specs.Entries.{givenBy, takenBy}
 use Rattle.home_core.proofs.Accept.{HomeBounds, HomeSound, length-balances, length-held, sound-accepts, sound-of}
 use Rattle.home_core.specs.Layout.{HomeReady, acceptsHome, balancesFrom, countOf, countWord, farsOf, farsWord, homeViewOf, homeWith}
 use Rattle.home_core.specs.Layout.{homesOf, homesWord, poolOf, poolWord, supplyOf, supplyWord}
@@ -17,6 +16,10 @@ use Rattle.ledgers.specs.Limits.{accountLimit, capacity, maxAmount}
 use Rattle.ledgers.specs.declared.Kind.{Kind}
 use Rattle.ledgers.specs.declared.Kind.the-variants.{Local, Receiving, Sending}
 use Rattle.ledgers.specs.declared.Ledger.the-variants.{Far, Home}
+use Rattle.places.proofs.PassedRecord.{Changes, zeros-kept}
+use Rattle.places.specs.Entries.{givenBy, takenBy}
+use Rattle.places.specs.LedgerBalances.{zerosAt}
+use Rattle.places.specs.OverPlaces.{allAt}
 use Rattle.records.proofs.Formed.{read-formed}
 use Rattle.records.specs.Records.{formed, reading, recordIn, wordsOf}
 use Rattle.records.specs.declared.Reading.the-variants.{Read}
@@ -32,9 +35,6 @@ use Rattle.table.proofs.Balances.{balance-fits, balance-in, given-fits}
 use Rattle.table.proofs.Growing.{grown, index-grown}
 use Rattle.table.proofs.Storing.{LedgerStored, Stored, ledger-stored-of, stored-of}
 use Rattle.table.specs.Table.{stored, wordsAt}
-use Rattle.table_laws.proofs.Held.{Changes, zeros-kept}
-use Rattle.tables.specs.Columns.{zerosAt}
-use Rattle.tables.specs.Places.{allAt}
 
 -- ## Balances stay in 64 bits
 

@@ -7,12 +7,12 @@ use lib.ListN.{length}
 use Rattle.home_core.proofs.Accept.{sound-of}
 use Rattle.home_core.proofs.Passing.{next-of, passes-of}
 use Rattle.home_core.specs.Layout.{HomeReady, countOf, homeViewOf, homeWith, homeWordsChecker}
-use Rattle.inputs.proofs.Parts.{ReadsAs, Stepped, step-passed}
 use Rattle.ledgers.specs.Limits.{capacity}
-use Rattle.number_index.specs.Index.{chainCount}
+use Rattle.places.specs.NumberIndex.{chainCount}
 use Rattle.records.specs.declared.Reading.the-variants.{Read}
 use Rattle.records.specs.declared.Record.{Record}
 use Rattle.records.specs.declared.Words.{Words}
+use Rattle.rules.proofs.Parts.{ReadsAs, Stepped, step-passed}
 use Rattle.rules.specs.HomeValidator.{homeJudge}
 use Rattle.table.proofs.Growing.{grown}
 

@@ -9,7 +9,9 @@ use mathlib.Core.Path.{_≡_}
 use lib.Dec.{eqb, leb}
 use lib.ListN.{getD, length, replicate, set}
 use Rattle.ledgers.specs.Limits.{accountLimit, capacity}
-use Rattle.number_index.specs.Index.{chainCount}
+use Rattle.places.specs.LedgerBalances.{padded, zerosAt}
+use Rattle.places.specs.NumberIndex.{chainCount}
+use Rattle.places.specs.OverPlaces.{allAt}
 use Rattle.records.specs.Records.{formed, reading, wordsOf}
 use Rattle.records.specs.declared.Reading.{Reading}
 use Rattle.records.specs.declared.Reading.the-variants.{Read, Unreadable}
@@ -20,8 +22,6 @@ use Rattle.rules.specs.HomeValidator.{HomeView, homeAccepts, homeJudge, poolAft
 use Rattle.rules.specs.Lists.{total}
 use Rattle.rules.specs.PairValidator.{countAllowed, supplyAllowed}
 use Rattle.table.specs.Table.{IndexOf, ledgerIn, stored, wordsAt}
-use Rattle.tables.specs.Columns.{padded, zerosAt}
-use Rattle.tables.specs.Places.{allAt}
 use Rattle.wire.specs.BigEndian.{every}
 
 -- ## The layout

@@ -1,3 +1,4 @@
 -- Proofs about the home validator. Assumes nothing.
 
 pub mod Words
+mod HomeTotals

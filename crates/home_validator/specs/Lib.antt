@@ -1,3 +1,4 @@
--- The home validator's state, its calls, and what is claimed of them. Assumes nothing.
+-- The home validator's state and its calls. Assumes nothing.
 
 pub mod State
+pub mod Figures

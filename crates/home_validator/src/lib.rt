@@ -2,12 +2,17 @@
 // and what home has sent: its state, and the calls that makers use. A call takes the state by value and hands it back beside the
 // answer; a list copies it once to have it for a refusal, and beside that the words are lent and stored to in place. No call asks
 // anything of the state or of the bytes that it is given.
+pub mod asked; // asked.rt: what a state is asked for: figures, a balance, the places left
+
 ghost use mathlib.Core.Path.{_≡_};
 ghost use Rattle.answers.specs.Answers.{answer, unlessRefused};
 ghost use Rattle.home_validator.specs.State.{homeChecker, homeOpenedState, homeZeroState};
 ghost use Rattle.rules.specs.Calls.{call, one, list};
 ghost use Rattle.rules.specs.HomeValidator.{homeOpeningRefusal};
 use answers::Answer;
+pub use asked::balance;
+pub use asked::figures;
+pub use asked::places_left;
 use home_core::WORDS;
 use home_core::take;
 use home_core::take_list;

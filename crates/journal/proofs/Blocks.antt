@@ -9,17 +9,17 @@ use lib.Dec.{leb}
 use lib.ListN.{length, take, drop, replicate, length-append, length-drop, length-replicate, take-append-drop}
 use lib.Seq.{drop-append-seam, drop-drop, length-take-le, take-at, drop-at}
 use Rattle.answers.specs.Answers.{unlessRefused}
-use Rattle.block_format.proofs.Forming.{FormedBlock, formed-block-facts, facts-formed-block}
-use Rattle.block_format.proofs.Sizes.{items-room, block-bounds, count-back}
-use Rattle.block_format.specs.Blocks.{maxBlock, recordsPerBlock, blockKind, statedCount, kindOfBlock, itemSize, itemLimit}
-use Rattle.block_checks.proofs.Checking.{Right, not-refused}
-use Rattle.block_checks.specs.Checked.{checked, blockRefusal}
+use Rattle.journal.specs.Journal.{numbered}
+use Rattle.journal_blocks.proofs.Checking.{Right, not-refused}
+use Rattle.journal_blocks.proofs.Forming.{FormedBlock, formed-block-facts, facts-formed-block}
+use Rattle.journal_blocks.proofs.Sizes.{items-room, block-bounds, count-back}
+use Rattle.journal_blocks.specs.Blocks.{maxBlock, recordsPerBlock, blockKind, statedCount, kindOfBlock, itemSize, itemLimit}
+use Rattle.journal_blocks.specs.Checked.{checked, blockRefusal}
 use Rattle.journal_writer.proofs.Allowing.{facts-allowed, allowed-answer}
 use Rattle.journal_writer.proofs.Laying.{sealed}
 use Rattle.journal_writer.specs.Written.{header, body, journalBlock, writeRefusal, written}
-use Rattle.journal.specs.Journal.{numbered}
-use Rattle.sha256_core.proofs.Digests.{length-sha256, bytes-sha256}
-use Rattle.sha256_core.specs.Sha256.{sha256}
+use Rattle.sha256.proofs.Digests.{length-sha256, bytes-sha256}
+use Rattle.sha256.specs.Sha256.{sha256}
 use Rattle.wire.proofs.Lists.{zeros-replicate, zeros-are, same-self, same-equal, bytes-zeros, bytes-append}
 use Rattle.wire.proofs.Numbers.{bytes-then, value-back, drop-field, one-byte}
 use Rattle.wire.specs.BigEndian.{All, Bytes, zeros, same, valueAfter, field, bytesOf}

@@ -7,9 +7,9 @@ use native.Mathlib.Nat.{eq-or-lt-of-le}
 use native.Mathlib.Omega.{arith}
 use lib.ListN.{length, take, drop, getD, length-append, length-drop, List·getD-append}
 use lib.Seq.{take-add, drop-drop, length-take-le, take-at, drop-at, getD-at}
-use Rattle.block_format.proofs.Items.{length-records}
-use Rattle.block_format.specs.Blocks.{recordPart, recordsIn, balancesIn}
 use Rattle.journal.specs.Journal.{RecordBytes, joined, balanceBytes}
+use Rattle.journal_blocks.proofs.Items.{length-records}
+use Rattle.journal_blocks.specs.Blocks.{recordPart, recordsIn, balancesIn}
 use Rattle.wire.proofs.Lists.{all-append, all-take, all-drop, bytes-append}
 use Rattle.wire.proofs.Numbers.{field-fits, length-bytesOf, bytes-bytesOf, value-back, bytes-field}
 use Rattle.wire.specs.BigEndian.{All, Bytes, value, field, bytesOf}

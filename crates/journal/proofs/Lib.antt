@@ -1,4 +1,5 @@
 -- The journal theorem and what it rests on. Assumes nothing.
+
 pub mod Blocks
 pub mod Items
 pub mod ReadBack

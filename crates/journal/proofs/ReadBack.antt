@@ -11,21 +11,21 @@ use lib.Dec.{leb}
 use lib.ListN.{length, take, drop, replicate, length-append, length-take, length-drop, take-append-drop, drop-of-length-le}
 use lib.Seq.{take-all, take-at, drop-at}
 use borrow.Author.Tests.{le-ltb, le-leb, lt-leb, leb-false}
-use Rattle.block_format.proofs.Forming.{formed-block-facts}
-use Rattle.block_format.proofs.Items.{length-balances, length-records}
-use Rattle.block_format.proofs.Sizes.{balances-block, records-block, block-bounds, count-back}
-use Rattle.block_format.specs.Blocks.{maxBlock, recordsPerBlock, statedCount, kindOfBlock, itemSize, itemLimit, recordsOf, balancesOf}
-use Rattle.block_checks.proofs.Checking.{right-facts}
-use Rattle.block_checks.specs.Checked.{blockRefusal}
-use Rattle.journal_reader.specs.Judged.{placeRefusal, recordRefusal, balancesRefusal, partOf, countOf, openingOf}
-use Rattle.journal_writer.specs.Written.{body, journalBlock, writeRefusal, written}
 use Rattle.journal.proofs.Blocks.{block-items, bytes-block, itemBytes, block-is, count-is, block-right, block-allowed}
 use Rattle.journal.proofs.Items.{Wide, all-long, length-joined, bytes-joined, joined-only, records-joined, records-whole}
 use Rattle.journal.proofs.Items.{record-at, length-balance-bytes, bytes-balances, balances-only, balances-joined, balances-fit}
 use Rattle.journal.specs.Journal.{IsOpening, RecordBytes, recordLimit, Within, joined, balanceBytes, blockCount, groups, itemsOf}
 use Rattle.journal.specs.Journal.{numbered, journalOf, AllPass, allRecords, Reads, ReadsBack, WrittenReads, ReadsOnce, CallsRead}
 use Rattle.journal.specs.Journal.{AllAllowed, BlocksWritten}
-use Rattle.sha256_core.specs.Sha256.{sha256}
+use Rattle.journal_blocks.proofs.Checking.{right-facts}
+use Rattle.journal_blocks.proofs.Forming.{formed-block-facts}
+use Rattle.journal_blocks.proofs.Items.{length-balances, length-records}
+use Rattle.journal_blocks.proofs.Sizes.{balances-block, records-block, block-bounds, count-back}
+use Rattle.journal_blocks.specs.Blocks.{maxBlock, recordsPerBlock, statedCount, kindOfBlock, itemSize, itemLimit, recordsOf, balancesOf}
+use Rattle.journal_blocks.specs.Checked.{blockRefusal}
+use Rattle.journal_reader.specs.Judged.{placeRefusal, recordRefusal, balancesRefusal, partOf, countOf, openingOf}
+use Rattle.journal_writer.specs.Written.{body, journalBlock, writeRefusal, written}
+use Rattle.sha256.specs.Sha256.{sha256}
 use Rattle.wire.proofs.Lists.{all-append, all-take, all-drop, all-split}
 use Rattle.wire.specs.BigEndian.{All, Bytes}
 

@@ -5,13 +5,13 @@ use mathlib.Core.List.{List, [], _∷_, _++_}
 use mathlib.Core.Logic.{_↔_}
 use mathlib.Core.Path.{_≡_}
 use lib.ListN.{length, take, drop, getD}
-use Rattle.wire.specs.BigEndian.{All, Bytes, bytesOf}
-use Rattle.ledgers.specs.Limits.{accountLimit}
-use Rattle.block_format.specs.Blocks.{maxBlock, recordsPerBlock, statedCount, kindOfBlock, recordsOf, balancesOf, balanceTable}
 use Rattle.answers.specs.declared.Answer.the-variants.{Passed}
-use Rattle.block_checks.specs.Checked.{blockRefusal}
+use Rattle.journal_blocks.specs.Blocks.{maxBlock, recordsPerBlock, statedCount, kindOfBlock, recordsOf, balancesOf, balanceTable}
+use Rattle.journal_blocks.specs.Checked.{blockRefusal}
 use Rattle.journal_reader.specs.Judged.{partOf, countOf, openingOf}
 use Rattle.journal_writer.specs.Written.{journalBlock, writeRefusal, written}
+use Rattle.ledgers.specs.Limits.{accountLimit}
+use Rattle.wire.specs.BigEndian.{All, Bytes, bytesOf}
 
 -- ## Document 01's limits
 

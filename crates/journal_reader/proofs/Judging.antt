@@ -7,11 +7,11 @@ use lib.Dec.{ltb, leb}
 use lib.ListN.{length}
 use borrow.Author.Tests.{ltb-false, leb-false}
 use Rattle.answers.proofs.Answers.{or-else-zero, refuse-zero}
-use Rattle.block_checks.proofs.Checking.{right-facts}
-use Rattle.block_checks.specs.Checked.{blockRefusal}
-use Rattle.block_format.proofs.Forming.{formed-block-facts}
-use Rattle.block_format.proofs.Sizes.{records-limit, block-bounds}
-use Rattle.block_format.specs.Blocks.{statedCount}
+use Rattle.journal_blocks.proofs.Checking.{right-facts}
+use Rattle.journal_blocks.proofs.Forming.{formed-block-facts}
+use Rattle.journal_blocks.proofs.Sizes.{records-limit, block-bounds}
+use Rattle.journal_blocks.specs.Blocks.{statedCount}
+use Rattle.journal_blocks.specs.Checked.{blockRefusal}
 use Rattle.journal_reader.specs.Judged.{placeRefusal, recordRefusal, balancesRefusal}
 
 -- a place that is not refused

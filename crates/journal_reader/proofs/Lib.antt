@@ -1,2 +1,3 @@
 -- Laws of judging a block. Assumes nothing.
+
 pub mod Judging

@@ -3,10 +3,10 @@ use Prim.Native.Nat.{ℕ}
 use mathlib.Core.List.{List, []}
 use lib.Dec.{ltb, leb}
 use lib.ListN.{replicate}
-use Rattle.ledgers.specs.Limits.{accountLimit}
 use Rattle.answers.specs.Answers.{answer, refuse, orElse, unlessRefused}
-use Rattle.block_checks.specs.Checked.{blockRefusal}
-use Rattle.block_format.specs.Blocks.{statedCount, recordPart, balanceTable}
+use Rattle.journal_blocks.specs.Blocks.{statedCount, recordPart, balanceTable}
+use Rattle.journal_blocks.specs.Checked.{blockRefusal}
+use Rattle.ledgers.specs.Limits.{accountLimit}
 pub use Rattle.journal_reader.specs.declared.Counted.{Counted}
 pub use Rattle.journal_reader.specs.declared.Balances.{Balances}
 

@@ -5,8 +5,8 @@ use mathlib.Core.Bool.{true, false}
 use native.Mathlib.Omega.{arith}
 use native.Mathlib.Nat.{div-add-mod'}
 use borrow.Author.Tests.{eqb-true, eq-eqb, ltb-true, lt-ltb, leb-true, le-leb}
-use Rattle.block_format.proofs.Sizes.{items-room}
-use Rattle.block_format.specs.Blocks.{maxBlock, kindOfBlock, itemSize, itemLimit}
+use Rattle.journal_blocks.proofs.Sizes.{items-room}
+use Rattle.journal_blocks.specs.Blocks.{maxBlock, kindOfBlock, itemSize, itemLimit}
 use Rattle.journal_writer.specs.Written.{allowed, writeRefusal}
 use Rattle.wire.proofs.Lists.{every-hold, hold-every}
 use Rattle.wire.specs.BigEndian.{All}

@@ -1,3 +1,4 @@
 -- Laws of laying out a block. Assumes nothing.
+
 pub mod Allowing
 pub mod Laying

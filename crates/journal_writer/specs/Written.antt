@@ -4,10 +4,10 @@ use mathlib.Core.Bool.{Bool, not}
 use mathlib.Core.List.{List, [], _∷_, _++_}
 use lib.Dec.{eqb, ltb, leb}
 use lib.ListN.{length, replicate}
-use Rattle.wire.specs.BigEndian.{every, bytesOf}
 use Rattle.answers.specs.Answers.{refuse, unlessRefused}
-use Rattle.sha256_core.specs.Sha256.{sha256}
-use Rattle.block_format.specs.Blocks.{maxBlock, kindOfBlock, itemSize, itemLimit}
+use Rattle.journal_blocks.specs.Blocks.{maxBlock, kindOfBlock, itemSize, itemLimit}
+use Rattle.sha256.specs.Sha256.{sha256}
+use Rattle.wire.specs.BigEndian.{every, bytesOf}
 
 -- bytes 0-31 of block k: number, kind, count and zeros
 abbrev pub header : ℕ → ℕ → List ℕ

@@ -4,15 +4,15 @@ ghost use mathlib.Core.List.{_++_};
 ghost use Prim.Native.Nat.{_-_, _<_, _≤_};
 ghost use lib.ListN.{length, take, replicate};
 ghost use Rattle.answers.specs.Answers.{answer};
-ghost use Rattle.sha256_core.specs.Sha256.{sha256};
-ghost use Rattle.block_format.specs.Blocks.{kindOfBlock};
+ghost use Rattle.journal_blocks.specs.Blocks.{kindOfBlock};
 ghost use Rattle.journal_writer.specs.Written.{header, allowed, writeRefusal, written};
+ghost use Rattle.sha256.specs.Sha256.{sha256};
 use answers::Answer;
-use block_format::BLOCK_SIZE;
-use block_format::MAX_BLOCK;
-use block_format::item_limit;
-use block_format::item_size;
-use block_format::kind_of_block;
+use journal_blocks::BLOCK_SIZE;
+use journal_blocks::MAX_BLOCK;
+use journal_blocks::item_limit;
+use journal_blocks::item_size;
+use journal_blocks::kind_of_block;
 use wire::u32_bytes;
 
 // Refusal 4 has nothing against a write.

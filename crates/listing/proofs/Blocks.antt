@@ -7,12 +7,11 @@ use mathlib.Core.Path.{_∙_, _≡_, ap, refl, sym}
 use native.Mathlib.Nat.{add-zero}
 use native.Mathlib.Omega.{arith}
 use lib.ListN.{length}
-use Rattle.block_format.specs.Blocks.{maxBlock}
-use Rattle.block_checks.proofs.Checking.{right-facts}
-use Rattle.block_checks.specs.Checked.{blockRefusal}
+use Rattle.journal_blocks.proofs.Checking.{right-facts}
+use Rattle.journal_blocks.specs.Blocks.{maxBlock}
+use Rattle.journal_blocks.specs.Checked.{blockRefusal}
 use Rattle.listing.specs.Chunks.{afterBlocks, ifGoing, stateFigures}
-use Rattle.listing.specs.Listing.{Standing, afterBlock, blockText, blocksText, recordLines, standingBy, stateListed}
-use Rattle.listing.specs.Listing.{whileGoing}
+use Rattle.listing.specs.Listing.{Standing, afterBlock, blockText, blocksText, recordLines, standingBy, stateListed, whileGoing}
 use Rattle.pair_core.specs.Layout.{pairWordsChecker}
 use Rattle.rules.proofs.Lists.{never-both-tests}
 use Rattle.rules.specs.Calls.{Checker, callOne}

@@ -10,17 +10,17 @@ use lib.Dec.{eqb}
 use lib.ListN.{drop, drop-of-length-le, length, length-drop, length-take, take}
 use lib.Seq.{drop-drop, drop-nil, take-nil, take-take}
 use borrow.Author.Tests.{eqb-false, eqb-true}
-use Rattle.block_format.specs.Blocks.{balancesOf, maxBlock, recordsOf, statedCount}
-use Rattle.block_checks.specs.Checked.{blockRefusal}
+use Rattle.journal_blocks.specs.Blocks.{balancesOf, maxBlock, recordsOf, statedCount}
+use Rattle.journal_blocks.specs.Checked.{blockRefusal}
 use Rattle.ledgers.specs.Limits.{capacity}
-use Rattle.lines.specs.Lines.{headerLine, openLine, recordLine}
 use Rattle.listing.proofs.Blocks.{blocks-stopped, text-append, textOf, went-on}
 use Rattle.listing.specs.Chunks.{ListedInChunks, afterChunk, chunkSize, chunkText, chunksText, mostChunks, openedBy, stateFigures}
 use Rattle.listing.specs.Listing.{Standing, afterBlock, blockText, blocksIn, blocksText, figuresLine, listing, opened, openingText}
 use Rattle.listing.specs.Listing.{recordLines, standingBy, stateListed, unlessFault, whileGoing}
+use Rattle.listing_lines.specs.Lines.{headerLine, openLine, recordLine}
+use Rattle.pair_core.proofs.Opened.{opened-ready, opened-view}
 use Rattle.pair_core.proofs.Passing.{next-of}
 use Rattle.pair_core.specs.Layout.{acceptsPair, pairViewOf, pairWordsChecker}
-use Rattle.pair_core.proofs.Opened.{opened-ready, opened-view}
 use Rattle.records.specs.Records.{reading}
 use Rattle.records.specs.declared.Reading.{Reading}
 use Rattle.records.specs.declared.Reading.the-variants.{Read, Unreadable}

@@ -6,9 +6,9 @@ use mathlib.Core.List.{List, [], _∷_, _++_}
 use mathlib.Core.Path.{_≡_}
 use lib.Dec.{eqb}
 use lib.ListN.{length, take, drop}
-use Rattle.block_format.specs.Blocks.{balancesOf, recordsPerBlock, statedCount}
-use Rattle.lines.specs.Lines.{headerLine, lineRoom}
+use Rattle.journal_blocks.specs.Blocks.{balancesOf, recordsPerBlock, statedCount}
 use Rattle.listing.specs.Listing.{Standing, afterBlock, blocksIn, blocksText, figuresLine, listing, opened, openingText, whileGoing}
+use Rattle.listing_lines.specs.Lines.{headerLine, lineRoom}
 use Rattle.pair_core.specs.Layout.{pairOpenedWords, pairViewOf, pairWordsChecker}
 
 -- ## The program's state

@@ -4,10 +4,10 @@ use Prim.Native.Nat.{ℕ, zero, suc, _+_}
 use mathlib.Core.Bool.{Bool, true, false}
 use mathlib.Core.List.{List, [], _∷_, _++_}
 use lib.ListN.{length, take, drop}
-use Rattle.block_format.specs.Blocks.{balancesOf, recordsOf, statedCount}
-use Rattle.block_checks.specs.Checked.{blockRefusal}
+use Rattle.journal_blocks.specs.Blocks.{balancesOf, recordsOf, statedCount}
+use Rattle.journal_blocks.specs.Checked.{blockRefusal}
 use Rattle.ledgers.specs.Limits.{capacity}
-use Rattle.lines.specs.Lines.{faultLine, figuresText, headerLine, openLine, recordLine}
+use Rattle.listing_lines.specs.Lines.{faultLine, figuresText, headerLine, openLine, recordLine}
 use Rattle.rules.specs.Calls.{Checker, callOne}
 use Rattle.rules.specs.Lists.{cut, total}
 use Rattle.rules.specs.PairValidator.{PairView, pairOpened, pairOpeningRefusal, pairValidator}

@@ -7,17 +7,17 @@ use native.Mathlib.Nat.{zero-add}
 use native.Mathlib.Omega.{arith}
 use lib.ListN.{drop, length, length-append, take}
 use lib.Seq.{drop-at, drop-drop, take-at}
-use Rattle.block_checks.proofs.Checking.{right-facts}
-use Rattle.block_format.proofs.Items.{length-records}
-use Rattle.block_format.specs.Blocks.{balancesOf, recordsOf, statedCount}
 use Rattle.journal.proofs.ReadBack.{written-reads}
 use Rattle.journal.specs.Journal.{AllPass, Reads, WrittenReads, allRecords, joined, journalOf}
+use Rattle.journal_blocks.proofs.Checking.{right-facts}
+use Rattle.journal_blocks.proofs.Items.{length-records}
+use Rattle.journal_blocks.specs.Blocks.{balancesOf, recordsOf, statedCount}
 use Rattle.ledgers.specs.Limits.{capacity}
-use Rattle.lines.specs.Lines.{headerLine, openLine}
 use Rattle.listing.proofs.Blocks.{lines-append, state-last}
 use Rattle.listing.specs.Listing.{Standing, afterBlock, blockText, blocksIn, blocksText, figuresLine, listing, opened, openingText}
 use Rattle.listing.specs.Listing.{recordLines, standingBy, unlessFault, whileGoing}
 use Rattle.listing_claims.specs.Whole.{LinesOfRecords, ListedRefused, ListedWhole, ListedWritten}
+use Rattle.listing_lines.specs.Lines.{headerLine, openLine}
 use Rattle.rules.proofs.ListCalls.{cut-first}
 use Rattle.rules.specs.Calls.{Checker}
 use Rattle.rules.specs.Lists.{cut}

@@ -6,8 +6,8 @@ use mathlib.Core.Path.{_≡_}
 use lib.ListN.{length}
 use Rattle.journal.specs.Journal.{Reads, Within, journalOf}
 use Rattle.ledgers.specs.Limits.{capacity}
-use Rattle.lines.specs.Lines.{faultLine, headerLine, openLine, recordLine}
 use Rattle.listing.specs.Listing.{figuresLine, listing, recordLines, stateListed}
+use Rattle.listing_lines.specs.Lines.{faultLine, headerLine, openLine, recordLine}
 use Rattle.rules.specs.Calls.{Checker}
 use Rattle.rules.specs.PairValidator.{pairOpened, pairOpeningRefusal, pairValidator}
 

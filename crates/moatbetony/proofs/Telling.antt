@@ -7,7 +7,7 @@ use Rattle.answers.proofs.Answers.{refused-instead}
 use Rattle.answers.specs.Answers.{answer}
 use Rattle.answers.specs.declared.Answer.{Answer}
 use Rattle.answers.specs.declared.Answer.the-variants.{Refused}
-use Rattle.block_format.specs.Blocks.{recordPart}
+use Rattle.journal_blocks.specs.Blocks.{recordPart}
 use Rattle.journal_reader.specs.Judged.{partOf, recordRefusal}
 use Rattle.moatbetony.specs.Told.{encodedTold, partTold, recordTold, told}
 use Rattle.moatbetony.specs.declared.EncodedTold.{EncodedTold}

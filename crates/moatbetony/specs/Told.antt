@@ -6,10 +6,10 @@ use lib.ListN.{replicate}
 use Rattle.answers.specs.Answers.{answer, numberOf, placeOf, unlessRefused}
 use Rattle.answers.specs.declared.Answer.{Answer}
 use Rattle.answers.specs.declared.Answer.the-variants.{Passed, Refused}
-use Rattle.balances.specs.declared.Balance.{Balance}
-use Rattle.home_figures.specs.declared.HomeFigures.{HomeFigures}
-use Rattle.home_figures.specs.declared.HomePlaces.{HomePlaces}
+use Rattle.answers.specs.declared.balance.Balance.{Balance}
 use Rattle.home_validator.specs.declared.HomeValidator.{HomeValidator}
+use Rattle.home_validator.specs.declared.asked.HomeFigures.{HomeFigures}
+use Rattle.home_validator.specs.declared.asked.HomePlaces.{HomePlaces}
 use Rattle.journal_reader.specs.declared.Balances.{Balances}
 use Rattle.journal_reader.specs.declared.Counted.{Counted}
 use Rattle.ledgers.specs.Ledgers.{kindByte, ledgerByte, ledgerOf}
@@ -26,9 +26,9 @@ use Rattle.moatbetony.specs.declared.PairTold.{PairTold}
 use Rattle.moatbetony.specs.declared.PartTold.{PartTold}
 use Rattle.moatbetony.specs.declared.RecordTold.{RecordTold}
 use Rattle.moatbetony.specs.declared.Told.{Told}
-use Rattle.pair_figures.specs.declared.PairFigures.{PairFigures}
-use Rattle.pair_figures.specs.declared.PairPlaces.{PairPlaces}
 use Rattle.pair_validator.specs.declared.PairValidator.{PairValidator}
+use Rattle.pair_validator.specs.declared.asked.PairFigures.{PairFigures}
+use Rattle.pair_validator.specs.declared.asked.PairPlaces.{PairPlaces}
 use Rattle.records.specs.Records.{readingRefusal}
 use Rattle.records.specs.declared.Reading.{Reading}
 use Rattle.records.specs.declared.Reading.the-variants.{Read, Unreadable}

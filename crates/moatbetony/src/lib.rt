@@ -5,32 +5,32 @@ ghost use Prim.Native.Nat.{_+_, _*_};
 ghost use mathlib.Core.Path.{_≡_};
 ghost use lib.ListN.{drop, length, take};
 ghost use Rattle.answers.specs.Answers.{answer, unlessRefused};
-ghost use Rattle.home_figures.specs.Figures.{homeFiguresOf, homeBalanceOf, homePlacesOf};
 ghost use Rattle.home_core.specs.Layout.{acceptsHome, homeWordsChecker};
+ghost use Rattle.home_validator.specs.Figures.{homeFiguresOf, homeBalanceOf, homePlacesOf};
 ghost use Rattle.home_validator.specs.State.{homeChecker, homeOpenedState, homeZeroState};
-ghost use Rattle.block_checks.specs.Checked.{blockRefusal};
+ghost use Rattle.journal_blocks.specs.Checked.{blockRefusal};
 ghost use Rattle.journal_reader.specs.Judged.{recordRefusal, partOf, countOf, openingOf};
 ghost use Rattle.journal_writer.specs.Written.{writeRefusal, written};
 ghost use Rattle.moatbetony.specs.Told.{libraryVersion, stateVersion, told, pairTold, pairFiguresTold, homeTold};
 ghost use Rattle.moatbetony.specs.Told.{homeFiguresTold, balanceTold, recordTold, encodedTold, partTold};
 ghost use Rattle.moatbetony.specs.Told.{countTold, balancesTold, pairPlacesTold, homePlacesTold};
 ghost use Rattle.pair_core.specs.Layout.{acceptsPair, pairWordsChecker};
-ghost use Rattle.pair_figures.specs.Figures.{pairBalanceOf, pairFiguresOf, pairPlacesOf};
+ghost use Rattle.pair_validator.specs.Figures.{pairBalanceOf, pairFiguresOf, pairPlacesOf};
 ghost use Rattle.pair_validator.specs.State.{pairChecker, pairOpenedState, pairZeroState};
-ghost use Rattle.record_fields.specs.Fields.{fieldBytes};
+ghost use Rattle.records.specs.Fields.{fieldBytes};
 ghost use Rattle.records.specs.Records.{reading};
 ghost use Rattle.records.specs.declared.Reading.the-variants.{Read};
 ghost use Rattle.rules.specs.Calls.{call, one, list};
 ghost use Rattle.rules.specs.HomeValidator.{homeOpeningRefusal};
 ghost use Rattle.rules.specs.PairValidator.{pairOpeningRefusal};
-ghost use Rattle.sha256_core.specs.Sha256.{sha256};
+ghost use Rattle.sha256.specs.Sha256.{sha256};
 use answers::Answer;
 use home_validator::HomeValidator;
 use ledgers::Ledger;
 use pair_validator::PairValidator;
-use record_fields::field_bytes;
 use records::Reading;
 use records::Record;
+use records::field_bytes;
 use records::verdict_byte;
 
 // ## Versions
@@ -184,7 +184,7 @@ pub extern "C" fn moatbetony_pair_take_list(
 pub extern "C" fn moatbetony_pair_figures(state: PairValidator) -> PairFiguresTold
     ensures { λ r. ⌜ r ≡ pairFiguresTold (pairFiguresOf (acceptsPair (state .words)) (state .words)) ⌝ }
 {
-    let f = pair_figures::figures(state);
+    let f = pair_validator::figures(state);
     let a = f.answer;
     PairFiguresTold {
         answer: tell(a),
@@ -203,7 +203,7 @@ pub extern "C" fn moatbetony_pair_balance(
 ) -> BalanceTold
     ensures { λ r. ⌜ r ≡ balanceTold (pairBalanceOf (acceptsPair (state .words)) (state .words) ledger account) ⌝ }
 {
-    let b = pair_figures::balance(state, ledger, account);
+    let b = pair_validator::balance(state, ledger, account);
     let a = b.answer;
     BalanceTold {
         answer: tell(a),
@@ -216,7 +216,7 @@ pub extern "C" fn moatbetony_pair_balance(
 pub extern "C" fn moatbetony_pair_places_left(state: PairValidator) -> PairPlacesTold
     ensures { λ r. ⌜ r ≡ pairPlacesTold (pairPlacesOf (acceptsPair (state .words)) (state .words)) ⌝ }
 {
-    let both = pair_figures::places_left(state);
+    let both = pair_validator::places_left(state);
     let a = both.answer;
     PairPlacesTold {
         answer: tell(a),
@@ -321,7 +321,7 @@ pub extern "C" fn moatbetony_home_take_list(
 pub extern "C" fn moatbetony_home_figures(state: HomeValidator) -> HomeFiguresTold
     ensures { λ r. ⌜ r ≡ homeFiguresTold (homeFiguresOf (acceptsHome (state .words)) (state .words)) ⌝ }
 {
-    let h = home_figures::figures(state);
+    let h = home_validator::figures(state);
     let a = h.answer;
     HomeFiguresTold {
         answer: tell(a),
@@ -335,7 +335,7 @@ pub extern "C" fn moatbetony_home_figures(state: HomeValidator) -> HomeFiguresTo
 pub extern "C" fn moatbetony_home_balance(state: HomeValidator, account: u16) -> BalanceTold
     ensures { λ r. ⌜ r ≡ balanceTold (homeBalanceOf (acceptsHome (state .words)) (state .words) account) ⌝ }
 {
-    let held = home_figures::balance(state, account);
+    let held = home_validator::balance(state, account);
     let a = held.answer;
     BalanceTold {
         answer: tell(a),
@@ -348,7 +348,7 @@ pub extern "C" fn moatbetony_home_balance(state: HomeValidator, account: u16) ->
 pub extern "C" fn moatbetony_home_places_left(state: HomeValidator) -> HomePlacesTold
     ensures { λ r. ⌜ r ≡ homePlacesTold (homePlacesOf (acceptsHome (state .words)) (state .words)) ⌝ }
 {
-    let left = home_figures::places_left(state);
+    let left = home_validator::places_left(state);
     let a = left.answer;
     HomePlacesTold {
         answer: tell(a),

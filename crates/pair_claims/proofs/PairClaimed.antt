@@ -9,20 +9,19 @@ use native.Mathlib.Omega.{arith}
 use lib.Dec.{leb}
 use lib.ListN.{length}
 use borrow.Author.Tests.{leb-false, leb-true}
-use Rattle.inputs.proofs.Parts.{call-unaccepted}
 use Rattle.ledgers.specs.Ledgers.{ledgerByte, ledgerOf}
 use Rattle.ledgers.specs.Limits.{capacity}
 use Rattle.ledgers.specs.declared.Ledger.{Ledger}
 use Rattle.ledgers.specs.declared.Ledger.the-variants.{Far, Home}
-use Rattle.pair_core.proofs.Accept.{sound-accepts, sound-of}
-use Rattle.pair_core.proofs.Ledgers.{byte-below, length-held, state-on}
-use Rattle.pair_core.proofs.Passing.{next-of}
-use Rattle.pair_core.specs.Layout.{acceptsPair, pairWordsChecker}
-use Rattle.pair_core.proofs.Opened.{opened-sound, opened-view, zero-refused}
 use Rattle.pair_claims.specs.Claims.{PairCallsAsRules, PairFullWhenNoneLeft, PairInPlaceAsByValue, PairListsAndRefusals}
 use Rattle.pair_claims.specs.Claims.{PairOpenedAsRules, PairPlacesLeft, PairStatesConserved, PairStatesFollowRules}
 use Rattle.pair_claims.specs.Claims.{PairStatesStayAccepted, PairThreeExactly, PairZeroRefused, leftOn, pairPassedOfRun}
 use Rattle.pair_claims.specs.Claims.{pairPlacesLeft, pairStateOfRun}
+use Rattle.pair_core.proofs.Accept.{sound-accepts, sound-of}
+use Rattle.pair_core.proofs.Ledgers.{byte-below, length-held, state-on}
+use Rattle.pair_core.proofs.Opened.{opened-sound, opened-view, zero-refused}
+use Rattle.pair_core.proofs.Passing.{next-of}
+use Rattle.pair_core.specs.Layout.{acceptsPair, pairWordsChecker}
 use Rattle.pair_validator.specs.State.{pairChecker, pairOpenedState, pairViewOfState, pairZeroState}
 use Rattle.pair_validator.specs.declared.PairValidator.{PairValidator}
 use Rattle.records.specs.Records.{reading}
@@ -30,6 +29,7 @@ use Rattle.rules.proofs.ListCalls.{lists-in-turn}
 use Rattle.rules.proofs.NeverThree.{never-3, pair-never-3}
 use Rattle.rules.proofs.PairConserved.{conserved}
 use Rattle.rules.proofs.PairRules.{as-the-rules}
+use Rattle.rules.proofs.Parts.{call-unaccepted}
 use Rattle.rules.proofs.Refusals.{full-room, pair-read}
 use Rattle.rules.proofs.Runs.{call-in-turn, never-both, one-passed, one-refused, refused-unaltered}
 use Rattle.rules.proofs.Simulation.{Agree, agree-call, simulation}

@@ -13,10 +13,10 @@ use Rattle.ledgers.specs.Limits.{capacity}
 use Rattle.ledgers.specs.declared.Ledger.{Ledger}
 use Rattle.ledgers.specs.declared.Ledger.the-variants.{Far, Home}
 use Rattle.pair_core.specs.Layout.{acceptsPair, pairWordsChecker}
-use Rattle.pair_figures.specs.Figures.{pairFiguresOf, pairPlacesOf}
-use Rattle.pair_figures.specs.declared.PairPlaces.{PairPlaces}
+use Rattle.pair_validator.specs.Figures.{pairFiguresOf, pairPlacesOf}
 use Rattle.pair_validator.specs.State.{pairChecker, pairOpenedState, pairViewOfState, pairZeroState}
 use Rattle.pair_validator.specs.declared.PairValidator.{PairValidator}
+use Rattle.pair_validator.specs.declared.asked.PairPlaces.{PairPlaces}
 use Rattle.records.specs.Records.{reading}
 use Rattle.records.specs.declared.Reading.the-variants.{Read, Unreadable}
 use Rattle.records.specs.declared.Record.{Record}

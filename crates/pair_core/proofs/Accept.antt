@@ -11,12 +11,15 @@ use Rattle.ledgers.specs.Ledgers.{counterpart, ledgerByte}
 use Rattle.ledgers.specs.Limits.{capacity}
 use Rattle.ledgers.specs.declared.Ledger.{Ledger}
 use Rattle.ledgers.specs.declared.Ledger.the-variants.{Far, Home}
-use Rattle.number_index.specs.Index.{Kept}
 use Rattle.pair_core.proofs.Ledgers.{Bounds, accounts-same, balances-within, bounds-of, by-byte, by-ledger, byte-below}
 use Rattle.pair_core.proofs.Ledgers.{length-balances, length-held, of-bounds, state-on}
 use Rattle.pair_core.specs.Layout.{PairReady, acceptsPair, accountsOn, balancesOn, countOn, formedOn, indexLength, indexOn}
 use Rattle.pair_core.specs.Layout.{ledgerOn, pairBounds, pairViewOf, pairWords, recordsOn, supplyOf, zeroBeyond}
 use Rattle.pair_core.specs.Testing.{backedOn, balanceSum, flowSum, heldOn, sumsAgree, testsOf}
+use Rattle.places.proofs.BalanceTotals.{balances-sum}
+use Rattle.places.proofs.OverPlaces.{all-each, all-list}
+use Rattle.places.specs.NumberIndex.{Kept}
+use Rattle.places.specs.OverPlaces.{allAt, apartAt}
 use Rattle.records.specs.Records.{formed}
 use Rattle.rules.proofs.Clashes.{distinct-unshared, unshared-distinct}
 use Rattle.rules.proofs.Ledgers.{Clean, crossing}
@@ -30,9 +33,6 @@ use Rattle.table.proofs.Growing.{index-beside}
 use Rattle.table.proofs.Numbers.{apart-records}
 use Rattle.table.proofs.Records.{AllHeld, all-held, held-all}
 use Rattle.table.specs.Table.{IndexOf, accountsBy, ledgerIn, mayHoldAt, numberAt, recordAt, recordsFrom, wordsAt}
-use Rattle.table_laws.proofs.Allowed.{balances-sum}
-use Rattle.tables.proofs.Places.{all-each, all-list}
-use Rattle.tables.specs.Places.{allAt, apartAt}
 use Rattle.wire.proofs.Lists.{and-both, every-both, every-first, every-none}
 
 -- both of two tests

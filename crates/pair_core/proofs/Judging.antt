@@ -13,6 +13,9 @@ use Rattle.ledgers.specs.declared.Kind.the-variants.{Local, Receiving, Sending}
 use Rattle.pair_core.proofs.Accept.{PairSound, standing-on}
 use Rattle.pair_core.proofs.Ledgers.{length-held, other-byte, state-on}
 use Rattle.pair_core.specs.Layout.{accountsOn, balancesOn, countOn, ledgerOn, pairViewOf, recordsOn}
+use Rattle.places.proofs.Refusals.{funds-at, judged-by}
+use Rattle.places.specs.LedgerBalances.{firstBy, fundsAt}
+use Rattle.places.specs.OverPlaces.{anyAt}
 use Rattle.records.specs.Records.{formed, recordIn}
 use Rattle.records.specs.declared.Reading.the-variants.{Read}
 use Rattle.records.specs.declared.Record.{Record}
@@ -20,14 +23,10 @@ use Rattle.records.specs.declared.Words.{Words}
 use Rattle.rules.proofs.Lists.{never-both-tests}
 use Rattle.rules.specs.Lists.{any}
 use Rattle.rules.specs.PairValidator.{matched, pairJudge, roomRefusal}
-use Rattle.rules.specs.Rules.{LedgerState, accountsOf, fundsRefusal, isReceiving, judge, lastRefusal, matchRefusal}
-use Rattle.rules.specs.Rules.{matches}
+use Rattle.rules.specs.Rules.{LedgerState, accountsOf, fundsRefusal, isReceiving, judge, lastRefusal, matchRefusal, matches}
 use Rattle.table.proofs.Crossings.{asked, backed-is}
 use Rattle.table.proofs.Numbers.{clash-records}
 use Rattle.table.specs.Table.{backedBy, ledgerIn, numberedAt}
-use Rattle.table_laws.proofs.Judged.{funds-at, judged-by}
-use Rattle.tables.specs.Columns.{firstBy, fundsAt}
-use Rattle.tables.specs.Places.{anyAt}
 
 module _ (s : List ℕ) (r : Record) where
   -- a local or sending is paid

@@ -11,14 +11,14 @@ use Rattle.ledgers.specs.Ledgers.{counterpart, ledgerByte}
 use Rattle.ledgers.specs.Limits.{accountLimit, capacity}
 use Rattle.ledgers.specs.declared.Ledger.{Ledger}
 use Rattle.ledgers.specs.declared.Ledger.the-variants.{Far, Home}
-use Rattle.number_index.specs.Index.{chainCount}
 use Rattle.pair_core.specs.Layout.{accountsOn, balancesOn, countOn, indexLength, indexOn, ledgerOn, pairBounds, pairViewOf}
 use Rattle.pair_core.specs.Layout.{pairWords, recordsOn, supplyOf}
+use Rattle.places.proofs.Openings.{count-facts}
+use Rattle.places.specs.NumberIndex.{chainCount}
 use Rattle.rules.specs.PairValidator.{countAllowed, supplyAllowed}
 use Rattle.rules.specs.Rules.{accountsOf, stateOf}
 use Rattle.table.proofs.Records.{length-records}
 use Rattle.table.specs.Table.{accountsBy, ledgerIn}
-use Rattle.table_laws.proofs.Openings.{count-facts}
 use Rattle.wire.proofs.Lists.{every-both, every-first, every-none}
 
 -- ## Ledger by ledger

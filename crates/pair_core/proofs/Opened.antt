@@ -11,14 +11,14 @@ use Rattle.pair_core.proofs.Accept.{PairSound, sound-accepts}
 use Rattle.pair_core.proofs.Ledgers.{by-byte}
 use Rattle.pair_core.specs.Layout.{PairReady, acceptsPair, accountsOn, accountsWord, balancesOn, countOn, formedOn, indexLength, indexOn}
 use Rattle.pair_core.specs.Layout.{pairBounds, pairOpenedWords, pairViewOf, pairZeroWords, recordsOn, supplyWord, zeroBeyond}
+use Rattle.places.proofs.Openings.{Stands, copied, count-facts, front-long, stands, stored-behind}
+use Rattle.places.specs.LedgerBalances.{padded}
+use Rattle.places.specs.OverPlaces.{allAt, listAt}
 use Rattle.rules.proofs.PairConserved.{opening-none, pair-opened-accepted}
 use Rattle.rules.specs.Lists.{total}
 use Rattle.rules.specs.PairValidator.{countAllowed, pairAccepts, pairOpened, pairOpeningRefusal}
 use Rattle.table.proofs.Numbers.{index-none}
 use Rattle.table.specs.Table.{IndexOf, ledgerIn, recordsFrom}
-use Rattle.table_laws.proofs.Openings.{Stands, copied, count-facts, front-long, stands, stored-behind}
-use Rattle.tables.specs.Columns.{padded}
-use Rattle.tables.specs.Places.{allAt, listAt}
 use Rattle.wire.proofs.Lists.{every-not}
 
 -- ## The words

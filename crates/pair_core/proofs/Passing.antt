@@ -10,19 +10,20 @@ use lib.ListN.{getD, length, length-set}
 use lib.Seq.{getD-set-other, getD-set-same}
 use borrow.Author.Tests.{leb-true}
 use Rattle.answers.proofs.Answers.{or-else-zero}
-use Rattle.entries.specs.Entries.{givenBy, takenBy}
 use Rattle.ledgers.specs.Ledgers.{counterpart, ledgerByte, ledgerOf}
 use Rattle.ledgers.specs.Limits.{accountLimit, capacity, maxAmount}
 use Rattle.ledgers.specs.declared.Kind.{Kind}
 use Rattle.ledgers.specs.declared.Kind.the-variants.{Local, Receiving, Sending}
 use Rattle.ledgers.specs.declared.Ledger.{Ledger}
 use Rattle.ledgers.specs.declared.Ledger.the-variants.{Far, Home}
-use Rattle.number_index.specs.Index.{chainCount}
 use Rattle.pair_core.proofs.Accept.{PairSound, sound-accepts, sound-of}
 use Rattle.pair_core.proofs.Ledgers.{Bounds, accounts-fit, balances-within, by-byte, byte-below, length-balances, length-held}
 use Rattle.pair_core.proofs.Ledgers.{state-on}
 use Rattle.pair_core.specs.Layout.{PairReady, acceptsPair, accountsOn, accountsWord, balancesOn, countOn, countWord, formedOn}
 use Rattle.pair_core.specs.Layout.{indexOn, ledgerOn, pairViewOf, pairWith, recordsOn, supplyOf, supplyWord, zeroBeyond}
+use Rattle.places.proofs.PassedRecord.{Changes, ledger-other, zeros-kept}
+use Rattle.places.specs.Entries.{givenBy, takenBy}
+use Rattle.places.specs.NumberIndex.{chainCount}
 use Rattle.records.proofs.Formed.{read-formed}
 use Rattle.records.specs.Records.{formed, reading, recordIn, wordsOf}
 use Rattle.records.specs.declared.Reading.the-variants.{Read}
@@ -37,7 +38,6 @@ use Rattle.table.proofs.Balances.{balance-fits, balance-in, given-fits}
 use Rattle.table.proofs.Growing.{grown, grown-kept, index-beside, index-grown}
 use Rattle.table.proofs.Storing.{Agree, LedgerStored, Stored, formed-same, ledger-same, ledger-stored-of, number-same, stored-of}
 use Rattle.table.specs.Table.{IndexOf, stored}
-use Rattle.table_laws.proofs.Held.{Changes, ledger-other, zeros-kept}
 
 -- ## A ledger and the other one
 

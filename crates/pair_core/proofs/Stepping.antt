@@ -4,17 +4,17 @@ use mathlib.Core.List.{List}
 use mathlib.Core.Path.{_≡_}
 use native.Mathlib.Omega.{arith}
 use lib.ListN.{length}
-use Rattle.inputs.proofs.Parts.{ReadsAs, Stepped, step-passed}
 use Rattle.ledgers.specs.Ledgers.{ledgerByte, ledgerOf}
 use Rattle.ledgers.specs.Limits.{capacity}
-use Rattle.number_index.specs.Index.{chainCount}
 use Rattle.pair_core.proofs.Accept.{sound-of}
 use Rattle.pair_core.proofs.Ledgers.{byte-below}
 use Rattle.pair_core.proofs.Passing.{next-of, passes-of}
 use Rattle.pair_core.specs.Layout.{PairReady, countOn, indexOn, pairViewOf, pairWith, pairWordsChecker}
+use Rattle.places.specs.NumberIndex.{chainCount}
 use Rattle.records.specs.declared.Reading.the-variants.{Read}
 use Rattle.records.specs.declared.Record.{Record}
 use Rattle.records.specs.declared.Words.{Words}
+use Rattle.rules.proofs.Parts.{ReadsAs, Stepped, step-passed}
 use Rattle.rules.specs.PairValidator.{pairJudge}
 use Rattle.table.proofs.Growing.{grown}
 

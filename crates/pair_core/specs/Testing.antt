@@ -7,8 +7,8 @@ use lib.Dec.{eqb}
 use lib.ListN.{getD, length}
 use Rattle.ledgers.specs.Ledgers.{ledgerAt}
 use Rattle.pair_core.specs.Layout.{accountsOn, balancesOn, countOn, pairBounds, pairWords, recordsOn, supplyOf, zeroBeyond}
+use Rattle.places.specs.OverPlaces.{allAt, apartAt, sumAt}
 use Rattle.table.specs.Table.{accountsBy, backedAt, flowAt, mayHoldAt, numberAt}
-use Rattle.tables.specs.Places.{allAt, apartAt, sumAt}
 use Rattle.wire.specs.BigEndian.{every}
 
 -- a ledger may hold each of its records, and their numbers are apart

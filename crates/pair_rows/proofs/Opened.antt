@@ -6,19 +6,19 @@ use native.Mathlib.Omega.{arith}
 use lib.ListN.{getD, length}
 use borrow.Author.Tests.{leb-true}
 use Rattle.answers.specs.Answers.{unlessRefused}
-use Rattle.exact_sums.proofs.Sums.{added-value}
-use Rattle.exact_sums.specs.Sums.{Added}
-use Rattle.exact_sums.specs.declared.Wide.{Wide}
 use Rattle.ledgers.specs.Limits.{maxAmount}
 use Rattle.pair_core.proofs.Opened.{opened-view}
 use Rattle.pair_core.specs.Layout.{pairOpenedWords, pairZeroWords, supplyOf}
 use Rattle.pair_rows.specs.Rows.{rowOf}
+use Rattle.places.proofs.ExactSums.{added-value}
+use Rattle.places.proofs.Openings.{low-is-wide, total-sum}
+use Rattle.places.specs.ExactSums.{Added}
+use Rattle.places.specs.OverPlaces.{sumAt}
+use Rattle.places.specs.declared.exact_sums.Wide.{Wide}
 use Rattle.rules.proofs.PairConserved.{opening-none}
 use Rattle.rules.specs.Lists.{sum, total}
 use Rattle.rules.specs.PairValidator.{PairView, pairOpened, pairOpeningRefusal, supplyAllowed}
 use Rattle.rules.specs.Rules.{flight, inFlight}
-use Rattle.table_laws.proofs.Openings.{low-is-wide, total-sum}
-use Rattle.tables.specs.Places.{sumAt}
 
 -- where the opening left words t and home's balances were summed, the low limb is home's total, and with the supply it gives the row
 pub record FirstRow (homes fars t : List ℕ) (low : ℕ) : Type 0 where

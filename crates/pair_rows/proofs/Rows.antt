@@ -4,7 +4,6 @@ use mathlib.Core.List.{List}
 use mathlib.Core.Path.{_∙_, _≡_, ap, ap₂, refl, subst, sym}
 use native.Mathlib.Omega.{arith}
 use Rattle.answers.proofs.Answers.{or-else-zero}
-use Rattle.entries.specs.Entries.{givenBy, takenBy}
 use Rattle.ledgers.specs.Ledgers.{ledgerByte, ledgerOf}
 use Rattle.ledgers.specs.Limits.{capacity}
 use Rattle.ledgers.specs.declared.Kind.{Kind}
@@ -16,6 +15,7 @@ use Rattle.pair_core.proofs.Passing.{next-of}
 use Rattle.pair_core.specs.Layout.{PairReady, pairViewOf, pairWith, pairWordsChecker, supplyOf}
 use Rattle.pair_rows.specs.Rows.{RowReady, movedRow, rowOf, totalIn}
 use Rattle.pair_rows.specs.declared.Row.{Row}
+use Rattle.places.specs.Entries.{givenBy, takenBy}
 use Rattle.records.specs.Records.{reading, wordsOf}
 use Rattle.records.specs.declared.Reading.the-variants.{Read, Unreadable}
 use Rattle.records.specs.declared.Record.{Record}

@@ -7,16 +7,16 @@ ghost use Rattle.pair_core.specs.Layout.{pairOpenedWords, pairViewOf, pairWords
 ghost use Rattle.pair_rows.specs.Rows.{RowReady, movedRow, rowOf, totalIn};
 ghost use Rattle.rules.specs.Calls.{callOne};
 ghost use Rattle.rules.specs.PairValidator.{pairOpened, pairOpeningRefusal};
-use entries::given_by;
-use entries::taken_by;
-use exact_sums::Wide;
-use exact_sums::add_balances;
 use ledgers::Ledger;
 use pair_core::INDEXES;
 use pair_core::SUPPLY;
 use pair_core::WORDS;
 use pair_core::open;
 use pair_core::step;
+use places::Wide;
+use places::add_balances;
+use places::given_by;
+use places::taken_by;
 use records::Reading;
 use records::Record;
 

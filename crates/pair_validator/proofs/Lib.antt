@@ -1,3 +1,4 @@
 -- Proofs about the pair validator. Assumes nothing.
 
 pub mod Words
+mod PairTotals

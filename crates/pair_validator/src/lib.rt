@@ -2,12 +2,17 @@
 // makers use. A call takes the state by value and hands it back beside the answer; a list copies it once to have it for a
 // refusal, and beside that the words are lent and stored to in place. No call asks anything of the state or of the bytes that
 // it is given.
+pub mod asked; // asked.rt: what a state is asked for: figures, a balance, the places left
+
 ghost use mathlib.Core.Path.{_≡_};
 ghost use Rattle.answers.specs.Answers.{answer, unlessRefused};
 ghost use Rattle.pair_validator.specs.State.{pairChecker, pairOpenedState, pairZeroState};
 ghost use Rattle.rules.specs.Calls.{call, one, list};
 ghost use Rattle.rules.specs.PairValidator.{pairOpeningRefusal};
 use answers::Answer;
+pub use asked::balance;
+pub use asked::figures;
+pub use asked::places_left;
 use pair_core::WORDS;
 use pair_core::take;
 use pair_core::take_list;

@@ -8,18 +8,18 @@ use lib.Dec.{eqb}
 use lib.ListN.{length, drop, drop-of-length-le}
 use Rattle.ledgers.specs.Ledgers.{ledgerByte, ledgerAt, kindByte, kindAt, ledgerOf}
 use Rattle.ledgers.specs.Limits.{maxAmount}
-use Rattle.record_fields.specs.Fields.{fieldBytes}
+use Rattle.ledgers.specs.declared.Kind.{Kind}
+use Rattle.ledgers.specs.declared.Kind.the-variants.{Local, Sending, Receiving}
+use Rattle.ledgers.specs.declared.Ledger.{Ledger}
+use Rattle.ledgers.specs.declared.Ledger.the-variants.{Home, Far}
 use Rattle.records.proofs.Formed.{Formed, facts-formed, fields-formed, fieldsIn, formed-facts, formed-reads, read-formed}
 use Rattle.records.proofs.Formed.{words-fields, words-formed-by}
+use Rattle.records.specs.Fields.{fieldBytes}
 use Rattle.records.specs.Records.{Record, Read, reading, encoding, wordsOf, Encodable, Readable, ReadsExactly, EncodingReads}
 use Rattle.records.specs.Records.{EncodedOnce}
 use Rattle.wire.proofs.Lists.{bytes-zeros}
 use Rattle.wire.proofs.Numbers.{bytes-then, drop-field, field-fits, value-back}
 use Rattle.wire.specs.BigEndian.{All, Bytes, valueAfter, field, bytesOf}
-use Rattle.ledgers.specs.declared.Kind.the-variants.{Local, Sending, Receiving}
-use Rattle.ledgers.specs.declared.Kind.{Kind}
-use Rattle.ledgers.specs.declared.Ledger.the-variants.{Home, Far}
-use Rattle.ledgers.specs.declared.Ledger.{Ledger}
 
 -- ## From the bytes
 

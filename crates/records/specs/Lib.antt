@@ -1,1 +1,4 @@
+-- The record, and the bytes with its fields. Assumes nothing.
+
 pub mod Records
+pub mod Fields

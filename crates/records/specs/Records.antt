@@ -6,10 +6,10 @@ use mathlib.Core.Logic.{_↔_}
 use mathlib.Core.Path.{_≡_}
 use lib.Dec.{eqb, ltb, leb}
 use lib.ListN.{length}
-use Rattle.record_fields.specs.Fields.{fieldBytes}
-use Rattle.wire.specs.BigEndian.{Bytes, every, field}
-use Rattle.ledgers.specs.Limits.{maxAmount}
 use Rattle.ledgers.specs.Ledgers.{ledgerByte, ledgerAt, kindByte, kindAt, ledgerOf}
+use Rattle.ledgers.specs.Limits.{maxAmount}
+use Rattle.records.specs.Fields.{fieldBytes}
+use Rattle.wire.specs.BigEndian.{Bytes, every, field}
 pub use Rattle.records.specs.declared.Record.{Record}
 pub use Rattle.records.specs.declared.Words.{Words}
 pub use Rattle.records.specs.declared.Reading.{Reading}

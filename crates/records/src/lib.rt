@@ -1,12 +1,14 @@
 // The record of 32 bytes (document 01, "The record"): reading and encoding.
+pub mod fields; // fields.rt: the 32 bytes with fields given as numbers
+
 ghost use mathlib.Core.Path.{_≡_};
 ghost use mathlib.Core.Bool.{cond};
 ghost use lib.ListN.{length};
 ghost use Rattle.ledgers.specs.Ledgers.{ledgerAt, kindAt};
 ghost use Rattle.records.specs.Records.{wordsOf, formed, recordIn, readingWords, reading, encoding};
+pub use fields::field_bytes;
 use ledgers::Kind;
 use ledgers::Ledger;
-use record_fields::field_bytes;
 use wire::u64_at;
 
 // A record that was read.

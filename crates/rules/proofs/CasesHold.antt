@@ -1,6 +1,6 @@
 -- Every row of the table of cases holds, by computation. Assumes nothing.
 use mathlib.Core.Path.{refl}
-use Rattle.record_fields.specs.Fields.{fieldBytes}
+use Rattle.records.specs.Fields.{fieldBytes}
 use Rattle.records.specs.Records.{formed, recordIn, reading, readingWords, encoding}
 use Rattle.rules.specs.Cases.{caseOpening, homeCaseOpening, afterAll, allPass, homeAfterAll, homeAllPass, shows, holds, good}
 use Rattle.rules.specs.Cases.{openingRows, stateRows, bad, cases, orderRows, nearRows, CasesHold, FurtherRowsHold}

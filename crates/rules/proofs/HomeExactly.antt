@@ -8,6 +8,8 @@ use native.Mathlib.Omega.{arith}
 use lib.Dec.{eqb}
 use lib.ListN.{length, length-map, drop, getD, length-append}
 use borrow.Author.Tests.{eqb-false, ltb-true, leb-true}
+use Rattle.answers.specs.declared.Answer.{Answer}
+use Rattle.answers.specs.declared.Answer.the-variants.{Passed, Refused}
 use Rattle.ledgers.specs.Limits.{accountLimit, maxAmount}
 use Rattle.rules.proofs.Clashes.{used}
 use Rattle.rules.proofs.FarList.{gather}
@@ -26,8 +28,6 @@ use Rattle.rules.specs.PairValidator.{countAllowed, supplyAllowed}
 use Rattle.rules.specs.Rules.{newLedger, opened}
 use Rattle.wire.proofs.Lists.{all-append, all-take, all-drop}
 use Rattle.wire.specs.BigEndian.{All, Bytes, field}
-use Rattle.answers.specs.declared.Answer.the-variants.{Passed, Refused}
-use Rattle.answers.specs.declared.Answer.{Answer}
 
 -- ## A block of numbers that no home record uses
 

@@ -1,4 +1,5 @@
 -- Laws of the rules and of the runs, and the theorems. Assumes nothing.
+
 pub mod CasesHold
 pub mod Lists
 pub mod Bytes
@@ -21,3 +22,4 @@ pub mod FarList
 pub mod HomeExactly
 pub mod ValidityLanguage
 pub mod NeverThree
+pub mod Parts

@@ -6,11 +6,11 @@ use mathlib.Core.Logic.{inl, inr}
 use native.Mathlib.Nat.{add-zero, zero-add, add-suc, suc-add}
 use native.Mathlib.Omega.{arith}
 use lib.ListN.{length, take, drop, length-drop}
+use Rattle.answers.specs.declared.Answer.the-variants.{Passed, Refused}
 use Rattle.rules.proofs.Lists.{zero-or-more}
 use Rattle.rules.specs.Calls.{Call, one, list, recordsIn, handed, Checker, callOne, callList, ifAccepted, call, InTurn, stateAfter}
 use Rattle.rules.specs.Calls.{ListsInTurn}
 use Rattle.rules.specs.Lists.{cut}
-use Rattle.answers.specs.declared.Answer.the-variants.{Passed, Refused}
 
 -- ## The records of a list
 

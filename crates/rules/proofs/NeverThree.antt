@@ -5,9 +5,9 @@ use mathlib.Core.Bool.{Bool, true, false}
 use mathlib.Core.List.{List}
 use lib.Dec.{eqb}
 use borrow.Author.Tests.{eqb-false}
-use Rattle.rules.proofs.Runs.{outcome, passes, refuses, never-both}
 use Rattle.answers.specs.Answers.{answer, refuse, orElse}
 use Rattle.answers.specs.declared.Answer.the-variants.{Refused}
+use Rattle.rules.proofs.Runs.{outcome, passes, refuses, never-both}
 use Rattle.rules.specs.Calls.{Call, Checker, call}
 use Rattle.rules.specs.HomeValidator.{HomeView, poolRefusal, homeLastRefusal, homeJudgeRecord, homeJudge}
 use Rattle.rules.specs.PairValidator.{roomRefusal, pairJudge}

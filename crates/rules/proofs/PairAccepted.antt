@@ -13,7 +13,6 @@ use Rattle.rules.proofs.Bytes.{same-own}
 use Rattle.rules.proofs.Clashes.{unshared-distinct, distinct-unshared}
 use Rattle.rules.proofs.Ledgers.{accounts-with, own-sums, Clean, clean-own, clean-other, crossing, read-amount}
 use Rattle.rules.proofs.Lists.{every-all, all-every, all-snoc, length-moved}
-use Rattle.wire.specs.BigEndian.{All}
 use Rattle.rules.proofs.Refusals.{Allowed, first-none, none-first, Passable, judge-none, pair-read}
 use Rattle.rules.proofs.Runs.{keeps-accepted}
 use Rattle.rules.specs.Lists.{any, all, total}
@@ -21,6 +20,7 @@ use Rattle.rules.specs.PairValidator.{PairView, pairJudge, countAllowed,
 use Rattle.rules.specs.PairValidator.{pairAccepts, pairValidator}
 use Rattle.rules.specs.Rules.{Ledger, Home, Far, Record, LedgerState, PairState, stateOf, withState, accountsOf, judge, held, after}
 use Rattle.rules.specs.Rules.{afterBytes, flight, inFlight}
+use Rattle.wire.specs.BigEndian.{All}
 
 -- ## The facts of an accepted state
 

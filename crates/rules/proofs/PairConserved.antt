@@ -10,7 +10,9 @@ use Rattle.answers.proofs.Answers.{refuse-zero}
 use Rattle.ledgers.specs.Ledgers.{ledgerOf}
 use Rattle.records.specs.Records.{reading}
 use Rattle.rules.proofs.Clashes.{Distinct}
+use Rattle.rules.proofs.Lists.{every-all}
 use Rattle.rules.proofs.PairAccepted.{accepts-facts, facts-accepts, pair-step}
+use Rattle.rules.proofs.Refusals.{pair-read}
 use Rattle.rules.proofs.Runs.{keep-run, run-accepted}
 use Rattle.rules.specs.Calls.{run, passedRecords, ifOn, readOn, recordsOn}
 use Rattle.rules.specs.Lists.{sum, all, total}
@@ -18,8 +20,6 @@ use Rattle.rules.specs.PairValidator.{PairView, pairJudge, countAllowed,
 use Rattle.rules.specs.PairValidator.{pairOpeningRefusal, pairOpened, inFlightOf, Conserved}
 use Rattle.rules.specs.Rules.{Ledger, Home, Far, Record, PairState, stateOf, withState, held, after, afterBytes, flight, inFlight}
 use Rattle.wire.specs.BigEndian.{All}
-use Rattle.rules.proofs.Lists.{every-all}
-use Rattle.rules.proofs.Refusals.{pair-read}
 
 -- ## The passed records of a run
 

@@ -7,11 +7,11 @@ use mathlib.Core.List.{List, [], _∷_, _++_, append-assoc, append-nil}
 use mathlib.Core.Logic.{inl, inr}
 use mathlib.Mathlib.Data.Bool.Basic.{dichotomy}
 use native.Mathlib.Omega.{arith}
+use Rattle.answers.specs.declared.Answer.the-variants.{Passed, Refused}
 use Rattle.rules.proofs.ListCalls.{call-list, list-all}
 use Rattle.rules.proofs.Lists.{never-both-tests, zero-or-more}
 use Rattle.rules.specs.Calls.{Call, one, handed, Checker, Result, ifPassed, callOne, callList, call, run, InTurn, stateAfter}
 use Rattle.rules.specs.Calls.{passedRecords, RefusedUnaltered, KeepsAccepted}
-use Rattle.answers.specs.declared.Answer.the-variants.{Passed, Refused}
 
 -- no answer is both a pass and a refusal
 pub never-both : (n place : ℕ) → Passed ≡ Refused n place → ⊥

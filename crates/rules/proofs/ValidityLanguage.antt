@@ -9,10 +9,10 @@ use Rattle.rules.proofs.Clashes.{clash-self}
 use Rattle.rules.proofs.InFlight.{matches-matched, matched-matches}
 use Rattle.rules.proofs.Ledgers.{counterpart-twice, accounts-with}
 use Rattle.rules.proofs.Lists.{never-both-tests, any-append, any-split, any-last}
+use Rattle.rules.proofs.PairConserved.{passed-after}
 use Rattle.rules.proofs.Refusals.{first-none, Passable, judge-none, none-judge, rules-read}
 use Rattle.rules.specs.Beyond.{ClosedUnderBeginnings, NoClashPasses, NonePassesTwice, ReceivingsWereSent, receivingOf, SendingsArrive}
 use Rattle.rules.specs.Cases.{afterAll}
-use Rattle.rules.proofs.PairConserved.{passed-after}
 use Rattle.rules.specs.Lists.{any}
 use Rattle.rules.specs.Rules.{Ledger, Home, Far, Sending, Receiving, Record, Reading, Read, Unreadable, PairState, stateOf}
 use Rattle.rules.specs.Rules.{accountsOf, isSending, clashes, matches, judge, after, afterReading, judgeBytes, afterBytes, Passes}

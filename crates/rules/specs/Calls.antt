@@ -6,13 +6,13 @@ use mathlib.Core.Bool.{Bool, true, false}
 use mathlib.Core.List.{List, [], _∷_, _++_}
 use lib.ListN.{length}
 use Rattle.answers.specs.Answers.{answer, unlessRefused}
+use Rattle.answers.specs.declared.Answer.{Answer}
+use Rattle.answers.specs.declared.Answer.the-variants.{Passed, Refused}
 use Rattle.ledgers.specs.Ledgers.{ledgerOf}
 use Rattle.records.specs.Records.{reading}
 use Rattle.rules.specs.Lists.{cut}
 use Rattle.rules.specs.Rules.{Ledger, Home, Far, Record, Reading, Read, Unreadable}
 use Rattle.wire.specs.BigEndian.{Bytes}
-use Rattle.answers.specs.declared.Answer.the-variants.{Passed, Refused}
-use Rattle.answers.specs.declared.Answer.{Answer}
 
 -- ## Calls
 

@@ -8,6 +8,7 @@ use mathlib.Core.Logic.{_↔_}
 use lib.Dec.{eqb, ltb, leb}
 use lib.ListN.{length}
 use Rattle.answers.specs.Answers.{refuse, orElse}
+use Rattle.answers.specs.declared.Answer.the-variants.{Passed, Refused}
 use Rattle.ledgers.specs.Ledgers.{ledgerOf}
 use Rattle.records.specs.Records.{reading, readingRefusal}
 use Rattle.rules.specs.Calls.{Call, handed, CallBytes, Checker, call, run, passedRecords, recordsOn, KeepsAccepted, one}
@@ -17,7 +18,6 @@ use Rattle.rules.specs.Rules.{Ledger, Home, Far, Kind, Local, Sending, R
 use Rattle.rules.specs.Rules.{PairState, newLedger, opened, isSending, isReceiving, firstRefusal, fundsRefusal, judge, held}
 use Rattle.rules.specs.Rules.{after, Passes}
 use Rattle.wire.specs.BigEndian.{All, Bytes, every}
-use Rattle.answers.specs.declared.Answer.the-variants.{Passed, Refused}
 
 -- ## The state
 

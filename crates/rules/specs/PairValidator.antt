@@ -8,6 +8,7 @@ use mathlib.Core.Logic.{_↔_}
 use lib.Dec.{eqb, ltb, leb}
 use lib.ListN.{length}
 use Rattle.answers.specs.Answers.{refuse, orElse}
+use Rattle.answers.specs.declared.Answer.the-variants.{Passed, Refused}
 use Rattle.ledgers.specs.Ledgers.{ledgerOf}
 use Rattle.ledgers.specs.Limits.{accountLimit, maxAmount}
 use Rattle.records.specs.Records.{reading}
@@ -17,7 +18,6 @@ use Rattle.rules.specs.Rules.{Ledger, Home, Far, Record, Reading, Read, 
 use Rattle.rules.specs.Rules.{isReceiving, clashes, matches, firstRefusal, judge, judgeReading, judgeBytes, afterBytes}
 use Rattle.rules.specs.Rules.{flightBoth, inFlight}
 use Rattle.wire.specs.BigEndian.{every}
-use Rattle.answers.specs.declared.Answer.the-variants.{Passed, Refused}
 
 -- ## The state
 

@@ -1,2 +1,5 @@
--- Laws of padded messages. Assumes nothing.
-pub mod Laws
+-- Laws of the rounds, of padded messages and of the digest. Assumes nothing.
+
+pub mod Padding
+pub mod Rounds
+pub mod Digests

@@ -1,12 +1,14 @@
 // SHA-256 (FIPS 180-4) of a byte string of any length.
+pub mod compression; // compression.rt: the compression function
+
 ghost use mathlib.Core.Path.{_≡_};
 ghost use mathlib.Core.List.{_++_};
 ghost use Prim.Native.Nat.{_+_, _/_, _%_};
 ghost use lib.ListN.{length, take};
-ghost use Rattle.sha256_core.specs.Sha256.{K, zeroCount, padding, padded, hashed, hashBytes, sha256};
-use sha256_core::Hash;
-use sha256_core::compress;
-use sha256_core::initial_hash;
+ghost use Rattle.sha256.specs.Sha256.{K, zeroCount, padding, padded, hashed, hashBytes, sha256};
+use compression::Hash;
+use compression::compress;
+use compression::initial_hash;
 use wire::u32_bytes;
 use wire::u64_bytes;
 
@@ -95,7 +97,7 @@ fn hash_bytes(s: Hash) -> [u8; 32]
 pub fn digest(message: &[u8]) -> [u8; 32]
     ensures { λ r. ⌜ r ≡ sha256 (now (message .entry)) ⌝ }
 {
-    let k = sha256_core::constants();
+    let k = compression::constants();
     let n = message.len();
     let s = whole_blocks(message, &k);
     let from = 64 * (n / 64);

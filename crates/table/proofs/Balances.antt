@@ -9,15 +9,15 @@ use lib.Dec.{eqb, ltb}
 use lib.ListN.{drop, getD, length}
 use lib.Seq.{getD-drop, getD-take}
 use borrow.Author.Tests.{eqb-true, ltb-false, ltb-true}
-use Rattle.entries.specs.Entries.{givenBy, takenBy}
 use Rattle.ledgers.specs.Limits.{maxAmount}
+use Rattle.places.proofs.OverPlaces.{all-each}
+use Rattle.places.proofs.PassedRecord.{given-most, stored-fits}
+use Rattle.places.specs.Entries.{givenBy, takenBy}
+use Rattle.places.specs.LedgerBalances.{zerosAt}
 use Rattle.records.specs.declared.Record.{Record}
 use Rattle.rules.proofs.Lists.{balance-total}
 use Rattle.rules.specs.Lists.{lowered, total}
-use Rattle.table_laws.proofs.Held.{given-most, stored-fits}
 use Rattle.table.specs.Table.{ledgerIn}
-use Rattle.tables.proofs.Places.{all-each}
-use Rattle.tables.specs.Columns.{zerosAt}
 
 module _ (s : List ℕ) (from accounts records count : ℕ) where
   -- an account's balance, as the rules have it

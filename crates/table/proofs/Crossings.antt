@@ -10,6 +10,9 @@ use lib.ListN.{getD}
 use borrow.Author.Tests.{eq-eqb, eqb-true}
 use Rattle.ledgers.specs.Ledgers.{ledgerAt, ledgerByte}
 use Rattle.ledgers.specs.declared.Ledger.{Ledger}
+use Rattle.places.proofs.KindBytes.{receiving-byte, sending-byte}
+use Rattle.places.proofs.OverPlaces.{all-ext, all-list, any-list, sum-ext, sum-list}
+use Rattle.places.specs.OverPlaces.{allAt, anyAt, sumAt}
 use Rattle.records.proofs.Exactly.{kind-ledger}
 use Rattle.records.proofs.Formed.{formed-facts}
 use Rattle.records.specs.Records.{formed, recordIn, within}
@@ -23,9 +26,6 @@ use Rattle.rules.specs.PairValidator.{matched, sameLedger, standsUnder}
 use Rattle.rules.specs.Rules.{isReceiving, isSending, matches}
 use Rattle.table.proofs.Limits.{Parts, parts-of}
 use Rattle.table.specs.Table.{amountAt, backedAt, backedBy, flowAt, headAt, recordAt, recordsFrom, sendingHead, sentAt, wordsAt}
-use Rattle.table_laws.proofs.Rows.{receiving-byte, sending-byte}
-use Rattle.tables.proofs.Places.{all-ext, all-list, any-list, sum-ext, sum-list}
-use Rattle.tables.specs.Places.{allAt, anyAt, sumAt}
 use Rattle.wire.proofs.Lists.{every-both, every-first, every-none}
 use Rattle.wire.specs.BigEndian.{every}
 

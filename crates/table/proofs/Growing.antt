@@ -9,9 +9,9 @@ use lib.Dec.{ltb}
 use lib.ListN.{getD, length, length-set, set}
 use lib.Seq.{getD-set-other, getD-set-same}
 use borrow.Author.Tests.{lt-ltb, ltb-true}
-use Rattle.number_index.proofs.Chains.{chains-grow, chains-same, low-bits-most}
-use Rattle.number_index.proofs.Index.{kept-set, kept-twice}
-use Rattle.number_index.specs.Index.{Kept, chainCount}
+use Rattle.places.proofs.Chains.{chains-grow, chains-same, low-bits-most}
+use Rattle.places.proofs.NumberIndex.{kept-set, kept-twice}
+use Rattle.places.specs.NumberIndex.{Kept, chainCount}
 use Rattle.table.specs.Table.{IndexOf, numberAt}
 
 -- ## One number more

@@ -4,16 +4,16 @@ use mathlib.Core.Bool.{Bool, _&&_, false, not, true}
 use mathlib.Core.List.{List, [], _∷_}
 use mathlib.Core.Path.{_∙_, _≡_, ap₂, refl, sym}
 use lib.ListN.{replicate}
-use Rattle.number_index.proofs.Chains.{chains-of-none}
-use Rattle.number_index.proofs.Index.{zero-at}
+use Rattle.places.proofs.Chains.{chains-of-none}
+use Rattle.places.proofs.NumberIndex.{zero-at}
+use Rattle.places.proofs.OverPlaces.{any-list}
+use Rattle.places.specs.OverPlaces.{anyAt, apartAt, listAt}
 use Rattle.records.specs.Records.{recordIn}
 use Rattle.records.specs.declared.Record.{Record}
 use Rattle.rules.specs.Lists.{any}
 use Rattle.rules.specs.PairValidator.{unshared}
 use Rattle.rules.specs.Rules.{clashes}
 use Rattle.table.specs.Table.{IndexOf, numberAt, numberedAt, recordAt, recordsFrom}
-use Rattle.tables.proofs.Places.{any-list}
-use Rattle.tables.specs.Places.{anyAt, apartAt, listAt}
 use Rattle.wire.specs.BigEndian.{every}
 
 -- ## Records with one number

@@ -7,6 +7,8 @@ use native.Mathlib.Omega.{arith}
 use lib.ListN.{length}
 use Rattle.ledgers.specs.Limits.{maxAmount}
 use Rattle.ledgers.specs.declared.Ledger.{Ledger}
+use Rattle.places.proofs.OverPlaces.{all-each, all-list, all-of, length-list}
+use Rattle.places.specs.OverPlaces.{allAt}
 use Rattle.records.proofs.Formed.{formed-facts}
 use Rattle.records.specs.Records.{formed, recordIn}
 use Rattle.records.specs.declared.Record.{Record}
@@ -15,8 +17,6 @@ use Rattle.rules.specs.Lists.{all}
 use Rattle.rules.specs.PairValidator.{heldAllowed, standsUnder}
 use Rattle.table.proofs.Holding.{Holds, holds-of, of-holds}
 use Rattle.table.specs.Table.{mayHoldAt, recordAt, recordsFrom, wordsAt}
-use Rattle.tables.proofs.Places.{all-each, all-list, all-of, length-list}
-use Rattle.tables.specs.Places.{allAt}
 
 -- as many records as places
 pub length-records : (s : List ℕ) (from n : ℕ) → length (recordsFrom s from n) ≡ n

@@ -9,15 +9,15 @@ use native.Mathlib.Numerals.{add-one}
 use native.Mathlib.Omega.{arith}
 use lib.ListN.{drop, getD, length, length-set, set, take}
 use lib.Seq.{getD-set-other, getD-set-same}
+use Rattle.places.proofs.OverPlaces.{all-each, all-ext, all-of, list-ext, list-snoc}
+use Rattle.places.proofs.PassedRecord.{Changes, Part, part-kept, part-moved}
+use Rattle.places.specs.LedgerBalances.{movedAt}
+use Rattle.places.specs.OverPlaces.{allAt}
 use Rattle.records.specs.Records.{formed, recordIn}
 use Rattle.records.specs.declared.Record.{Record}
 use Rattle.records.specs.declared.Words.{Words}
 use Rattle.rules.specs.Rules.{held, moved}
-use Rattle.table_laws.proofs.Held.{Changes, Part, part-kept, part-moved}
 use Rattle.table.specs.Table.{ledgerIn, numberAt, recordAt, recordsFrom, stored, withWords, wordsAt}
-use Rattle.tables.proofs.Places.{all-each, all-ext, all-of, list-ext, list-snoc}
-use Rattle.tables.specs.Columns.{movedAt}
-use Rattle.tables.specs.Places.{allAt}
 
 -- ## A record's words
 

@@ -5,10 +5,10 @@ use mathlib.Core.Path.{_≡_, ap, refl, sym}
 use native.Mathlib.Omega.{arith}
 use lib.Dec.{eqb}
 use borrow.Author.Tests.{eq-eqb, eqb-false, eqb-true, ne-eqb}
-use Rattle.exact_sums.proofs.Sums.{same-limbs, same-wide, wide-passes}
-use Rattle.exact_sums.specs.Sums.{wide}
-use Rattle.exact_sums.specs.declared.Wide.{Wide}
 use Rattle.ledgers.specs.Limits.{maxAmount}
+use Rattle.places.proofs.ExactSums.{same-limbs, same-wide, wide-passes}
+use Rattle.places.specs.ExactSums.{wide}
+use Rattle.places.specs.declared.exact_sums.Wide.{Wide}
 
 -- with a high limb it is no amount
 pub high-passes : (w : Wide) (x supply : ℕ) → wide w ≡ x → supply ≤ maxAmount → (w .high ≡ 0 → ⊥) → false ≡ eqb x supply

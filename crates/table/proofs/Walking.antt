@@ -5,10 +5,10 @@ use mathlib.Core.List.{List}
 use mathlib.Core.Path.{_≡_}
 use lib.ListN.{getD}
 use borrow.Author.Tests.{eqb-true}
-use Rattle.number_index.proofs.Walks.{WalkOver, over-end, over-first, over-found, over-lower, over-next}
-use Rattle.number_index.specs.Index.{chainCount}
+use Rattle.places.proofs.Walks.{WalkOver, over-end, over-first, over-found, over-lower, over-next}
+use Rattle.places.specs.NumberIndex.{chainCount}
+use Rattle.places.specs.OverPlaces.{anyAt}
 use Rattle.table.specs.Table.{IndexOf, numberAt, numberedAt, sentAt}
-use Rattle.tables.specs.Places.{anyAt}
 use Rattle.wire.proofs.Lists.{every-first}
 
 -- a place with a number has the number

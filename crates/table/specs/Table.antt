@@ -5,11 +5,13 @@ use mathlib.Core.Bool.{Bool, cond, false, not, _&&_, _||_}
 use mathlib.Core.List.{List, [], _∷_}
 use lib.Dec.{eqb}
 use lib.ListN.{drop, getD, set, take}
-use Rattle.exact_sums.specs.Sums.{Halves}
-use Rattle.exact_sums.specs.declared.Flows.{Flows}
 use Rattle.ledgers.specs.declared.Ledger.{Ledger}
 use Rattle.ledgers.specs.declared.Ledger.the-variants.{Far, Home}
-use Rattle.number_index.specs.Index.{Chains, chainCount}
+use Rattle.places.specs.ExactSums.{Halves}
+use Rattle.places.specs.LedgerBalances.{movedAt}
+use Rattle.places.specs.NumberIndex.{Chains, chainCount}
+use Rattle.places.specs.OverPlaces.{anyAt, listAt, sumAt}
+use Rattle.places.specs.declared.exact_sums.Flows.{Flows}
 use Rattle.records.specs.Records.{readingWords, recordIn, within}
 use Rattle.records.specs.declared.Reading.{Reading}
 use Rattle.records.specs.declared.Reading.the-variants.{Read, Unreadable}
@@ -17,8 +19,6 @@ use Rattle.records.specs.declared.Record.{Record}
 use Rattle.records.specs.declared.Words.{Words}
 use Rattle.rules.specs.PairValidator.{heldAllowed, standsUnder}
 use Rattle.rules.specs.Rules.{LedgerState}
-use Rattle.tables.specs.Columns.{movedAt}
-use Rattle.tables.specs.Places.{anyAt, listAt, sumAt}
 use Rattle.wire.specs.BigEndian.{every}
 
 -- ## The records

@@ -1,3 +1,4 @@
 -- Laws of bytes and numbers, each over every width. Assumes nothing.
+
 pub mod Lists
 pub mod Numbers

@@ -1,2 +1,3 @@
--- The definitions that the contracts cite. Assumes nothing.
+-- Numbers in bytes, and the parts of bytes. Assumes nothing.
+
 pub mod BigEndian

@@ -1,9 +1,12 @@
-// Numbers of 2, 4 and 8 bytes in byte slices, highest byte first, and runs of zero bytes: what records, journal
-// blocks and SHA-256 share. The reading functions need their bytes within the slice.
+// Numbers of 2, 4 and 8 bytes in byte slices, highest byte first, runs of zero bytes, and where the parts of bytes stand: what records,
+// journal blocks, lists of records and SHA-256 share. The reading functions need their bytes within the slice.
+pub mod parts; // parts.rt: where a part of bytes ends
+
 ghost use mathlib.Core.Path.{_≡_};
 ghost use Prim.Native.Nat.{_+_, _-_, _≤_, _<_};
 ghost use lib.ListN.{length, take, drop};
 ghost use Rattle.wire.specs.BigEndian.{field, bytesOf, zeros, same};
+pub use parts::part_end;
 
 // A number of 8 bits in 16 bits.
 fn wide8(x: u8) -> u16

@@ -19,7 +19,7 @@ const HEADER: &str = "include/moatbetony.h";
 const FFI: &str = "bindings/rust/src/ffi.rs";
 const EXPORTS: &str = "crates/moatbetony/src/lib.rt";
 const LEDGERS: &str = "crates/ledgers/src/lib.rt";
-const NUMBER_INDEX: &str = "crates/number_index/src/lib.rt";
+const NUMBER_INDEX: &str = "crates/places/src/number_index.rt";
 
 // A validator: its name here; the source that has its state's struct, and the one that has the words of its fields, with that crate's name;
 // the fields after the records with the constants for the words at which they start, in order, and under no name that for all words.

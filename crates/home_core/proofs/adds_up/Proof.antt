@@ -1,6 +1,6 @@
 -- `home_core::adds_up` meets its contract. Assumes nothing.
-use Rattle.exact_sums.proofs.Sums.{added-after, added-value}
 use Rattle.home_core.proofs.Accept.{bounds-facts}
+use Rattle.places.proofs.ExactSums.{added-after, added-value}
 use Rattle.table.proofs.Sums.{high-passes, low-compares}
 use borrow.Author.Needs.{needs}
 use native.Mathlib.Omega.{arith}

@@ -1,11 +1,11 @@
 -- `home_core::step` meets its contract. Assumes nothing.
 use Rattle.home_core.proofs.Stepping.{number-room, step-leaves}
 use Rattle.home_core.specs.Layout.{HomeReady, homeViewOf, homeWordsChecker}
-use Rattle.inputs.proofs.Parts.{ReadsAs, formed-as, step-refused}
 use Rattle.ledgers.specs.Limits.{capacity}
 use Rattle.records.proofs.Formed.{read-formed}
 use Rattle.records.specs.Records.{reading}
 use Rattle.records.specs.declared.Reading.the-variants.{Read}
+use Rattle.rules.proofs.Parts.{ReadsAs, formed-as, step-refused}
 use Rattle.rules.specs.HomeValidator.{homeJudge}
 use borrow.Author.Needs.{needs}
 use mathlib.Core.Path.{_∙_, _≡_, ap, sym}

@@ -1,6 +1,6 @@
 -- `home_core::take` meets its contract. Assumes nothing.
 use Rattle.home_core.specs.Layout.{homeWordsChecker, indexLength}
-use Rattle.inputs.proofs.Parts.{told-one, told-unaccepted}
+use Rattle.rules.proofs.Parts.{told-one, told-unaccepted}
 use Rattle.rules.specs.Calls.{one}
 use Rattle.table.proofs.Numbers.{index-none}
 use borrow.Author.Needs.{needs}

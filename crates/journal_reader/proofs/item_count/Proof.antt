@@ -4,8 +4,8 @@ use mathlib.Core.Path.{sym, ap, _∙_}
 use borrow.Author.Needs.{needs}
 use Rattle.answers.proofs.Answers.{passed-zero, refused-instead}
 use Rattle.answers.specs.Answers.{answer, unlessRefused}
-use Rattle.block_format.specs.Blocks.{statedCount}
-use Rattle.block_checks.specs.Checked.{blockRefusal}
+use Rattle.journal_blocks.specs.Blocks.{statedCount}
+use Rattle.journal_blocks.specs.Checked.{blockRefusal}
 use Rattle.journal_reader.specs.Judged.{countOf}
 use Rattle.journal_reader.proofs.item_count.Statement.{statement}
 use Rattle.journal_reader.proofs.item_count.Tie as tie

@@ -5,9 +5,9 @@ use mathlib.Core.List.{List, _++_}
 use native.Mathlib.Omega.{arith}
 use lib.ListN.{set, replicate}
 use borrow.Author.Needs.{needs}
-use Rattle.block_format.proofs.Items.{table-on}
-use Rattle.block_format.specs.Blocks.{statedCount, balancesIn}
-use Rattle.sha256_core.specs.Sha256.{block}
+use Rattle.journal_blocks.proofs.Items.{table-on}
+use Rattle.journal_blocks.specs.Blocks.{statedCount, balancesIn}
+use Rattle.sha256.specs.Sha256.{block}
 use Rattle.journal_reader.proofs.judged_balances.Statement.{statement}
 use Rattle.journal_reader.proofs.judged_balances.Tie as tie
 

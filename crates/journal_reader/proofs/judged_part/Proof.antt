@@ -4,7 +4,7 @@ use mathlib.Core.Path.{_≡_, ap}
 use native.Mathlib.Omega.{arith}
 use lib.ListN.{take, drop}
 use borrow.Author.Needs.{needs}
-use Rattle.block_format.specs.Blocks.{recordPart}
+use Rattle.journal_blocks.specs.Blocks.{recordPart}
 use Rattle.journal_reader.proofs.judged_part.Statement.{statement}
 use Rattle.journal_reader.proofs.judged_part.Tie as tie
 

@@ -5,11 +5,11 @@ use lib.ListN.{replicate}
 use borrow.Author.Needs.{needs}
 use Rattle.answers.proofs.Answers.{instead-refused}
 use Rattle.answers.specs.Answers.{answer, orElse}
-use Rattle.block_format.specs.Blocks.{statedCount, balanceTable}
+use Rattle.answers.specs.declared.Answer.the-variants.{Passed}
+use Rattle.journal_blocks.specs.Blocks.{statedCount, balanceTable}
 use Rattle.journal_reader.proofs.Judging.{opened}
 use Rattle.journal_reader.specs.Judged.{balancesRefusal, openingOf}
 use Rattle.ledgers.specs.Limits.{accountLimit}
-use Rattle.answers.specs.declared.Answer.the-variants.{Passed}
 use Rattle.journal_reader.proofs.opening_balances.Statement.{statement}
 use Rattle.journal_reader.proofs.opening_balances.Tie as tie
 

@@ -5,7 +5,7 @@ use mathlib.Core.List.{[]}
 use native.Mathlib.Omega.{arith}
 use borrow.Author.Needs.{needs}
 use Rattle.answers.proofs.Answers.{passed-zero, refused-instead}
-use Rattle.block_format.specs.Blocks.{recordPart}
+use Rattle.journal_blocks.specs.Blocks.{recordPart}
 use Rattle.journal_reader.proofs.Judging.{placed}
 use Rattle.journal_reader.specs.Judged.{recordRefusal, partOf}
 use Rattle.journal_reader.proofs.record_part.Statement.{statement}

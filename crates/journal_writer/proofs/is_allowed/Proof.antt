@@ -4,7 +4,7 @@ use mathlib.Core.Path.{ap}
 use native.Mathlib.Omega.{arith}
 use borrow.Author.Tests.{leb-true, le-leb}
 use borrow.Author.Needs.{needs}
-use Rattle.block_format.proofs.Sizes.{block-bounds}
+use Rattle.journal_blocks.proofs.Sizes.{block-bounds}
 use Rattle.journal_writer.proofs.Allowing.{allowed-facts, facts-allowed}
 use Rattle.wire.proofs.Lists.{not-held, same-tests}
 use Rattle.journal_writer.proofs.is_allowed.Statement.{statement}

@@ -6,8 +6,8 @@ use native.Mathlib.Omega.{arith}
 use lib.ListN.{length, take, length-take}
 use borrow.Author.Needs.{needs}
 use Rattle.journal_writer.proofs.Laying.{sealed}
-use Rattle.sha256_core.proofs.Digests.{length-sha256}
-use Rattle.sha256_core.specs.Sha256.{sha256}
+use Rattle.sha256.proofs.Digests.{length-sha256}
+use Rattle.sha256.specs.Sha256.{sha256}
 use Rattle.journal_writer.proofs.seal.Statement.{statement}
 use Rattle.journal_writer.proofs.seal.Tie as tie
 

@@ -5,10 +5,10 @@ use mathlib.Core.List.{List, _++_}
 use native.Mathlib.Omega.{arith}
 use lib.ListN.{length, take, replicate}
 use borrow.Author.Needs.{needs}
-use Rattle.block_format.proofs.Sizes.{block-bounds}
+use Rattle.journal_blocks.proofs.Sizes.{block-bounds}
 use Rattle.journal_writer.proofs.Allowing.{allowed-facts, allowed-room, allowed-answer, refused-answer}
 use Rattle.journal_writer.specs.Written.{header, body, journalBlock, written}
-use Rattle.sha256_core.specs.Sha256.{sha256}
+use Rattle.sha256.specs.Sha256.{sha256}
 use Rattle.journal_writer.proofs.write.Statement.{statement}
 use Rattle.journal_writer.proofs.write.Tie as tie
 

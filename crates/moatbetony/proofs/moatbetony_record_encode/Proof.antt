@@ -1,8 +1,8 @@
 -- `moatbetony::moatbetony_record_encode` meets its contract. Assumes nothing.
 use mathlib.Core.Path.{_∙_, ap}
 use borrow.Author.Needs.{needs}
-use Rattle.moatbetony.specs.Told.{told}
 use Rattle.moatbetony.proofs.Telling.{encoded-read, encoded-unread}
+use Rattle.moatbetony.specs.Told.{told}
 use Rattle.moatbetony.proofs.moatbetony_record_encode.Statement.{statement}
 use Rattle.moatbetony.proofs.moatbetony_record_encode.Tie as tie
 

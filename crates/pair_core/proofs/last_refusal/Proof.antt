@@ -6,7 +6,7 @@ use Rattle.pair_core.proofs.Accept.{PairSound, sound-of}
 use Rattle.pair_core.proofs.Judging.{last-matched, last-paid}
 use Rattle.pair_core.proofs.Ledgers.{accounts-fit, index-within, records-within}
 use Rattle.pair_core.specs.Layout.{accountsOn, balancesOn}
-use Rattle.tables.specs.Columns.{fundsAt}
+use Rattle.places.specs.LedgerBalances.{fundsAt}
 use borrow.Author.Needs.{needs}
 use lib.ListN.{getD}
 use mathlib.Core.Bool.{Bool, not}

@@ -1,5 +1,4 @@
 -- `pair_core::step` meets its contract. Assumes nothing.
-use Rattle.inputs.proofs.Parts.{ReadsAs, formed-as, step-refused}
 use Rattle.ledgers.specs.Ledgers.{ledgerByte, ledgerOf}
 use Rattle.ledgers.specs.Limits.{capacity}
 use Rattle.pair_core.proofs.Stepping.{number-room, step-leaves}
@@ -7,6 +6,7 @@ use Rattle.pair_core.specs.Layout.{PairReady, pairViewOf, pairWordsCheck
 use Rattle.records.proofs.Formed.{read-formed}
 use Rattle.records.specs.Records.{reading}
 use Rattle.records.specs.declared.Reading.the-variants.{Read}
+use Rattle.rules.proofs.Parts.{ReadsAs, formed-as, step-refused}
 use Rattle.rules.specs.PairValidator.{pairJudge}
 use borrow.Author.Needs.{needs}
 use mathlib.Core.Path.{_∙_, _≡_, ap, sym}

@@ -1,7 +1,7 @@
 -- `pair_core::take` meets its contract. Assumes nothing.
 use Prim.Native.Nat.{_*_}
 use Rattle.pair_core.specs.Layout.{indexLength, indexOn, pairWordsChecker, recordsOn}
-use Rattle.inputs.proofs.Parts.{told-one, told-unaccepted}
+use Rattle.rules.proofs.Parts.{told-one, told-unaccepted}
 use Rattle.rules.specs.Calls.{one}
 use Rattle.table.proofs.Numbers.{index-none}
 use borrow.Author.Needs.{needs}

@@ -1,7 +1,7 @@
 -- `pair_core::take_list` meets its contract. Assumes nothing.
 use Prim.Native.Nat.{_*_, _-_}
 use Rattle.pair_core.specs.Layout.{PairReady, indexLength, indexOn, pairWordsChecker, recordsOn}
-use Rattle.inputs.proofs.Parts.{Taking, taking-end, taking-first, taking-next, taking-refused, told-unaccepted}
+use Rattle.rules.proofs.Parts.{Taking, taking-end, taking-first, taking-next, taking-refused, told-unaccepted}
 use Rattle.rules.specs.Calls.{list}
 use Rattle.table.proofs.Numbers.{index-none}
 use borrow.Author.Needs.{needs}

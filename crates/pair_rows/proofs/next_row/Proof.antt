@@ -1,8 +1,8 @@
 -- `pair_rows::next_row` meets its contract. Assumes nothing.
-use Rattle.entries.specs.Entries.{givenBy, takenBy}
 use Rattle.ledgers.specs.Ledgers.{ledgerOf}
 use Rattle.pair_core.specs.Layout.{pairWordsChecker, supplyOf}
 use Rattle.pair_rows.proofs.Rows.{RowMoves, read-or-refused, row-passed, row-refused, row-tells, rowAfter}
+use Rattle.places.specs.Entries.{givenBy, takenBy}
 use borrow.Author.Needs.{needs}
 use mathlib.Core.Path.{_∙_, _≡_, sym}
 use Rattle.pair_rows.proofs.next_row.Statement.{statement}

@@ -6,8 +6,8 @@ use native.Mathlib.Omega.{arith}
 use lib.Seq.{length-take-le}
 use lib.ListN.{length, take, drop}
 use borrow.Author.Needs.{needs}
-use Rattle.sha256.proofs.Laws.{block-count, block-last, hashed-next}
-use Rattle.sha256_core.specs.Sha256.{zeroCount, padded, block, hashed, hashBytes, sha256}
+use Rattle.sha256.proofs.Padding.{block-count, block-last, hashed-next}
+use Rattle.sha256.specs.Sha256.{zeroCount, padded, block, hashed, hashBytes, sha256}
 use Rattle.sha256.proofs.digest.Statement.{statement}
 use Rattle.sha256.proofs.digest.Tie as tie
 

@@ -1,6 +1,6 @@
 -- `sha256::hash_bytes` meets its contract. Assumes nothing.
 use borrow.Author.Needs.{needs}
-use Rattle.sha256.proofs.Laws.{bytes-of-words}
+use Rattle.sha256.proofs.Padding.{bytes-of-words}
 use Rattle.sha256.proofs.hash_bytes.Statement.{statement}
 use Rattle.sha256.proofs.hash_bytes.Tie as tie
 

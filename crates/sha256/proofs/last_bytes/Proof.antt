@@ -2,7 +2,7 @@
 use native.Mathlib.Omega.{arith}
 use lib.ListN.{length-set}
 use borrow.Author.Needs.{needs}
-use Rattle.sha256.proofs.Laws.{rest-padded}
+use Rattle.sha256.proofs.Padding.{rest-padded}
 use Rattle.sha256.proofs.last_bytes.Statement.{statement}
 use Rattle.sha256.proofs.last_bytes.Tie as tie
 

@@ -4,8 +4,8 @@ use mathlib.Core.Path.{_≡_, ap, _∙_}
 use native.Mathlib.Omega.{arith}
 use lib.ListN.{length, take, drop}
 use borrow.Author.Needs.{needs}
-use Rattle.sha256_core.specs.Sha256.{padded, hashed}
-use Rattle.sha256.proofs.Laws.{hashed-next, block-within}
+use Rattle.sha256.proofs.Padding.{hashed-next, block-within}
+use Rattle.sha256.specs.Sha256.{padded, hashed}
 use Rattle.sha256.proofs.whole_blocks.Statement.{statement}
 use Rattle.sha256.proofs.whole_blocks.Tie as tie
 

@@ -1,13 +1,13 @@
 -- `table::add_crossings` meets its contract. Assumes nothing.
 use Prim.Native.Nat.{_%_, _*_, _+_, _-_, _/_, _<_, _^_, _≤_, ℕ}
-use Rattle.exact_sums.proofs.Sums.{counted-most, halves-fit, halves-more, halves-none}
-use Rattle.exact_sums.specs.Sums.{Halves}
+use Rattle.places.proofs.ExactSums.{counted-most, halves-fit, halves-more, halves-none}
+use Rattle.places.proofs.OverPlaces.{all-end, all-here, all-on, sum-more, sum-none}
+use Rattle.places.specs.ExactSums.{Halves}
+use Rattle.places.specs.OverPlaces.{allAt, sumAt}
 use Rattle.records.specs.Records.{within}
 use Rattle.records.specs.declared.Words.{Words}
 use Rattle.rules.proofs.Lists.{never-both-tests}
 use Rattle.table.specs.Table.{FlowsAt, amountAt, backedAt, backedBy, flowAt, flowBy, headAt, wordsAt}
-use Rattle.tables.proofs.Places.{all-end, all-here, all-on, sum-more, sum-none}
-use Rattle.tables.specs.Places.{allAt, sumAt}
 use borrow.Author.Needs.{needs}
 use borrow.Author.Tests.{not-false, not-true}
 use lib.Dec.{eqb}

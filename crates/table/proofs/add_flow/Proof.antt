@@ -1,6 +1,6 @@
 -- `table::add_flow` meets its contract. Assumes nothing.
 use Prim.Native.Nat.{_%_, _+_, _/_, _^_, ℕ}
-use Rattle.tables.proofs.Places.{chosen, not-chosen}
+use Rattle.places.proofs.OverPlaces.{chosen, not-chosen}
 use borrow.Author.Needs.{needs}
 use borrow.Author.Tests.{eq-eqb, ne-eqb}
 use mathlib.Core.Path.{_∙_, _≡_, ap}

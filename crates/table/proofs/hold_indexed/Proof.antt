@@ -7,16 +7,16 @@ use native.Mathlib.Omega.{arith}
 use borrow.Author.Needs.{needs}
 use borrow.Author.Tests.{not-false, not-true}
 use Rattle.ledgers.specs.Ledgers.{ledgerAt}
-use Rattle.number_index.proofs.Apart.{Apart, apart-every, apart-more, value-fresh, value-new, value-twice}
-use Rattle.number_index.proofs.Index.{kept-twice}
-use Rattle.number_index.specs.Index.{Kept, chainCount}
+use Rattle.places.proofs.Apart.{Apart, apart-every, apart-more, value-fresh, value-new, value-twice}
+use Rattle.places.proofs.NumberIndex.{kept-twice}
+use Rattle.places.proofs.OverPlaces.{all-end, all-here, all-on}
+use Rattle.places.specs.NumberIndex.{Kept, chainCount}
+use Rattle.places.specs.OverPlaces.{allAt, anyAt}
 use Rattle.records.specs.Records.{readingWords}
 use Rattle.records.specs.declared.Words.{Words}
 use Rattle.rules.proofs.Lists.{never-both-tests}
 use Rattle.table.proofs.Growing.{grown-kept, index-grown}
 use Rattle.table.specs.Table.{IndexOf, accountsBy, mayHold, mayHoldAt, numberAt, numberedAt}
-use Rattle.tables.proofs.Places.{all-end, all-here, all-on}
-use Rattle.tables.specs.Places.{allAt, anyAt}
 use Rattle.wire.proofs.Lists.{and-false}
 use Rattle.table.proofs.hold_indexed.Statement.{statement}
 use Rattle.table.proofs.hold_indexed.Tie as tie

@@ -1,7 +1,7 @@
 -- `table::is_backed` meets its contract. Assumes nothing.
 use Prim.Native.Nat.{ℕ}
-use Rattle.number_index.proofs.Backing.{not-asked}
-use Rattle.tables.specs.Places.{anyAt}
+use Rattle.places.proofs.Backing.{not-asked}
+use Rattle.places.specs.OverPlaces.{anyAt}
 use Rattle.table.proofs.Crossings.{asked}
 use Rattle.table.specs.Table.{backedBy, sentAt}
 use borrow.Author.Needs.{needs}

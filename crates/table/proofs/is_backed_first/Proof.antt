@@ -1,6 +1,6 @@
 -- `table::is_backed_first` meets its contract. Assumes nothing.
 use Prim.Native.Nat.{_-_, ℕ}
-use Rattle.number_index.proofs.Backing.{not-asked}
+use Rattle.places.proofs.Backing.{not-asked}
 use Rattle.rules.proofs.Lists.{never-both-tests}
 use Rattle.table.proofs.Crossings.{asked}
 use Rattle.table.proofs.Walking.{WalkFor, sent-numbered, walk-first, walk-found}

@@ -4,9 +4,9 @@ use mathlib.Core.Path.{_∙_, _≡_, ap, sym}
 use native.Mathlib.Omega.{arith}
 use borrow.Author.Needs.{needs}
 use borrow.Author.Tests.{eq-eqb, ne-eqb}
+use Rattle.places.proofs.OverPlaces.{any-end, any-here, any-on}
+use Rattle.places.specs.OverPlaces.{anyAt}
 use Rattle.table.specs.Table.{numberedAt}
-use Rattle.tables.proofs.Places.{any-end, any-here, any-on}
-use Rattle.tables.specs.Places.{anyAt}
 use Rattle.table.proofs.scanned.Statement.{statement}
 use Rattle.table.proofs.scanned.Tie as tie
 

@@ -1,7 +1,7 @@
 -- `table::scanned_sent` meets its contract. Assumes nothing.
 use Prim.Native.Nat.{_-_, _≤_}
-use Rattle.tables.proofs.Places.{any-end, any-here, any-on}
-use Rattle.tables.specs.Places.{anyAt}
+use Rattle.places.proofs.OverPlaces.{any-end, any-here, any-on}
+use Rattle.places.specs.OverPlaces.{anyAt}
 use Rattle.table.specs.Table.{sentAt}
 use borrow.Author.Needs.{needs}
 use mathlib.Core.Path.{_∙_, _≡_, ap, sym}

@@ -1,6 +1,6 @@
 -- `table::store` meets its contract. Assumes nothing.
 use Prim.Native.Nat.{ℕ}
-use Rattle.table_laws.proofs.Held.{taken-given}
+use Rattle.places.proofs.PassedRecord.{taken-given}
 use Rattle.table.specs.Table.{stored, withWords}
 use borrow.Author.Needs.{needs}
 use mathlib.Core.List.{List}

@@ -3,8 +3,8 @@ use Prim.Native.Nat.{ℕ}
 use Rattle.answers.specs.Answers.{answer}
 use Rattle.home_core.specs.Layout.{homeOpenedWords, homeZeroWords}
 use Rattle.home_validator.specs.declared.HomeValidator.{HomeValidator}
+use Rattle.places.proofs.Openings.{opening-in}
 use Rattle.rules.specs.HomeValidator.{homeOpeningRefusal}
-use Rattle.table_laws.proofs.Openings.{opening-in}
 use borrow.Author.Needs.{needs}
 use mathlib.Core.List.{List}
 use mathlib.Core.Path.{_∙_, ap, refl}

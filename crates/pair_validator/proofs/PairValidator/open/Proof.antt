@@ -3,8 +3,8 @@ use Prim.Native.Nat.{ℕ}
 use Rattle.answers.specs.Answers.{answer}
 use Rattle.pair_core.specs.Layout.{pairOpenedWords, pairZeroWords}
 use Rattle.pair_validator.specs.declared.PairValidator.{PairValidator}
+use Rattle.places.proofs.Openings.{opening-in}
 use Rattle.rules.specs.PairValidator.{pairOpeningRefusal}
-use Rattle.table_laws.proofs.Openings.{opening-in}
 use borrow.Author.Needs.{needs}
 use mathlib.Core.List.{List}
 use mathlib.Core.Path.{_∙_, ap, refl}

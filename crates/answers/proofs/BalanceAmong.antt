@@ -1,0 +1,32 @@
+-- The balance at a place of the balances is the one among the ledger's. Assumes nothing.
+use Prim.Native.Nat.{_+_, _<_, _≤_, ℕ}
+use mathlib.Core.List.{List}
+use mathlib.Core.Path.{_≡_}
+use native.Mathlib.Omega.{arith}
+use lib.Dec.{ltb}
+use lib.ListN.{drop, getD, length, length-drop, length-take, take}
+use lib.Seq.{getD-drop, getD-take}
+use borrow.Author.Tests.{le-ltb, lt-ltb}
+use Rattle.answers.specs.Balances.{balanceAmong, balanceRefused}
+use Rattle.answers.specs.declared.Answer.the-variants.{Passed}
+use Rattle.answers.specs.declared.balance.Balance.{Balance}
+
+module _ (xs : List ℕ) (from n a : ℕ) (fits : from + n ≤ length xs) where
+  -- as many balances as there are accounts
+  long : length (take n (drop from xs)) ≡ n
+  long = simp (length-take, length-drop) (omega arith)
+
+  -- an account that is not open
+  pub among-closed : n ≤ a → balanceRefused 22 ≡ balanceAmong (take n (drop from xs)) a
+  unfolding balanceAmong
+  among-closed h =
+      let e : ltb a (length (take n (drop from xs))) ≡ _ = le-ltb a _ (omega (arith, long)) in
+      rw e
+
+  -- an account that is open
+  pub among-open : a < n
+      → _≡_ {A = Balance} (record { answer = Passed; balance = getD xs (from + a) 0 }) (balanceAmong (take n (drop from xs)) a)
+  unfolding balanceAmong
+  among-open h =
+      let e : ltb a (length (take n (drop from xs))) ≡ _ = lt-ltb a _ (omega (arith, long)) in
+      rw (e, getD-take n (drop from xs) a 0 h, getD-drop)

@@ -1,0 +1,11 @@
+-- `answers::balance::balance_refused` meets its contract. Assumes nothing.
+use mathlib.Core.Path.{ap}
+use borrow.Author.Needs.{needs}
+use Rattle.answers.specs.declared.Answer.{Answer}
+use Rattle.answers.specs.declared.balance.Balance.{Balance}
+use Rattle.answers.proofs.balance.balance_refused.Statement.{statement}
+use Rattle.answers.proofs.balance.balance_refused.Tie as tie
+
+pub balance-refused-spec : {M : Type 1} → statement M
+balance-refused-spec = tie.close (tie.spec (λ c κs. search needs)
+    (λ c. ap {B = Balance} (λ (a : Answer). record { answer = a; balance = 0 }) (c .new .ensures)))

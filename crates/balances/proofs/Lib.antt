@@ -1,3 +1,0 @@
--- Laws of the balance of one account. Assumes nothing.
-
-mod Among

@@ -1,3 +1,0 @@
--- The balance of one account. Assumes nothing.
-
-pub mod Balances

@@ -1,2 +1,0 @@
--- Laws of judging a block. Assumes nothing.
-pub mod Checking

@@ -1,8 +1,0 @@
--- `entries::given_by` meets its contract. Assumes nothing.
-use borrow.Author.Needs.{needs}
-use Rattle.entries.proofs.given_by.Statement.{statement}
-use Rattle.entries.proofs.given_by.Tie as tie
-
-pub given-by-spec : {M : Type 1} → statement M
-given-by-spec = tie.close (tie.spec (λ c. search needs) (λ c. search needs) (λ c. search needs) (λ c. search needs) (λ c. search needs)
-    (λ c. search needs))

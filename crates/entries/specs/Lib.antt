@@ -1,3 +1,0 @@
--- What a passed record takes and gives. Assumes nothing.
-
-pub mod Entries

@@ -1,2 +1,0 @@
--- Laws of exact sums. Assumes nothing.
-pub mod Sums

@@ -1,3 +1,0 @@
--- Exact sums. Assumes nothing.
-
-pub mod Sums

@@ -1,2 +1,0 @@
--- Laws of the table of hexadecimal digits. Assumes nothing.
-pub mod Digits

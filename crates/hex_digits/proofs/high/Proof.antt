@@ -1,9 +1,0 @@
--- `hex_digits::high` meets its contract. Assumes nothing.
-use borrow.Author.Needs.{needs}
-use Rattle.hex_digits.proofs.Digits.{digits-at}
-use Rattle.hex_digits.proofs.high.Statement.{statement}
-use Rattle.hex_digits.proofs.high.Tie as tie
-
-pub high-spec : {M : Type 1} → statement M
-high-spec = tie.close (tie.spec (λ c. search needs) (λ c. search needs)
-    (λ c. rw (c .before .pre) (digits-at (c .before .args .b) (search needs) .0)))

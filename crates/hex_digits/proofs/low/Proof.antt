@@ -1,9 +1,0 @@
--- `hex_digits::low` meets its contract. Assumes nothing.
-use borrow.Author.Needs.{needs}
-use Rattle.hex_digits.proofs.Digits.{digits-at}
-use Rattle.hex_digits.proofs.low.Statement.{statement}
-use Rattle.hex_digits.proofs.low.Tie as tie
-
-pub low-spec : {M : Type 1} → statement M
-low-spec = tie.close (tie.spec (λ c. search needs) (λ c. search needs) (λ c. search needs)
-    (λ c. rw (c .before .pre) (digits-at (c .before .args .b) (search needs) .1)))

@@ -1,3 +1,0 @@
--- Hexadecimal digits. Assumes nothing.
-
-pub mod Hex

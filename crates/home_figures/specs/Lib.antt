@@ -1,3 +1,0 @@
--- What a state of the home validator is asked for. Assumes nothing.
-
-pub mod Figures

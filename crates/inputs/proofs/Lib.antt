@@ -1,2 +1,0 @@
--- The records of a call, one after the other. Assumes nothing.
-pub mod Parts

@@ -1,0 +1,52 @@
+-- What a block that is not refused shows, fact by fact. Assumes nothing.
+use Prim.Native.Nat.{ℕ, _≤_}
+use mathlib.Core.Path.{_≡_, ap, _∙_}
+use mathlib.Core.Bool.{Bool, true, not}
+use mathlib.Core.List.{List}
+use native.Mathlib.Omega.{arith}
+use lib.Dec.{eqb, ltb}
+use lib.ListN.{length}
+use borrow.Author.Tests.{eqb-true, eq-eqb, le-ltb, ltb-false, not-false}
+use Rattle.answers.proofs.Answers.{refuse-zero, refuse-else}
+use Rattle.answers.specs.Answers.{refuse, orElse}
+use Rattle.journal_blocks.specs.Blocks.{maxBlock, blockNumber, blockFormed}
+use Rattle.journal_blocks.specs.Checked.{checked, blockRefusal}
+
+-- the facts, one for each test
+pub record Right (b : List ℕ) (k before : ℕ) : Type 0 where
+  pub long : length b ≡ 512
+  pub low : k ≤ maxBlock
+  pub sealed : checked b ≡ true
+  pub numbered : blockNumber b ≡ k
+  pub formed : blockFormed b k before ≡ true
+
+-- from the refusal to the facts
+pub right-facts : (b : List ℕ) (k before : ℕ) → blockRefusal b k before ≡ 0 → Right b k before
+unfolding blockRefusal
+right-facts b k before h =
+    let h1 = refuse-zero (not (eqb (length b) 512)) 11 _ (omega arith) h in
+    let h2 = refuse-zero (ltb maxBlock k) 11 _ (omega arith) (h1 .1) in
+    let h3 = refuse-zero (not (checked b)) 12 _ (omega arith) (h2 .1) in
+    let h4 = refuse-zero (not (eqb (blockNumber b) k)) 13 _ (omega arith) (h3 .1) in
+    let h5 = refuse-zero (not (blockFormed b k before)) 14 _ (omega arith) (h4 .1) in
+    record {
+      long = eqb-true _ _ (not-false _ (h1 .0));
+      low = ltb-false _ _ (h2 .0);
+      sealed = not-false _ (h3 .0);
+      numbered = eqb-true _ _ (not-false _ (h4 .0));
+      formed = not-false _ (h5 .0);
+    }
+
+-- and back
+pub not-refused : (b : List ℕ) (k before : ℕ) → Right b k before → blockRefusal b k before ≡ 0
+unfolding blockRefusal
+not-refused b k before r =
+    rw (eq-eqb _ _ (r .long), le-ltb _ _ (r .low), r .sealed, eq-eqb _ _ (r .numbered), r .formed)
+
+-- the refusals after the length, one by one and in their order
+pub in-order : (t u v w : Bool)
+    → orElse (refuse t 11 0) (orElse (refuse u 12 0) (orElse (refuse v 13 0) (refuse w 14 0)))
+    ≡ refuse t 11 (refuse u 12 (refuse v 13 (refuse w 14 0)))
+in-order t u v w =
+    refuse-else t 11 _ (omega arith)
+    ∙ ap (refuse t 11) (refuse-else u 12 _ (omega arith) ∙ ap (refuse u 12) (refuse-else v 13 _ (omega arith)))

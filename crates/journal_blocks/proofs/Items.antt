@@ -1,0 +1,34 @@
+-- Laws of the items of a block. Assumes nothing.
+use Prim.Native.Nat.{ℕ, zero, suc, _+_, _-_, _*_, _<_}
+use mathlib.Core.Path.{_≡_, refl, sym, ap, _∙_}
+use mathlib.Core.List.{List, [], _∷_, _++_, append-assoc}
+use native.Mathlib.Omega.{arith}
+use native.Mathlib.Numerals.{add-one}
+use lib.ListN.{length, set, replicate, length-append}
+use lib.Seq.{set-at}
+use Rattle.journal_blocks.specs.Blocks.{recordPart, recordsIn, balancesIn}
+use Rattle.wire.specs.BigEndian.{field}
+
+-- n opening balances are n
+pub length-balances : (n : ℕ) (b : List ℕ) → length (balancesIn n b) ≡ n
+unfolding balancesIn
+length-balances zero b = refl
+length-balances (suc n) b =
+    omega (arith, length-append (balancesIn n b) (field (32 + 8 * n) 8 b ∷ []), length-balances n b)
+
+-- n records are n
+pub length-records : (n : ℕ) (b : List ℕ) → length (recordsIn n b) ≡ n
+unfolding recordsIn
+length-records zero b = refl
+length-records (suc n) b = omega (arith, length-append (recordsIn n b) (recordPart b n ∷ []), length-records n b)
+
+-- one more opening balance in the table
+pub table-on : (b : List ℕ) (i v : ℕ) → i < 56 → v ≡ field (32 + 8 * i) 8 b
+    → set (balancesIn i b ++ replicate (56 - i) 0) i v ≡ balancesIn (i + 1) b ++ replicate (56 - (i + 1)) 0
+unfolding balancesIn
+table-on b i v h e =
+    let z : 56 - i ≡ suc (56 - (i + 1)) = omega arith in
+    ap (λ (n : ℕ). set (balancesIn i b ++ replicate n 0) i v) z
+    ∙ set-at (balancesIn i b) 0 (replicate (56 - (i + 1)) 0) v i (length-balances i b)
+    ∙ ap (λ (x : ℕ). balancesIn i b ++ x ∷ replicate (56 - (i + 1)) 0) e
+    ∙ rw add-one (sym (append-assoc (balancesIn i b) (field (32 + 8 * i) 8 b ∷ []) (replicate (56 - suc i) 0)))

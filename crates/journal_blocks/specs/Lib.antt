@@ -1,0 +1,4 @@
+-- The block of a journal, and judging it. Assumes nothing.
+
+pub mod Blocks
+pub mod Checked

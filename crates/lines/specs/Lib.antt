@@ -1,3 +1,0 @@
--- The lines of a listing. Assumes nothing.
-
-pub mod Lines

@@ -1,0 +1,81 @@
+-- A whole listing from its parts: what the opening leaves, alone or with the turns after it. Assumes nothing.
+use Prim.Native.Nat.{_*_, _≤_, ℕ}
+use mathlib.Core.Bool.{Bool, false, true}
+use mathlib.Core.List.{List, [], _++_}
+use mathlib.Core.Path.{_∙_, _≡_, ap, ap₂, refl, subst, sym}
+use lib.ListN.{drop, length, length-replicate, replicate, take}
+use Rattle.journal_blocks.specs.Blocks.{balancesOf}
+use Rattle.listing.specs.Chunks.{openedBy}
+use Rattle.listing.specs.Listing.{Standing, opened}
+use Rattle.listing_journal.specs.Turns.{Listed, SomeEnd, noRow, noTurn, openingAlone, startText}
+use Rattle.listing_journal.specs.declared.ListResult.{ListResult}
+use Rattle.listing_journal.specs.declared.TurnResult.{TurnResult}
+use Rattle.listing_lines.specs.Lines.{headerLine}
+use Rattle.listing_opening.specs.Opened.{OpenedIn}
+use Rattle.listing_opening.specs.declared.Start.{Start}
+use Rattle.pair_core.proofs.Opened.{opened-ready, opened-view}
+use Rattle.pair_core.specs.Layout.{indexLength, pairViewOf}
+use Rattle.pair_rows.specs.Rows.{RowReady, rowOf}
+use Rattle.pair_rows.specs.declared.Row.{Row}
+use Rattle.rules.proofs.Lists.{never-both-tests}
+
+-- n zeros have room for what is no more than n
+pub room-in : (n m : ℕ) → m ≤ n → m ≤ length (replicate {A = ℕ} n 0)
+room-in n m h = rw (length-replicate {A = ℕ} n 0) h
+
+-- a list that is as long as n zeros
+pub long-as : (n : ℕ) (xs : List ℕ) → length xs ≡ length (replicate {A = ℕ} n 0) → length xs ≡ n
+long-as n xs q = q ∙ length-replicate {A = ℕ} n 0
+
+-- the state of an accepted opening, with nothing held yet, is ready for the first record
+pub started : (home far : List ℕ) (start : Start) (state : List ℕ) → OpenedIn home far start state
+    → RowReady state (replicate (2 * indexLength) 0) (start .row)
+started home far start state o =
+    let n = ap (λ (x : Row). x .refusal) (o .row-is) in
+    let v = opened-view (balancesOf home) (balancesOf far) (o .unrefused) in
+    record {
+      ready = rw (o .state-is) (opened-ready (balancesOf home) (balancesOf far) (o .unrefused));
+      row-is = o .row-is ∙ ap₂ rowOf (sym n) (sym (ap pairViewOf (o .state-is) ∙ v));
+    }
+
+-- what the listing of the opening leaves: the bytes that were read for it, their text, and the state
+pub record Begun (first : ℕ) (bytes out : List ℕ) (start : Start) (state : List ℕ) : Type 0 where
+  pub long : length bytes ≡ first
+  pub most : first ≤ 1024
+  pub fits : start .end ≤ length out
+  pub text-is : take (start .end) out ≡ headerLine ++ startText bytes []
+  pub opens : start .going ≡ true → OpenedIn (take 512 bytes) (take 512 (drop 512 bytes)) start state
+  pub stops : start .going ≡ false → (rest : List ℕ) → startText bytes rest ≡ startText bytes []
+
+module _ {first : ℕ} {bytes out state : List ℕ} {start : Start}
+    (b : Begun first bytes out start state) (printed : Bool) where
+  -- with a last turn, or with none where the opening stands alone
+  listed-with : (last : TurnResult) → (printed ≡ false → last ≡ noTurn 0 noRow) → (start .going ≡ false → last ≡ noTurn 0 noRow)
+      → (printed ≡ true → start .going ≡ true → SomeEnd (openedBy (take 512 bytes) (take 512 (drop 512 bytes))) last)
+      → Listed (record { first = first; end = start .end; printed = printed; opened = start .going; last = last })
+  listed-with last u v w =
+      record {
+        bytes = bytes;
+        bytes-long = b .long;
+        bytes-fit = b .most;
+        out = out;
+        text-fits = b .fits;
+        text-is = b .text-is;
+        unprinted = u;
+        refused = λ g. (v g, b .stops g);
+        accepted = λ g. b .opens g .continues;
+        lists = w;
+      }
+
+  -- the opening alone, where its text was not written or it was refused
+  pub listed-alone : {r : ListResult} → r ≡ openingAlone first (start .end) printed (start .going)
+      → (printed ≡ true → start .going ≡ true → ⊥) → Listed r
+  listed-alone e k = rw e (listed-with (noTurn 0 noRow) (λ u. refl) (λ v. refl) (λ w g. absurd (k w g)))
+
+  -- all of it, where the opening was written and accepted
+  pub listed-all : {last : TurnResult} → printed ≡ true → start .going ≡ true → SomeEnd (opened state (start .before)) last
+      → Listed (record { first = first; end = start .end; printed = printed; opened = start .going; last = last })
+  listed-all {last} w g e =
+      let o = ap₂ opened (b .opens g .state-is) (b .opens g .before-is) in
+      listed-with last (λ u. absurd (never-both-tests (sym w ∙ u))) (λ v. absurd (never-both-tests (sym g ∙ v)))
+      (λ w' g'. subst (λ (p : Standing (List ℕ)). SomeEnd p last) o e)

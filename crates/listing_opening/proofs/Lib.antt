@@ -1,0 +1,3 @@
+-- Laws of the first lines of a listing. Assumes nothing.
+
+pub mod OpeningText

@@ -1,3 +1,0 @@
--- An index of numbers. Assumes nothing.
-
-pub mod Index

@@ -1,3 +1,0 @@
--- Laws of the figures. Assumes nothing.
-
-mod Totals

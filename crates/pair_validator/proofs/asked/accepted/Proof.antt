@@ -1,0 +1,14 @@
+-- `pair_validator::asked::accepted` meets its contract. Assumes nothing.
+use Prim.Native.Nat.{_*_}
+use Rattle.pair_core.specs.Layout.{indexLength, indexOn, recordsOn}
+use Rattle.table.proofs.Numbers.{index-none}
+use borrow.Author.Needs.{needs}
+use mathlib.Core.Path.{refl}
+use Rattle.pair_validator.proofs.asked.accepted.Statement.{statement}
+use Rattle.pair_validator.proofs.asked.accepted.Tie as tie
+
+is-accepted-requires : tie.Need-is-accepted-requires
+is-accepted-requires c κs = (refl, λ l q. index-none (c .before .before .args .words .now) (recordsOn l) (2 * indexLength) (indexOn l))
+
+pub accepted-spec : {M : Type 1} → statement M
+accepted-spec = tie.close (tie.spec (λ c. search needs) is-accepted-requires (λ c. search needs))

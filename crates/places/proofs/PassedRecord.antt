@@ -1,0 +1,152 @@
+-- A passed record in the balances: what changes, and what stays. Assumes nothing.
+use Prim.Native.Nat.{_+_, _-_, _<_, _≤_, suc, zero, ℕ}
+use mathlib.Core.Bool.{Bool, cond, false, true}
+use mathlib.Core.List.{List, _∷_}
+use mathlib.Core.Logic.{_⊎_, ⊎-elim}
+use mathlib.Core.Path.{_∙_, _≡_, ap, refl, sym}
+use native.Mathlib.Omega.{arith}
+use lib.Dec.{eqb, ltb}
+use lib.ListN.{List·getD-eq-default, drop, getD, length, length-set, length-take, set, take}
+use lib.Seq.{drop-cons, drop-set-add, getD-drop, getD-set-other, getD-set-same, getD-take, set-getD, take-set-lt}
+use borrow.Author.Tests.{eqb-false, eqb-true, ltb-false, ltb-true}
+use Rattle.ledgers.specs.Ledgers.{counterpart, ledgerByte}
+use Rattle.ledgers.specs.declared.Kind.{Kind}
+use Rattle.ledgers.specs.declared.Kind.the-variants.{Local, Receiving, Sending}
+use Rattle.ledgers.specs.declared.Ledger.{Ledger}
+use Rattle.ledgers.specs.declared.Ledger.the-variants.{Far, Home}
+use Rattle.places.proofs.OverPlaces.{all-ext, list-ext}
+use Rattle.places.specs.Entries.{givenBy, takenBy}
+use Rattle.places.specs.LedgerBalances.{balanceAt, movedAt, placed, zerosAt}
+use Rattle.places.specs.OverPlaces.{listAt}
+use Rattle.records.specs.declared.Record.{Record}
+use Rattle.rules.specs.Lists.{lowered, raised}
+use Rattle.rules.specs.Rules.{moved}
+
+-- the bytes of a ledger and of the other one
+pub ledger-other : (l : Ledger) → ledgerByte l + ledgerByte (counterpart l) ≡ 1
+ledger-other Home = refl
+ledger-other Far = refl
+
+-- part of a list, place by place
+part-list : (xs : List ℕ) (from n : ℕ) → from + n ≤ length xs → take n (drop from xs) ≡ listAt (λ (i : ℕ). getD xs i 0) from n
+unfolding listAt
+part-list xs from zero h = refl
+part-list xs from (suc n) h =
+    let z : from < length xs = omega arith in
+    rw (drop-cons xs from 0 z) (ap (λ (t : List ℕ). getD xs from 0 ∷ t) (part-list xs (suc from) n (omega arith)))
+
+-- new balances beside old ones: the part of n accounts from a place on is given, and nothing else changed
+pub record Part (old new : List ℕ) (from n : ℕ) (part : List ℕ) : Type 0 where
+  pub own : take n (drop from new) ≡ part
+  pub others : (i : ℕ) → (i < from) ⊎ (from + n ≤ i) → getD new i 0 ≡ getD old i 0
+  pub long : length new ≡ length old
+
+-- one balance stored
+part-set : (b : List ℕ) (from n i v : ℕ) → i < n → Part b (set b (from + i) v) from n (set (take n (drop from b)) i v)
+part-set b from n i v h =
+    record {
+      own = rw (drop-set-add from b i v) (take-set-lt n (drop from b) i v h);
+      others = λ j q. getD-set-other b (from + i) j v 0 (λ e. ⊎-elim (λ (a : j < from). omega arith) (λ (a : from + n ≤ j). omega arith) q);
+      long = length-set b (from + i) v;
+    }
+
+-- one change after another
+part-then : (old mid new : List ℕ) (from n : ℕ) (p q : List ℕ) → Part old mid from n p → Part mid new from n q → Part old new from n q
+part-then old mid new from n p q a b =
+    record { own = b .own; others = λ i h. b .others i h ∙ a .others i h; long = b .long ∙ a .long }
+
+-- a balance, seen from its part
+part-at : (b : List ℕ) (from n i : ℕ) → i < n → getD b (from + i) 0 ≡ getD (take n (drop from b)) i 0
+part-at b from n i h = sym (getD-take n (drop from b) i 0 h ∙ getD-drop from b i 0)
+
+-- an amount taken
+part-lowered : (b : List ℕ) (from n i x : ℕ) → i < n → Part b (lowered b (from + i) x) from n (lowered (take n (drop from b)) i x)
+unfolding lowered
+part-lowered b from n i x h = rw (← part-at b from n i h) (part-set b from n i (getD b (from + i) 0 - x) h)
+
+-- an amount given
+part-raised : (b : List ℕ) (from n i x : ℕ) → i < n → Part b (raised b (from + i) x) from n (raised (take n (drop from b)) i x)
+unfolding raised
+part-raised b from n i x h = rw (← part-at b from n i h) (part-set b from n i (getD b (from + i) 0 + x) h)
+
+-- the accounts that a record of a kind changes are among n
+unfoldable pub Changes : ℕ → Record → Kind → Type 0
+Changes n r (Local l) = (r .sender < n) × (r .receiver < n)
+Changes n r (Sending l) = r .sender < n
+Changes n r (Receiving l) = r .receiver < n
+
+-- a passed record, seen from its ledger's part
+pub part-moved : (b : List ℕ) (from n : ℕ) (r : Record) → Changes n r (r .kind)
+    → Part b (movedAt b from r) from n (moved (take n (drop from b)) r (r .kind))
+unfolding Changes movedAt
+part-moved b from n r h = go (r .kind) h
+  where
+    go : (k : Kind) → Changes n r k → Part b (moved b (placed from r) k) from n (moved (take n (drop from b)) r k)
+    go (Local l) c =
+        let a = part-lowered b from n (r .sender) (r .amount) (c .0) in
+        part-then b (lowered b (from + r .sender) (r .amount)) _ from n _ _ a
+        (rw (← a .own) (part-raised (lowered b (from + r .sender) (r .amount)) from n (r .receiver) (r .amount) (c .1)))
+    go (Sending l) c = part-lowered b from n (r .sender) (r .amount) c
+    go (Receiving l) c = part-raised b from n (r .receiver) (r .amount) c
+
+-- nothing taken
+lowered-none : (b : List ℕ) (i : ℕ) → lowered b i 0 ≡ b
+unfolding lowered
+lowered-none b i = ap (λ (v : ℕ). set b i v) (let q : getD b i 0 - 0 ≡ getD b i 0 = omega arith in q) ∙ set-getD b i 0
+
+-- nothing given
+raised-none : (b : List ℕ) (i : ℕ) → raised b i 0 ≡ b
+unfolding raised
+raised-none b i = ap (λ (v : ℕ). set b i v) (let q : getD b i 0 + 0 ≡ getD b i 0 = omega arith in q) ∙ set-getD b i 0
+
+-- what is taken and then given, of any kind, is what the record moves
+pub taken-given : (b : List ℕ) (from : ℕ) (r : Record)
+    → raised (lowered b (from + r .sender) (takenBy (r .kind) (r .amount))) (from + r .receiver) (givenBy (r .kind) (r .amount))
+    ≡ movedAt b from r
+unfolding movedAt
+taken-given b from r = go (r .kind)
+  where
+    go : (k : Kind) → raised (lowered b (from + r .sender) (takenBy k (r .amount))) (from + r .receiver) (givenBy k (r .amount))
+        ≡ moved b (placed from r) k
+    go (Local l) = refl
+    go (Sending l) = raised-none (lowered b (from + r .sender) (r .amount)) (from + r .receiver)
+    go (Receiving l) = ap (λ (x : List ℕ). raised x (from + r .receiver) (r .amount)) (lowered-none b (from + r .sender))
+
+-- balances of places that did not change
+pub zeros-kept : (old new : List ℕ) (from n : ℕ) → ((i : ℕ) → from ≤ i → i < from + n → getD new i 0 ≡ getD old i 0)
+    → zerosAt new from n ≡ zerosAt old from n
+unfolding zerosAt
+zeros-kept old new from n h =
+    all-ext (λ (i : ℕ). eqb (getD new i 0) 0) (λ (i : ℕ). eqb (getD old i 0) 0) from n (λ i a b. ap (λ (x : ℕ). eqb x 0) (h i a b))
+
+-- a part that did not change
+pub part-kept : (old new : List ℕ) (from n : ℕ) → length new ≡ length old → from + n ≤ length old
+    → ((i : ℕ) → from ≤ i → i < from + n → getD new i 0 ≡ getD old i 0) → take n (drop from new) ≡ take n (drop from old)
+part-kept old new from n l h e =
+    part-list new from n (rw l h)
+    ∙ list-ext (λ (i : ℕ). getD new i 0) (λ (i : ℕ). getD old i 0) from n e
+    ∙ sym (part-list old from n h)
+
+-- a balance of an account, seen from its part
+pub balance-part : (b : List ℕ) (from n i : ℕ) → balanceAt b from n i ≡ getD (take n (drop from b)) i 0
+unfolding balanceAt
+balance-part b from n i = go (ltb i n) refl
+  where
+    go : (t : Bool) → ltb i n ≡ t → cond (ltb i n) (getD b (from + i) 0) 0 ≡ getD (take n (drop from b)) i 0
+    go true q = rw q (part-at b from n i (ltb-true i n q))
+    go false q =
+        rw q (sym (List·getD-eq-default (take n (drop from b)) 0 (omega (arith, length-take n (drop from b), ltb-false i n q))))
+
+-- what is given is at most the amount
+pub given-most : (k : Kind) (a : ℕ) → givenBy k a ≤ a
+given-most (Local l) a = omega arith
+given-most (Sending l) a = omega arith
+given-most (Receiving l) a = omega arith
+
+-- a small balance stored among small ones
+pub stored-fits : (b : List ℕ) (i j v most : ℕ) → i < length b → v ≤ most → getD b j 0 ≤ most → getD (set b i v) j 0 ≤ most
+stored-fits b i j v most h p q = go (eqb j i) refl
+  where
+    go : (t : Bool) → eqb j i ≡ t → getD (set b i v) j 0 ≤ most
+    go true e = rw (eqb-true j i e, getD-set-same b i v 0 h) p
+    go false e = rw (getD-set-other b i j v 0 (eqb-false j i e)) q

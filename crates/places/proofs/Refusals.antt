@@ -1,0 +1,45 @@
+-- Refusals by the balances of a list, and one refusal after others, as the rules say. Assumes nothing.
+use Prim.Native.Nat.{ℕ}
+use mathlib.Core.Bool.{Bool, not}
+use mathlib.Core.List.{List}
+use mathlib.Core.Path.{_∙_, _≡_, ap, sym}
+use lib.Dec.{leb}
+use lib.ListN.{drop, take}
+use Rattle.answers.proofs.Answers.{refuse-later}
+use Rattle.answers.specs.Answers.{orElse, refuse}
+use Rattle.ledgers.specs.Ledgers.{receiverLedger, senderLedger}
+use Rattle.ledgers.specs.Limits.{capacity}
+use Rattle.ledgers.specs.declared.Ledger.{Ledger}
+use Rattle.places.proofs.PassedRecord.{balance-part}
+use Rattle.places.specs.LedgerBalances.{firstBy, fundsAt}
+use Rattle.records.specs.declared.Record.{Record}
+use Rattle.rules.specs.Lists.{any}
+use Rattle.rules.specs.PairValidator.{roomRefusal}
+use Rattle.rules.specs.Rules.{clashes, firstRefusal, fundsRefusal}
+
+-- a refusal after 22, 23, 24 and the later ones
+pub first-else : (accounts : Ledger → ℕ) (passed : List Record) (r : Record) (later x : ℕ)
+    → orElse (firstRefusal accounts passed r later) x ≡ firstRefusal accounts passed r (orElse later x)
+unfolding firstRefusal
+first-else accounts passed r later x =
+    refuse-later (leb (accounts (senderLedger (r .kind))) (r .sender)) 21 _ x
+    ∙ ap (refuse (leb (accounts (senderLedger (r .kind))) (r .sender)) 22)
+    (refuse-later (leb (accounts (receiverLedger (r .kind))) (r .receiver)) 21 _ x
+    ∙ ap (refuse (leb (accounts (receiverLedger (r .kind))) (r .receiver)) 22)
+    (refuse-later (not (r .verified)) 22 _ x
+    ∙ ap (refuse (not (r .verified)) 23)
+    (refuse-later (any (clashes r) passed) 23 later x)))
+
+-- the refusals of a record in order, 41 last, from those that were worked out
+pub judged-by : (accounts : Ledger → ℕ) (passed : List Record) (r : Record) (x : ℕ) {senders receivers last full later n : ℕ} {taken : Bool}
+    → senders ≡ accounts (senderLedger (r .kind)) → receivers ≡ accounts (receiverLedger (r .kind)) → last ≡ x
+    → full ≡ roomRefusal capacity passed → later ≡ orElse last full → taken ≡ any (clashes r) passed
+    → n ≡ firstBy senders receivers r taken later → n ≡ orElse (firstRefusal accounts passed r x) (roomRefusal capacity passed)
+unfolding firstRefusal firstBy
+judged-by accounts passed r x es ev el eu ea et h =
+    h ∙ rw (es, ev, ea, el, eu, et) (sym (first-else accounts passed r x (roomRefusal capacity passed)))
+
+-- 25 of a part of the balances
+pub funds-at : (b : List ℕ) (from n : ℕ) (r : Record) → fundsRefusal (take n (drop from b)) r ≡ fundsAt b from n r
+unfolding fundsRefusal fundsAt
+funds-at b from n r = rw (balance-part b from n (r .sender))

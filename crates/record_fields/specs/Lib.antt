@@ -1,3 +1,0 @@
--- The bytes with the fields of a record. Assumes nothing.
-
-pub mod Fields

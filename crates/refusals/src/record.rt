@@ -1,0 +1,47 @@
+// Refusals 22 to 25 of a record, by the accounts of its ledgers and by balances lent as a slice: those of a ledger stand at n places
+// from a place `from` on, within the slice.
+ghost use Prim.Native.Nat.{_+_, _≤_};
+ghost use mathlib.Core.Path.{_≡_};
+ghost use lib.ListN.{length};
+ghost use Rattle.places.specs.LedgerBalances.{balanceAt, firstBy, fundsAt};
+use answers::first_refusal;
+use answers::refusal_if;
+use places::as_index;
+use records::Record;
+
+// 22 by the accounts of the sender's and the receiver's ledger, 23, 24 where the number is used, then the later refusals, or 0.
+pub fn first_refusals(senders: usize, receivers: usize, r: Record, is_used: bool, later: u32) -> u32
+    ensures { λ k. ⌜ k ≡ firstBy senders receivers r «is_used» later ⌝ }
+{
+    let sender = refusal_if(senders <= as_index(r.sender), 22);
+    let receiver = refusal_if(receivers <= as_index(r.receiver), 22);
+    let signature = refusal_if(!r.verified, 23);
+    let number = refusal_if(is_used, 24);
+    first_refusal(
+        sender,
+        first_refusal(
+            receiver, // before 23
+            first_refusal(signature, first_refusal(number, later)),
+        ),
+    )
+}
+
+// The balance of an account, or 0 where there is no such account.
+fn balance_at(balances: &[u64], from: usize, n: usize, i: u16) -> u64
+    requires { ⌜ from + n ≤ length (now balances) ⌝ }
+    ensures { λ b. ⌜ b ≡ balanceAt (now (balances .entry)) from n i ⌝ }
+{
+    let account = as_index(i);
+    if account < n {
+        return balances[from + account];
+    }
+    0
+}
+
+// 25, or 0.
+pub fn funds_refusal(balances: &[u64], from: usize, n: usize, r: Record) -> u32
+    requires { ⌜ from + n ≤ length (now balances) ⌝ }
+    ensures { λ k. ⌜ k ≡ fundsAt (now (balances .entry)) from n r ⌝ }
+{
+    refusal_if(balance_at(balances, from, n, r.sender) < r.amount, 25)
+}

@@ -1,0 +1,20 @@
+-- The digest is 32 bytes. Assumes nothing.
+use mathlib.Core.Path.{_≡_, refl}
+use mathlib.Core.List.{List}
+use Prim.Native.Nat.{ℕ}
+use lib.ListN.{length}
+use Rattle.sha256.specs.Sha256.{sha256, hashBytes}
+use Rattle.wire.proofs.Numbers.{bytes-bytesOf, bytes-then}
+use Rattle.wire.specs.BigEndian.{Bytes, bytesOf}
+
+-- as many as eight words have
+pub length-sha256 : (m : List ℕ) → length (sha256 m) ≡ 32
+unfolding sha256 hashBytes bytesOf
+length-sha256 m = refl
+
+-- and they are bytes
+pub bytes-sha256 : (m : List ℕ) → Bytes (sha256 m)
+unfolding sha256 hashBytes
+bytes-sha256 m =
+    bytes-then 4 _ _ (bytes-then 4 _ _ (bytes-then 4 _ _ (bytes-then 4 _ _ (bytes-then 4 _ _ (bytes-then 4 _ _ (bytes-then 4 _ _
+    (bytes-bytesOf 4 _)))))))

@@ -1,9 +1,0 @@
--- `sha256_core::constants` meets its contract. Assumes nothing.
-use mathlib.Core.Path.{refl}
-use Rattle.sha256_core.specs.Sha256.{K}
-use Rattle.sha256_core.proofs.constants.Statement.{statement}
-use Rattle.sha256_core.proofs.constants.Tie as tie
-
-pub constants-spec : {M : Type 1} → statement M
-unfolding K
-constants-spec = tie.close (tie.spec (λ c. refl))

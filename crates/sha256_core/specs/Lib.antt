@@ -1,3 +1,0 @@
--- The definitions that the contracts cite. Assumes nothing.
-pub mod Sha256
-pub mod Sixteen

@@ -1,2 +1,0 @@
--- Laws of lists, tests and sums over places. Assumes nothing.
-pub mod Places
