@@ -1,8 +1,5 @@
 -- Laws of answers: the number and the place of an answer, and what follows from the case that came back. Assumes nothing.
-use Prim.Native.Nat.{ℕ, zero, suc, _<_}
-use mathlib.Core.Path.{_≡_, refl}
-use mathlib.Core.Bool.{Bool, true, false}
-use native.Mathlib.Omega.{arith}
+use Rattle.wire.proofs.Prelude.{Bool, _<_, _≡_, arith, false, refl, suc, true, zero, ℕ}
 use Rattle.answers.specs.Answers.{Passed, Refused, answer, Tells, refuse, orElse, unlessRefused}
 
 -- an answer tells its number and its place

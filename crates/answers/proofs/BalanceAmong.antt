@@ -1,12 +1,6 @@
 -- The balance at a place of the balances is the one among the ledger's. Assumes nothing.
-use Prim.Native.Nat.{_+_, _<_, _≤_, ℕ}
-use mathlib.Core.List.{List}
-use mathlib.Core.Path.{_≡_}
-use native.Mathlib.Omega.{arith}
-use lib.Dec.{ltb}
-use lib.ListN.{drop, getD, length, length-drop, length-take, take}
-use lib.Seq.{getD-drop, getD-take}
-use borrow.Author.Tests.{le-ltb, lt-ltb}
+use Rattle.wire.proofs.Prelude.{List, _+_, _<_, _≡_, _≤_, arith, drop, getD, getD-drop, getD-take, le-ltb, length, length-drop, length-take}
+use Rattle.wire.proofs.Prelude.{lt-ltb, ltb, take, ℕ}
 use Rattle.answers.specs.Balances.{balanceAmong, balanceRefused}
 use Rattle.answers.specs.declared.Answer.the-variants.{Passed}
 use Rattle.answers.specs.declared.balance.Balance.{Balance}

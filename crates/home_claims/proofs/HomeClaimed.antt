@@ -1,14 +1,5 @@
 -- The claims about the home validator's calls: runs over the program's states are runs over the rules' states. Assumes nothing.
-use Prim.Native.Nat.{_-_, ℕ}
-use mathlib.Core.Bool.{true}
-use mathlib.Core.List.{List}
-use mathlib.Core.Logic.{inl, inr}
-use mathlib.Mathlib.Data.Bool.Basic.{dichotomy}
-use mathlib.Core.Path.{_∙_, _≡_, ap, refl, sym}
-use native.Mathlib.Omega.{arith}
-use lib.Dec.{leb}
-use lib.ListN.{length}
-use borrow.Author.Tests.{leb-false, leb-true}
+use Rattle.wire.proofs.Prelude.{List, _-_, _∙_, _≡_, ap, arith, dichotomy, inl, inr, leb, leb-false, leb-true, length, refl, sym, true, ℕ}
 use Rattle.answers.specs.Answers.{answer}
 use Rattle.home_claims.specs.Claims.{HomeCallsAsRules, HomeFullWhenNoneLeft, HomeInPlaceAsByValue, HomeListsAndRefusals}
 use Rattle.home_claims.specs.Claims.{HomeOpenedAsRules, HomePlacesLeft, HomeStatesAnswer, HomeStatesStayAccepted, HomeStatesWithin}

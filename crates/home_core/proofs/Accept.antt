@@ -1,18 +1,9 @@
 -- What accepted words have, and that what is tested of words is what refusal 3 asks of them. Assumes nothing.
-use Prim.Native.Nat.{_+_, _-_, _≤_, ℕ}
-use mathlib.Core.Bool.{Bool, _&&_, false, true}
-use mathlib.Core.List.{List, [], _∷_}
-use mathlib.Core.Path.{_∙_, _≡_, refl, subst, sym}
-use native.Mathlib.Omega.{arith}
-use lib.Dec.{eqb}
-use lib.ListN.{drop, getD, length, length-drop}
-use lib.Seq.{length-take-le}
-use borrow.Author.Tests.{eq-eqb, eqb-true, le-leb, leb-true}
-use Rattle.home_core.specs.Layout.{HomeReady, acceptsHome, balancesFrom, countOf, farsOf, homeBounds, homeViewOf, homeWords}
-use Rattle.home_core.specs.Layout.{homesOf, poolOf, supplyOf}
+use Rattle.wire.proofs.Prelude.{Bool, List, [], _&&_, _+_, _-_, _∙_, _∷_, _≡_, _≤_, arith, drop, eq-eqb, eqb, eqb-true, false, getD, le-leb}
+use Rattle.wire.proofs.Prelude.{leb-true, length, length-drop, length-take-le, refl, subst, sym, true, ℕ}
+use Rattle.home_core.specs.Layout.{HomeReady, acceptsHome, balancesFrom, countOf, farsOf, homeBounds, homeViewOf, homeWords, homesOf}
+use Rattle.home_core.specs.Layout.{poolOf, supplyOf}
 use Rattle.ledgers.specs.Limits.{accountLimit, capacity, maxAmount}
-use Rattle.ledgers.specs.declared.Ledger.{Ledger}
-use Rattle.ledgers.specs.declared.Ledger.the-variants.{Far, Home}
 use Rattle.places.proofs.BalanceTotals.{balances-sum}
 use Rattle.places.proofs.Openings.{count-facts, facts-count}
 use Rattle.places.specs.LedgerBalances.{zerosAt}
@@ -24,6 +15,7 @@ use Rattle.rules.proofs.Lists.{never-both-tests, same-tests}
 use Rattle.rules.specs.HomeValidator.{homeAccepts, homeAccounts}
 use Rattle.rules.specs.Lists.{total}
 use Rattle.rules.specs.PairValidator.{supplyAllowed}
+use Rattle.rules.specs.Rules.{Far, Home, Ledger}
 use Rattle.table.proofs.Numbers.{apart-records}
 use Rattle.table.proofs.Records.{AllHeld, all-held, held-all, length-records}
 use Rattle.table.specs.Table.{accountsBy, ledgerIn, mayHoldAt, numberAt, wordsAt}

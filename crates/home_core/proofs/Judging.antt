@@ -1,26 +1,18 @@
 -- What the functions on words say of a record is what the rules say. Assumes nothing.
-use Prim.Native.Nat.{ℕ}
-use mathlib.Core.Bool.{Bool, false, true}
-use mathlib.Core.List.{List}
-use mathlib.Core.Path.{_∙_, _≡_, refl, sym}
-use lib.Dec.{leb}
+use Rattle.wire.proofs.Prelude.{Bool, List, _∙_, _≡_, false, leb, refl, sym, true, ℕ}
 use Rattle.answers.proofs.Answers.{refuse-later}
 use Rattle.answers.specs.Answers.{orElse, refuse}
 use Rattle.home_core.proofs.Accept.{length-held}
 use Rattle.home_core.specs.Layout.{balancesFrom, countOf, homeViewOf, homesOf, poolOf}
 use Rattle.ledgers.specs.Ledgers.{ledgerOf, receiverLedger, senderLedger}
 use Rattle.ledgers.specs.Limits.{capacity}
-use Rattle.ledgers.specs.declared.Kind.{Kind}
-use Rattle.ledgers.specs.declared.Kind.the-variants.{Local, Receiving, Sending}
 use Rattle.places.proofs.Refusals.{funds-at, judged-by}
 use Rattle.places.specs.LedgerBalances.{firstBy, fundsAt}
 use Rattle.places.specs.OverPlaces.{anyAt}
-use Rattle.records.specs.declared.Reading.the-variants.{Read}
-use Rattle.records.specs.declared.Record.{Record}
 use Rattle.rules.proofs.Lists.{never-both-tests}
 use Rattle.rules.specs.HomeValidator.{homeAccounts, homeJudge, homeJudgeRecord, homeLastRefusal, isFar, poolRefusal}
 use Rattle.rules.specs.PairValidator.{roomRefusal}
-use Rattle.rules.specs.Rules.{firstRefusal, isReceiving}
+use Rattle.rules.specs.Rules.{Kind, Local, Read, Receiving, Record, Sending, firstRefusal, isReceiving}
 use Rattle.table.proofs.Numbers.{clash-records}
 use Rattle.table.specs.Table.{ledgerIn, numberedAt}
 

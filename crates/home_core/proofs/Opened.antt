@@ -1,12 +1,7 @@
 -- The words of an opening: what the stores leave in words of zeros, what they are as the rules' state, and that they are accepted; and
 -- the words beside a refused one. Assumes nothing.
-use Prim.Native.Nat.{_*_, _+_, _≤_, ℕ}
-use mathlib.Core.Bool.{false}
-use mathlib.Core.List.{List, [], _++_, _∷_}
-use mathlib.Core.Path.{_∙_, _≡_, ap, refl}
-use native.Mathlib.Omega.{arith}
-use lib.ListN.{drop, getD, length, length-replicate, replicate, replicate-append-replicate, set, take}
-use borrow.Author.Tests.{leb-true}
+use Rattle.wire.proofs.Prelude.{List, [], _*_, _++_, _+_, _∙_, _∷_, _≡_, _≤_, ap, arith, drop, false, getD, leb-true, length}
+use Rattle.wire.proofs.Prelude.{length-replicate, refl, replicate, replicate-append-replicate, set, take, ℕ}
 use Rattle.home_core.proofs.Accept.{HomeSound}
 use Rattle.home_core.specs.Layout.{acceptsHome, balancesFrom, farsWord, homeBounds, homeOpenedWords, homeViewOf, homeZeroWords}
 use Rattle.home_core.specs.Layout.{homesWord, poolWord, supplyWord}

@@ -1,36 +1,25 @@
 -- A record that passes: what its stores need; the words then are, seen as the rules' state, the rules' next state, and are accepted
 -- again. Assumes nothing.
-use Prim.Native.Nat.{_*_, _+_, _-_, _<_, _^_, _≤_, ℕ}
-use mathlib.Core.Bool.{true}
-use mathlib.Core.List.{List}
-use mathlib.Core.Logic.{inr}
-use mathlib.Core.Path.{_∙_, _≡_, ap, refl, sym}
-use native.Mathlib.Omega.{arith}
-use lib.ListN.{getD, length, length-set, set}
-use lib.Seq.{getD-set-other, getD-set-same}
+use Rattle.wire.proofs.Prelude.{List, _*_, _+_, _-_, _<_, _^_, _∙_, _≡_, _≤_, ap, arith, getD, getD-set-other, getD-set-same, inr, length}
+use Rattle.wire.proofs.Prelude.{length-set, refl, set, sym, true, ℕ}
 use Rattle.answers.proofs.Answers.{or-else-zero}
 use Rattle.home_core.proofs.Accept.{HomeBounds, HomeSound, length-balances, length-held, sound-accepts, sound-of}
 use Rattle.home_core.specs.Layout.{HomeReady, acceptsHome, balancesFrom, countOf, countWord, farsOf, farsWord, homeViewOf, homeWith}
 use Rattle.home_core.specs.Layout.{homesOf, homesWord, poolOf, poolWord, supplyOf, supplyWord}
 use Rattle.ledgers.specs.Limits.{accountLimit, capacity, maxAmount}
-use Rattle.ledgers.specs.declared.Kind.{Kind}
-use Rattle.ledgers.specs.declared.Kind.the-variants.{Local, Receiving, Sending}
-use Rattle.ledgers.specs.declared.Ledger.the-variants.{Far, Home}
 use Rattle.places.proofs.PassedRecord.{Changes, zeros-kept}
 use Rattle.places.specs.Entries.{givenBy, takenBy}
 use Rattle.places.specs.LedgerBalances.{zerosAt}
 use Rattle.places.specs.OverPlaces.{allAt}
 use Rattle.records.proofs.Formed.{read-formed}
 use Rattle.records.specs.Records.{formed, reading, recordIn, wordsOf}
-use Rattle.records.specs.declared.Reading.the-variants.{Read}
-use Rattle.records.specs.declared.Record.{Record}
 use Rattle.records.specs.declared.Words.{Words}
 use Rattle.rules.proofs.HomeAccepted.{home-accepts-facts, home-step}
 use Rattle.rules.proofs.Lists.{balance-total}
 use Rattle.rules.proofs.Refusals.{HomePassable, home-judge-none, room-none}
 use Rattle.rules.specs.HomeValidator.{homeAccepts, homeAfter, homeJudge, homeJudgeRecord, poolAfter}
 use Rattle.rules.specs.Lists.{lowered, total}
-use Rattle.rules.specs.Rules.{LedgerState}
+use Rattle.rules.specs.Rules.{Far, Home, Kind, LedgerState, Local, Read, Receiving, Record, Sending}
 use Rattle.table.proofs.Balances.{balance-fits, balance-in, given-fits}
 use Rattle.table.proofs.Growing.{grown, index-grown}
 use Rattle.table.proofs.Storing.{LedgerStored, Stored, ledger-stored-of, stored-of}

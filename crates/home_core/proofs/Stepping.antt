@@ -1,19 +1,14 @@
 -- What a record asks that passes in a state with the index of its numbers, and what it leaves. Assumes nothing.
-use Prim.Native.Nat.{_+_, _<_, ℕ}
-use mathlib.Core.List.{List}
-use mathlib.Core.Path.{_≡_}
-use native.Mathlib.Omega.{arith}
-use lib.ListN.{length}
+use Rattle.wire.proofs.Prelude.{List, _+_, _<_, _≡_, arith, length, ℕ}
 use Rattle.home_core.proofs.Accept.{sound-of}
 use Rattle.home_core.proofs.Passing.{next-of, passes-of}
 use Rattle.home_core.specs.Layout.{HomeReady, countOf, homeViewOf, homeWith, homeWordsChecker}
 use Rattle.ledgers.specs.Limits.{capacity}
 use Rattle.places.specs.NumberIndex.{chainCount}
-use Rattle.records.specs.declared.Reading.the-variants.{Read}
-use Rattle.records.specs.declared.Record.{Record}
 use Rattle.records.specs.declared.Words.{Words}
 use Rattle.rules.proofs.Parts.{ReadsAs, Stepped, step-passed}
 use Rattle.rules.specs.HomeValidator.{homeJudge}
+use Rattle.rules.specs.Rules.{Read, Record}
 use Rattle.table.proofs.Growing.{grown}
 
 module _ {s index b : List ℕ} {w : Words} {r : Record} (h : HomeReady s index) (x : ReadsAs b w r)

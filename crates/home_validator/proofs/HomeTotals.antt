@@ -1,10 +1,5 @@
 -- Laws of the figures and the places left of accepted words. Assumes nothing.
-use Prim.Native.Nat.{_+_, _-_, _≤_, ℕ}
-use mathlib.Core.Bool.{false, true}
-use mathlib.Core.List.{List}
-use mathlib.Core.Path.{_≡_, sym}
-use native.Mathlib.Omega.{arith}
-use lib.ListN.{drop, length, take}
+use Rattle.wire.proofs.Prelude.{List, _+_, _-_, _≡_, _≤_, arith, drop, false, length, sym, take, true, ℕ}
 use Rattle.answers.specs.Answers.{answer}
 use Rattle.answers.specs.Balances.{balanceAmong}
 use Rattle.answers.specs.declared.Answer.{Answer}

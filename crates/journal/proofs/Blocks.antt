@@ -1,13 +1,7 @@
 -- A block that is right is the one written from its number and items, and that one is right. Assumes nothing.
-use Prim.Native.Nat.{ℕ, _+_, _-_, _*_, _/_, _%_, _≤_, _<_}
-use mathlib.Core.Path.{_≡_, refl, sym, ap, ap₂, _∙_, subst}
-use mathlib.Core.Bool.{true, _||_}
-use mathlib.Core.List.{List, [], _∷_, _++_, append-assoc}
-use native.Mathlib.Omega.{arith}
-use native.Mathlib.Nat.{mul-mod-left}
-use lib.Dec.{leb}
-use lib.ListN.{length, take, drop, replicate, length-append, length-drop, length-replicate, take-append-drop}
-use lib.Seq.{drop-append-seam, drop-drop, length-take-le, take-at, drop-at}
+use Rattle.wire.proofs.Prelude.{List, [], _%_, _*_, _++_, _+_, _-_, _/_, _<_, _||_, _∙_, _∷_, _≡_, _≤_, ap, append-assoc, ap₂, arith, drop}
+use Rattle.wire.proofs.Prelude.{drop-append-seam, drop-at, drop-drop, leb, length, length-append, length-drop, length-replicate}
+use Rattle.wire.proofs.Prelude.{length-take-le, mul-mod-left, refl, replicate, subst, sym, take, take-append-drop, take-at, true, ℕ}
 use Rattle.answers.specs.Answers.{unlessRefused}
 use Rattle.journal.specs.Journal.{numbered}
 use Rattle.journal_blocks.proofs.Checking.{Right, not-refused}

@@ -1,12 +1,7 @@
 -- Opening balances and records as the items of blocks: what is laid out reads back, and only that. Assumes nothing.
-use Prim.Native.Nat.{ℕ, zero, suc, _+_, _*_, _^_, _≤_, _<_}
-use mathlib.Core.Path.{_≡_, refl, sym, ap, ap₂, _∙_}
-use mathlib.Core.List.{List, [], _∷_, _++_, append-assoc, append-nil}
-use mathlib.Core.Logic.{⊎-elim}
-use native.Mathlib.Nat.{eq-or-lt-of-le}
-use native.Mathlib.Omega.{arith}
-use lib.ListN.{length, take, drop, getD, length-append, length-drop, List·getD-append}
-use lib.Seq.{take-add, drop-drop, length-take-le, take-at, drop-at, getD-at}
+use Rattle.wire.proofs.Prelude.{List, List·getD-append, [], _*_, _++_, _+_, _<_, _^_, _∙_, _∷_, _≡_, _≤_, ap, append-assoc, append-nil, ap₂}
+use Rattle.wire.proofs.Prelude.{arith, drop, drop-at, drop-drop, eq-or-lt-of-le, getD, getD-at, length, length-append, length-drop}
+use Rattle.wire.proofs.Prelude.{length-take-le, refl, suc, sym, take, take-add, take-at, zero, ℕ, ⊎-elim}
 use Rattle.journal.specs.Journal.{RecordBytes, joined, balanceBytes}
 use Rattle.journal_blocks.proofs.Items.{length-records}
 use Rattle.journal_blocks.specs.Blocks.{recordPart, recordsIn, balancesIn}

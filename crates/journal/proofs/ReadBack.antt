@@ -1,16 +1,9 @@
 -- The journal theorem: a byte string reads as openings and records exactly when they are within the limits and it is the
 -- journal written from them; and what each of its blocks is to the writer's and the judging call. Assumes nothing.
-use Prim.Native.Nat.{ℕ, zero, suc, _+_, _-_, _*_, _/_, _≤_, _<_}
-use mathlib.Core.Path.{_≡_, refl, sym, ap, ap₂, _∙_, subst}
-use mathlib.Core.Bool.{Bool, true, false, _||_, false≢true}
-use mathlib.Core.List.{List, [], _∷_, _++_, append-nil}
-use mathlib.Core.Logic.{⊎-elim}
-use native.Mathlib.Nat.{eq-or-lt-of-le}
-use native.Mathlib.Omega.{arith}
-use lib.Dec.{leb}
-use lib.ListN.{length, take, drop, replicate, length-append, length-take, length-drop, take-append-drop, drop-of-length-le}
-use lib.Seq.{take-all, take-at, drop-at}
-use borrow.Author.Tests.{le-ltb, le-leb, lt-leb, leb-false}
+use Rattle.wire.proofs.Prelude.{Bool, List, [], _*_, _++_, _+_, _-_, _/_, _<_, _||_, _∙_, _∷_, _≡_, _≤_, ap, append-nil, ap₂, arith, drop}
+use Rattle.wire.proofs.Prelude.{drop-at, drop-of-length-le, eq-or-lt-of-le, false, false≢true, le-leb, le-ltb, leb, leb-false, length}
+use Rattle.wire.proofs.Prelude.{length-append, length-drop, length-take, lt-leb, refl, replicate, subst, suc, sym, take, take-all}
+use Rattle.wire.proofs.Prelude.{take-append-drop, take-at, true, zero, ℕ, ⊎-elim}
 use Rattle.journal.proofs.Blocks.{block-items, bytes-block, itemBytes, block-is, count-is, block-right, block-allowed}
 use Rattle.journal.proofs.Items.{Wide, all-long, length-joined, bytes-joined, joined-only, records-joined, records-whole}
 use Rattle.journal.proofs.Items.{record-at, length-balance-bytes, bytes-balances, balances-only, balances-joined, balances-fit}

@@ -1,12 +1,6 @@
 -- What a block that is not refused shows, fact by fact. Assumes nothing.
-use Prim.Native.Nat.{ℕ, _≤_}
-use mathlib.Core.Path.{_≡_, ap, _∙_}
-use mathlib.Core.Bool.{Bool, true, not}
-use mathlib.Core.List.{List}
-use native.Mathlib.Omega.{arith}
-use lib.Dec.{eqb, ltb}
-use lib.ListN.{length}
-use borrow.Author.Tests.{eqb-true, eq-eqb, le-ltb, ltb-false, not-false}
+use Rattle.wire.proofs.Prelude.{Bool, List, _∙_, _≡_, _≤_, ap, arith, eq-eqb, eqb, eqb-true, le-ltb, length, ltb, ltb-false, not, not-false}
+use Rattle.wire.proofs.Prelude.{true, ℕ}
 use Rattle.answers.proofs.Answers.{refuse-zero, refuse-else}
 use Rattle.answers.specs.Answers.{refuse, orElse}
 use Rattle.journal_blocks.specs.Blocks.{maxBlock, blockNumber, blockFormed}

@@ -1,12 +1,6 @@
 -- What a block that refusal 14 has nothing against shows, fact by fact. Assumes nothing.
-use Prim.Native.Nat.{ℕ, _+_, _-_, _*_, _≤_, _<_}
-use mathlib.Core.Path.{_≡_, ap, ap₂, _∙_}
-use mathlib.Core.Bool.{true, _||_}
-use mathlib.Core.List.{List}
-use native.Mathlib.Omega.{arith}
-use lib.Dec.{leb}
-use lib.ListN.{take, drop}
-use borrow.Author.Tests.{eqb-true, eq-eqb, ltb-true, lt-ltb, leb-true, le-leb}
+use Rattle.wire.proofs.Prelude.{List, _*_, _+_, _-_, _<_, _||_, _∙_, _≡_, _≤_, ap, ap₂, arith, drop, eq-eqb, eqb-true, le-leb, leb}
+use Rattle.wire.proofs.Prelude.{leb-true, lt-ltb, ltb-true, take, true, ℕ}
 use Rattle.journal_blocks.specs.Blocks.{recordsPerBlock, blockKind, statedCount, kindOfBlock, itemSize, itemLimit, blockFormed}
 use Rattle.wire.proofs.Lists.{every-hold, hold-every}
 use Rattle.wire.specs.BigEndian.{All, zeros}

@@ -1,11 +1,6 @@
 -- Laws of the items of a block. Assumes nothing.
-use Prim.Native.Nat.{ℕ, zero, suc, _+_, _-_, _*_, _<_}
-use mathlib.Core.Path.{_≡_, refl, sym, ap, _∙_}
-use mathlib.Core.List.{List, [], _∷_, _++_, append-assoc}
-use native.Mathlib.Omega.{arith}
-use native.Mathlib.Numerals.{add-one}
-use lib.ListN.{length, set, replicate, length-append}
-use lib.Seq.{set-at}
+use Rattle.wire.proofs.Prelude.{List, [], _*_, _++_, _+_, _-_, _<_, _∙_, _∷_, _≡_, add-one, ap, append-assoc, arith, length, length-append}
+use Rattle.wire.proofs.Prelude.{refl, replicate, set, set-at, suc, sym, zero, ℕ}
 use Rattle.journal_blocks.specs.Blocks.{recordPart, recordsIn, balancesIn}
 use Rattle.wire.specs.BigEndian.{field}
 

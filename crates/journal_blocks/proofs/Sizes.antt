@@ -1,8 +1,5 @@
 -- Kinds, sizes and limits by a block's number. Assumes nothing.
-use Prim.Native.Nat.{ℕ, zero, suc, _*_, _/_, _≤_, _<_}
-use mathlib.Core.Path.{_≡_, refl}
-use native.Mathlib.Omega.{arith}
-use native.Mathlib.Nat.{mul-div-cancel}
+use Rattle.wire.proofs.Prelude.{_*_, _/_, _<_, _≡_, _≤_, arith, mul-div-cancel, refl, suc, zero, ℕ}
 use Rattle.journal_blocks.specs.Blocks.{kindOfBlock, itemSize, itemLimit}
 use Rattle.ledgers.specs.Limits.{accountLimit}
 

@@ -1,11 +1,5 @@
 -- What follows of a block from the answer that came back. Assumes nothing.
-use Prim.Native.Nat.{ℕ, _≤_, _<_}
-use mathlib.Core.Path.{_≡_}
-use mathlib.Core.List.{List}
-use native.Mathlib.Omega.{arith}
-use lib.Dec.{ltb, leb}
-use lib.ListN.{length}
-use borrow.Author.Tests.{ltb-false, leb-false}
+use Rattle.wire.proofs.Prelude.{List, _<_, _≡_, _≤_, arith, leb, leb-false, length, ltb, ltb-false, ℕ}
 use Rattle.answers.proofs.Answers.{or-else-zero, refuse-zero}
 use Rattle.journal_blocks.proofs.Checking.{right-facts}
 use Rattle.journal_blocks.proofs.Forming.{formed-block-facts}

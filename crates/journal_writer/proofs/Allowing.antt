@@ -1,10 +1,6 @@
 -- What a write that is allowed shows, fact by fact. Assumes nothing.
-use Prim.Native.Nat.{ℕ, _/_, _%_, _≤_, _<_}
-use mathlib.Core.Path.{_≡_}
-use mathlib.Core.Bool.{true, false}
-use native.Mathlib.Omega.{arith}
-use native.Mathlib.Nat.{div-add-mod'}
-use borrow.Author.Tests.{eqb-true, eq-eqb, ltb-true, lt-ltb, leb-true, le-leb}
+use Rattle.wire.proofs.Prelude.{_%_, _/_, _<_, _≡_, _≤_, arith, div-add-mod', eq-eqb, eqb-true, false, le-leb, leb-true, lt-ltb, ltb-true}
+use Rattle.wire.proofs.Prelude.{true, ℕ}
 use Rattle.journal_blocks.proofs.Sizes.{items-room}
 use Rattle.journal_blocks.specs.Blocks.{maxBlock, kindOfBlock, itemSize, itemLimit}
 use Rattle.journal_writer.specs.Written.{allowed, writeRefusal}

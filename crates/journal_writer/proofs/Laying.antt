@@ -1,10 +1,7 @@
 -- What stands in the output after its parts have been written one by one. Assumes nothing.
-use Prim.Native.Nat.{ℕ, _+_, _-_, _≤_}
-use mathlib.Core.Path.{_≡_, sym, ap, ap₂, _∙_}
-use mathlib.Core.List.{List, [], _++_, append-assoc, append-nil}
-use native.Mathlib.Omega.{arith}
-use lib.ListN.{length, take, drop, replicate, length-append, length-take, length-drop, length-replicate, drop-of-length-le}
-use lib.Seq.{take-at, take-length}
+use Rattle.wire.proofs.Prelude.{List, [], _++_, _+_, _-_, _∙_, _≡_, _≤_, ap, append-assoc, append-nil, ap₂, arith, drop, drop-of-length-le}
+use Rattle.wire.proofs.Prelude.{length, length-append, length-drop, length-replicate, length-take, replicate, sym, take, take-at}
+use Rattle.wire.proofs.Prelude.{take-length, ℕ}
 use borrow.Rule.Slice.PartMut.{putMid}
 
 -- s copied over a list that is as long

@@ -1,12 +1,7 @@
 -- A listing record by record and block by block: its text and where it stands, for records and blocks after others, and for a block
 -- that stops it. Assumes nothing.
-use Prim.Native.Nat.{_+_, _-_, _≤_, suc, zero, ℕ}
-use mathlib.Core.Bool.{Bool, false, true}
-use mathlib.Core.List.{List, [], _++_, _∷_, append-assoc}
-use mathlib.Core.Path.{_∙_, _≡_, ap, refl, sym}
-use native.Mathlib.Nat.{add-zero}
-use native.Mathlib.Omega.{arith}
-use lib.ListN.{length}
+use Rattle.wire.proofs.Prelude.{Bool, List, [], _++_, _+_, _-_, _∙_, _∷_, _≡_, _≤_, add-zero, ap, append-assoc, arith, false, length, refl}
+use Rattle.wire.proofs.Prelude.{suc, sym, true, zero, ℕ}
 use Rattle.journal_blocks.proofs.Checking.{right-facts}
 use Rattle.journal_blocks.specs.Blocks.{maxBlock}
 use Rattle.journal_blocks.specs.Checked.{blockRefusal}

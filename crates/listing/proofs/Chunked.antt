@@ -1,15 +1,8 @@
 -- The claim about the listing in chunks: the opening and the program's chunks have the text that the rules' listing has. The listing over
 -- the program's states is that over the rules' states, and chunks are cut into the blocks that all bytes are cut into. Assumes nothing.
-use Prim.Native.Nat.{_*_, _+_, _<_, _≤_, suc, zero, ℕ}
-use mathlib.Core.Bool.{Bool, _&&_, false, true}
-use mathlib.Core.List.{List, [], _++_, _∷_}
-use mathlib.Core.Path.{_∙_, _≡_, ap, ap₂, refl, sym}
-use native.Mathlib.Nat.{suc-add, zero-add}
-use native.Mathlib.Omega.{arith}
-use lib.Dec.{eqb}
-use lib.ListN.{drop, drop-of-length-le, length, length-drop, length-take, take}
-use lib.Seq.{drop-drop, drop-nil, take-nil, take-take}
-use borrow.Author.Tests.{eqb-false, eqb-true}
+use Rattle.wire.proofs.Prelude.{Bool, List, [], _&&_, _*_, _++_, _+_, _<_, _∙_, _∷_, _≡_, _≤_, ap, ap₂, arith, drop, drop-drop, drop-nil}
+use Rattle.wire.proofs.Prelude.{drop-of-length-le, eqb, eqb-false, eqb-true, false, length, length-drop, length-take, refl, suc, suc-add}
+use Rattle.wire.proofs.Prelude.{sym, take, take-nil, take-take, true, zero, zero-add, ℕ}
 use Rattle.journal_blocks.specs.Blocks.{balancesOf, maxBlock, recordsOf, statedCount}
 use Rattle.journal_blocks.specs.Checked.{blockRefusal}
 use Rattle.ledgers.specs.Limits.{capacity}
@@ -22,13 +15,11 @@ use Rattle.pair_core.proofs.Opened.{opened-ready, opened-view}
 use Rattle.pair_core.proofs.Passing.{next-of}
 use Rattle.pair_core.specs.Layout.{acceptsPair, pairViewOf, pairWordsChecker}
 use Rattle.records.specs.Records.{reading}
-use Rattle.records.specs.declared.Reading.{Reading}
-use Rattle.records.specs.declared.Reading.the-variants.{Read, Unreadable}
 use Rattle.rules.proofs.ListCalls.{cut-first}
 use Rattle.rules.specs.Calls.{callOne}
 use Rattle.rules.specs.Lists.{cut}
 use Rattle.rules.specs.PairValidator.{PairView, pairJudge, pairOpened, pairOpeningRefusal, pairValidator}
-use Rattle.rules.specs.Rules.{afterBytes}
+use Rattle.rules.specs.Rules.{Read, Reading, Unreadable, afterBytes}
 
 -- ## The program's states and the rules'
 

@@ -1,9 +1,6 @@
 -- The claim that a listing's lines are those of a run: the listing calls the pair validator with one record after another.
 -- Assumes nothing.
-use Prim.Native.Nat.{ℕ}
-use mathlib.Core.Bool.{true}
-use mathlib.Core.List.{List, [], _++_, _∷_}
-use mathlib.Core.Path.{_≡_, refl, sym}
+use Rattle.wire.proofs.Prelude.{List, [], _++_, _∷_, _≡_, refl, sym, true, ℕ}
 use Rattle.answers.proofs.Answers.{tells}
 use Rattle.answers.specs.Answers.{Tells, numberOf}
 use Rattle.ledgers.specs.Limits.{capacity}

@@ -1,12 +1,7 @@
 -- The lines of a block's records, a block's text or its fault, and the blocks of a chunk, one after the other: what the functions' loops
 -- cite. Assumes nothing.
-use Prim.Native.Nat.{_*_, _+_, _-_, _<_, _≤_, min, suc, zero, ℕ}
-use mathlib.Core.Bool.{false, true}
-use mathlib.Core.List.{List, [], _++_, _∷_, append-assoc, append-nil}
-use mathlib.Core.Path.{_∙_, _≡_, ap, refl, sym}
-use native.Mathlib.Numerals.{add-one}
-use native.Mathlib.Omega.{arith}
-use lib.ListN.{drop, length, length-drop, length-take, take}
+use Rattle.wire.proofs.Prelude.{List, [], _*_, _++_, _+_, _-_, _<_, _∙_, _∷_, _≡_, _≤_, add-one, ap, append-assoc, append-nil, arith, drop}
+use Rattle.wire.proofs.Prelude.{false, length, length-drop, length-take, min, refl, suc, sym, take, true, zero, ℕ}
 use Rattle.answers.proofs.Answers.{refused-instead}
 use Rattle.answers.specs.Answers.{answer, numberOf}
 use Rattle.answers.specs.declared.Answer.{Answer}

@@ -1,12 +1,6 @@
 -- A good journal is cut into its own blocks, and the lines of its blocks are those of its records in one list. Assumes nothing.
-use Prim.Native.Nat.{suc, ℕ}
-use mathlib.Core.Bool.{Bool, true}
-use mathlib.Core.List.{List, [], _++_, _∷_}
-use mathlib.Core.Path.{_∙_, _≡_, ap, refl, sym}
-use native.Mathlib.Nat.{zero-add}
-use native.Mathlib.Omega.{arith}
-use lib.ListN.{drop, length, length-append, take}
-use lib.Seq.{drop-at, drop-drop, take-at}
+use Rattle.wire.proofs.Prelude.{Bool, List, [], _++_, _∙_, _∷_, _≡_, ap, arith, drop, drop-at, drop-drop, length, length-append, refl, suc}
+use Rattle.wire.proofs.Prelude.{sym, take, take-at, true, zero-add, ℕ}
 use Rattle.journal.proofs.ReadBack.{written-reads}
 use Rattle.journal.specs.Journal.{AllPass, Reads, WrittenReads, allRecords, joined, journalOf}
 use Rattle.journal_blocks.proofs.Checking.{right-facts}

@@ -1,9 +1,6 @@
 -- A whole listing from its parts: what the opening leaves, alone or with the turns after it. Assumes nothing.
-use Prim.Native.Nat.{_*_, _≤_, ℕ}
-use mathlib.Core.Bool.{Bool, false, true}
-use mathlib.Core.List.{List, [], _++_}
-use mathlib.Core.Path.{_∙_, _≡_, ap, ap₂, refl, subst, sym}
-use lib.ListN.{drop, length, length-replicate, replicate, take}
+use Rattle.wire.proofs.Prelude.{Bool, List, [], _*_, _++_, _∙_, _≡_, _≤_, ap, ap₂, drop, false, length, length-replicate, refl, replicate}
+use Rattle.wire.proofs.Prelude.{subst, sym, take, true, ℕ}
 use Rattle.journal_blocks.specs.Blocks.{balancesOf}
 use Rattle.listing.specs.Chunks.{openedBy}
 use Rattle.listing.specs.Listing.{Standing, opened}

@@ -1,13 +1,6 @@
 -- A turn of the program's loop: what it leaves, and that as many turns as there are chunks end the listing. Assumes nothing.
-use Prim.Native.Nat.{_*_, _+_, _-_, _<_, _≤_, ℕ}
-use mathlib.Core.Bool.{Bool, false, true}
-use mathlib.Core.List.{List, [], _∷_}
-use mathlib.Core.Path.{_∙_, _≡_, ap, refl, sym}
-use native.Mathlib.Omega.{arith}
-use lib.Dec.{eqb}
-use lib.ListN.{length, take}
-use lib.Seq.{length-take-le}
-use borrow.Author.Tests.{eqb-true}
+use Rattle.wire.proofs.Prelude.{Bool, List, [], _*_, _+_, _-_, _<_, _∙_, _∷_, _≡_, _≤_, ap, arith, eqb, eqb-true, false, length}
+use Rattle.wire.proofs.Prelude.{length-take-le, refl, sym, take, true, ℕ}
 use Rattle.listing.proofs.Blocks.{went-on}
 use Rattle.listing.proofs.Chunked.{chunk-count}
 use Rattle.listing.specs.Chunks.{afterChunk, chunkBlocks, chunkRoom, chunkSize, chunkText, mostChunks}

@@ -1,9 +1,5 @@
 -- Where the table of pairs has the digits of a byte: at twice the byte and one after it. Assumes nothing.
-use Prim.Native.Nat.{_*_, _+_, _<_, suc, zero, ℕ}
-use mathlib.Core.Path.{_≡_, refl}
-use native.Mathlib.Nat.{zero-add}
-use native.Mathlib.Omega.{arith}
-use lib.ListN.{getD}
+use Rattle.wire.proofs.Prelude.{_*_, _+_, _<_, _≡_, arith, getD, refl, suc, zero, zero-add, ℕ}
 use Rattle.listing_lines.specs.Hex.{highDigit, lowDigit, pairTable, pairsFrom}
 
 -- of n bytes from b on, the digits of the byte after k of them

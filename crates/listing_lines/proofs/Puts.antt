@@ -1,15 +1,8 @@
 -- Texts put into a buffer one after the other, the digits of a listing, and how long its fields and lines are. Assumes nothing.
-use Prim.Native.Nat.{_%_, _*_, _+_, _-_, _/_, _<_, _^_, _≤_, suc, zero, ℕ}
-use mathlib.Core.Bool.{Bool, cond, false, true}
-use mathlib.Core.List.{List, [], _++_, _∷_, append-assoc, append-nil}
-use mathlib.Core.Path.{_∙_, _≡_, ap, refl, sym}
-use native.Mathlib.Nat.{pow-le-pow-right}
-use native.Mathlib.Numerals.{add-one}
-use native.Mathlib.Omega.{arith}
-use lib.Dec.{ltb}
-use lib.ListN.{drop, getD, length, length-append, length-drop, length-set, length-take, set, take}
-use lib.Seq.{getD-drop, take-suc, take-suc-set}
-use borrow.Author.Tests.{le-ltb, lt-ltb, ltb-false, ltb-true}
+use Rattle.wire.proofs.Prelude.{Bool, List, [], _%_, _*_, _++_, _+_, _-_, _/_, _<_, _^_, _∙_, _∷_, _≡_, _≤_, add-one, ap, append-assoc}
+use Rattle.wire.proofs.Prelude.{append-nil, arith, cond, drop, false, getD, getD-drop, le-ltb, length, length-append, length-drop}
+use Rattle.wire.proofs.Prelude.{length-set, length-take, lt-ltb, ltb, ltb-false, ltb-true, pow-le-pow-right, refl, set, suc, sym, take}
+use Rattle.wire.proofs.Prelude.{take-suc, take-suc-set, true, zero, ℕ}
 use Rattle.io.specs.Digits.{Fewest, digits}
 use Rattle.listing_lines.specs.Hex.{highDigit, lowDigit}
 use Rattle.listing_lines.specs.Lines.{Put, decimal, decimalIn, hexadecimal, numberText}

@@ -1,13 +1,7 @@
 -- The first two blocks of bytes, the text of their opening by their refusals, and what the reader hands out of them. Assumes nothing.
-use Prim.Native.Nat.{_+_, _-_, _<_, _≤_, min, suc, zero, ℕ}
-use mathlib.Core.Bool.{Bool, cond, false, true}
-use mathlib.Core.List.{List, [], _++_, append-nil}
-use mathlib.Core.Path.{_∙_, _≡_, ap, ap₂, refl, sym}
-use native.Mathlib.Omega.{arith}
-use lib.Dec.{leb}
-use lib.ListN.{drop, length, length-append, length-drop, length-take, take, take-append-drop}
-use lib.Seq.{drop-append-seam, take-append-seam, take-at}
-use borrow.Author.Tests.{leb-false, leb-true, lt-leb}
+use Rattle.wire.proofs.Prelude.{Bool, List, [], _++_, _+_, _-_, _<_, _∙_, _≡_, _≤_, ap, append-nil, ap₂, arith, cond, drop}
+use Rattle.wire.proofs.Prelude.{drop-append-seam, false, leb, leb-false, leb-true, length, length-append, length-drop, length-take, lt-leb}
+use Rattle.wire.proofs.Prelude.{min, refl, suc, sym, take, take-append-drop, take-append-seam, take-at, true, zero, ℕ}
 use Rattle.answers.proofs.Answers.{tells}
 use Rattle.answers.specs.Answers.{Tells, answer, numberOf, orElse}
 use Rattle.answers.specs.declared.Answer.the-variants.{Passed, Refused}

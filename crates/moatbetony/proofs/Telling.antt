@@ -1,8 +1,5 @@
 -- What is told of a part of a block and of a record, by the answer or the reading that came back. Assumes nothing.
-use Prim.Native.Nat.{_*_, _+_, ℕ}
-use mathlib.Core.List.{List, []}
-use mathlib.Core.Path.{_∙_, _≡_, sym}
-use lib.ListN.{drop, replicate, take}
+use Rattle.wire.proofs.Prelude.{List, [], _*_, _+_, _∙_, _≡_, drop, replicate, sym, take, ℕ}
 use Rattle.answers.proofs.Answers.{refused-instead}
 use Rattle.answers.specs.Answers.{answer}
 use Rattle.answers.specs.declared.Answer.{Answer}
@@ -15,9 +12,7 @@ use Rattle.moatbetony.specs.declared.PartTold.{PartTold}
 use Rattle.moatbetony.specs.declared.RecordTold.{RecordTold}
 use Rattle.moatbetony.specs.declared.Told.{Told}
 use Rattle.records.specs.Records.{reading}
-use Rattle.records.specs.declared.Reading.{Reading}
-use Rattle.records.specs.declared.Reading.the-variants.{Read, Unreadable}
-use Rattle.records.specs.declared.Record.{Record}
+use Rattle.rules.specs.Rules.{Read, Reading, Record, Unreadable}
 
 module _ {a : Answer} {t : Told} (b : List ℕ) (k before place : ℕ) (tells : t ≡ told a)
     (judged : a ≡ answer (recordRefusal b k before place) k) where

@@ -1,18 +1,8 @@
 -- The claims about the pair validator's calls: runs over the program's states are runs over the rules' states. Assumes nothing.
-use Prim.Native.Nat.{_+_, _-_, _≤_, ℕ}
-use mathlib.Core.Bool.{true}
-use mathlib.Core.List.{List}
-use mathlib.Core.Logic.{inl, inr}
-use mathlib.Mathlib.Data.Bool.Basic.{dichotomy}
-use mathlib.Core.Path.{_∙_, _≡_, ap, refl, sym}
-use native.Mathlib.Omega.{arith}
-use lib.Dec.{leb}
-use lib.ListN.{length}
-use borrow.Author.Tests.{leb-false, leb-true}
+use Rattle.wire.proofs.Prelude.{List, _+_, _-_, _∙_, _≡_, _≤_, ap, arith, dichotomy, inl, inr, leb, leb-false, leb-true, length, refl, sym}
+use Rattle.wire.proofs.Prelude.{true, ℕ}
 use Rattle.ledgers.specs.Ledgers.{ledgerByte, ledgerOf}
 use Rattle.ledgers.specs.Limits.{capacity}
-use Rattle.ledgers.specs.declared.Ledger.{Ledger}
-use Rattle.ledgers.specs.declared.Ledger.the-variants.{Far, Home}
 use Rattle.pair_claims.specs.Claims.{PairCallsAsRules, PairFullWhenNoneLeft, PairInPlaceAsByValue, PairListsAndRefusals}
 use Rattle.pair_claims.specs.Claims.{PairOpenedAsRules, PairPlacesLeft, PairStatesConserved, PairStatesFollowRules}
 use Rattle.pair_claims.specs.Claims.{PairStatesStayAccepted, PairThreeExactly, PairZeroRefused, leftOn, pairPassedOfRun}
@@ -36,7 +26,7 @@ use Rattle.rules.proofs.Simulation.{Agree, agree-call, simulation}
 use Rattle.rules.specs.Calls.{Call, InTurn, call, one}
 use Rattle.rules.specs.Lists.{total}
 use Rattle.rules.specs.PairValidator.{AsTheRules, Conserved, PairView, inFlightOf, pairOpened, pairValidator}
-use Rattle.rules.specs.Rules.{afterBytes, inFlight, judgeBytes, stateOf}
+use Rattle.rules.specs.Rules.{Far, Home, Ledger, afterBytes, inFlight, judgeBytes, stateOf}
 
 -- ## The program's states follow the rules' states
 

@@ -1,20 +1,12 @@
 -- What is tested of the words is what refusal 3 asks of both ledgers. Assumes nothing.
-use Prim.Native.Nat.{ℕ, _+_, _^_, _<_}
-use mathlib.Core.Bool.{Bool, _&&_, false, true}
-use mathlib.Core.List.{List}
-use mathlib.Core.Logic.{inl, inr}
-use mathlib.Core.Path.{_∙_, _≡_, refl, sym}
-use native.Mathlib.Omega.{arith}
-use lib.ListN.{getD, length}
-use borrow.Author.Tests.{eq-eqb, eqb-true}
+use Rattle.wire.proofs.Prelude.{Bool, List, _&&_, _+_, _<_, _^_, _∙_, _≡_, arith, eq-eqb, eqb-true, false, getD, inl, inr, length, refl}
+use Rattle.wire.proofs.Prelude.{sym, true, ℕ}
 use Rattle.ledgers.specs.Ledgers.{counterpart, ledgerByte}
 use Rattle.ledgers.specs.Limits.{capacity}
-use Rattle.ledgers.specs.declared.Ledger.{Ledger}
-use Rattle.ledgers.specs.declared.Ledger.the-variants.{Far, Home}
 use Rattle.pair_core.proofs.Ledgers.{Bounds, accounts-same, balances-within, bounds-of, by-byte, by-ledger, byte-below}
 use Rattle.pair_core.proofs.Ledgers.{length-balances, length-held, of-bounds, state-on}
-use Rattle.pair_core.specs.Layout.{PairReady, acceptsPair, accountsOn, balancesOn, countOn, formedOn, indexLength, indexOn}
-use Rattle.pair_core.specs.Layout.{ledgerOn, pairBounds, pairViewOf, pairWords, recordsOn, supplyOf, zeroBeyond}
+use Rattle.pair_core.specs.Layout.{PairReady, acceptsPair, accountsOn, balancesOn, countOn, formedOn, indexLength, indexOn, ledgerOn}
+use Rattle.pair_core.specs.Layout.{pairBounds, pairViewOf, pairWords, recordsOn, supplyOf, zeroBeyond}
 use Rattle.pair_core.specs.Testing.{backedOn, balanceSum, flowSum, heldOn, sumsAgree, testsOf}
 use Rattle.places.proofs.BalanceTotals.{balances-sum}
 use Rattle.places.proofs.OverPlaces.{all-each, all-list}
@@ -27,7 +19,7 @@ use Rattle.rules.proofs.Lists.{never-both-tests, same-tests}
 use Rattle.rules.proofs.PairAccepted.{Accepted, LedgerFacts, accepts-facts, facts-accepts}
 use Rattle.rules.specs.Lists.{all, total}
 use Rattle.rules.specs.PairValidator.{matched, pairAccepts, standsUnder}
-use Rattle.rules.specs.Rules.{accountsOf, inFlight}
+use Rattle.rules.specs.Rules.{Far, Home, Ledger, accountsOf, inFlight}
 use Rattle.table.proofs.Crossings.{Standing, all-backed-is, received-sum, sent-sum}
 use Rattle.table.proofs.Growing.{index-beside}
 use Rattle.table.proofs.Numbers.{apart-records}

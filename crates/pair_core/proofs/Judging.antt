@@ -1,15 +1,8 @@
 -- What the functions on words say of a record is what the rules say. Assumes nothing.
-use Prim.Native.Nat.{ℕ, _-_, _^_, _<_}
-use mathlib.Core.Bool.{Bool, false, not, true}
-use mathlib.Core.List.{List}
-use mathlib.Core.Path.{_∙_, _≡_, ap, sym}
-use lib.Dec.{leb}
-use lib.ListN.{getD}
+use Rattle.wire.proofs.Prelude.{Bool, List, _-_, _<_, _^_, _∙_, _≡_, ap, false, getD, leb, not, sym, true, ℕ}
 use Rattle.answers.specs.Answers.{orElse, refuse}
 use Rattle.ledgers.specs.Ledgers.{counterpart, ledgerByte, ledgerOf, receiverLedger, senderLedger}
 use Rattle.ledgers.specs.Limits.{capacity}
-use Rattle.ledgers.specs.declared.Kind.{Kind}
-use Rattle.ledgers.specs.declared.Kind.the-variants.{Local, Receiving, Sending}
 use Rattle.pair_core.proofs.Accept.{PairSound, standing-on}
 use Rattle.pair_core.proofs.Ledgers.{length-held, other-byte, state-on}
 use Rattle.pair_core.specs.Layout.{accountsOn, balancesOn, countOn, ledgerOn, pairViewOf, recordsOn}
@@ -17,13 +10,12 @@ use Rattle.places.proofs.Refusals.{funds-at, judged-by}
 use Rattle.places.specs.LedgerBalances.{firstBy, fundsAt}
 use Rattle.places.specs.OverPlaces.{anyAt}
 use Rattle.records.specs.Records.{formed, recordIn}
-use Rattle.records.specs.declared.Reading.the-variants.{Read}
-use Rattle.records.specs.declared.Record.{Record}
 use Rattle.records.specs.declared.Words.{Words}
 use Rattle.rules.proofs.Lists.{never-both-tests}
 use Rattle.rules.specs.Lists.{any}
 use Rattle.rules.specs.PairValidator.{matched, pairJudge, roomRefusal}
-use Rattle.rules.specs.Rules.{LedgerState, accountsOf, fundsRefusal, isReceiving, judge, lastRefusal, matchRefusal, matches}
+use Rattle.rules.specs.Rules.{Kind, LedgerState, Local, Read, Receiving, Record, Sending, accountsOf, fundsRefusal, isReceiving, judge}
+use Rattle.rules.specs.Rules.{lastRefusal, matchRefusal, matches}
 use Rattle.table.proofs.Crossings.{asked, backed-is}
 use Rattle.table.proofs.Numbers.{clash-records}
 use Rattle.table.specs.Table.{backedBy, ledgerIn, numberedAt}

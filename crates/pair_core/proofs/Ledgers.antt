@@ -1,22 +1,14 @@
 -- Both ledgers of the words, one law for each: their bounds, and how the rules see them. Assumes nothing.
-use Prim.Native.Nat.{_*_, _+_, _-_, _<_, _≤_, suc, zero, ℕ}
-use mathlib.Core.Bool.{true}
-use mathlib.Core.List.{List}
-use mathlib.Core.Path.{_≡_, _∙_, refl, sym}
-use native.Mathlib.Omega.{arith}
-use lib.ListN.{drop, length, length-drop}
-use lib.Seq.{length-take-le}
-use borrow.Author.Tests.{le-leb, leb-true}
+use Rattle.wire.proofs.Prelude.{List, _*_, _+_, _-_, _<_, _∙_, _≡_, _≤_, arith, drop, le-leb, leb-true, length, length-drop, length-take-le}
+use Rattle.wire.proofs.Prelude.{refl, suc, sym, true, zero, ℕ}
 use Rattle.ledgers.specs.Ledgers.{counterpart, ledgerByte}
 use Rattle.ledgers.specs.Limits.{accountLimit, capacity}
-use Rattle.ledgers.specs.declared.Ledger.{Ledger}
-use Rattle.ledgers.specs.declared.Ledger.the-variants.{Far, Home}
-use Rattle.pair_core.specs.Layout.{accountsOn, balancesOn, countOn, indexLength, indexOn, ledgerOn, pairBounds, pairViewOf}
-use Rattle.pair_core.specs.Layout.{pairWords, recordsOn, supplyOf}
+use Rattle.pair_core.specs.Layout.{accountsOn, balancesOn, countOn, indexLength, indexOn, ledgerOn, pairBounds, pairViewOf, pairWords}
+use Rattle.pair_core.specs.Layout.{recordsOn, supplyOf}
 use Rattle.places.proofs.Openings.{count-facts}
 use Rattle.places.specs.NumberIndex.{chainCount}
 use Rattle.rules.specs.PairValidator.{countAllowed, supplyAllowed}
-use Rattle.rules.specs.Rules.{accountsOf, stateOf}
+use Rattle.rules.specs.Rules.{Far, Home, Ledger, accountsOf, stateOf}
 use Rattle.table.proofs.Records.{length-records}
 use Rattle.table.specs.Table.{accountsBy, ledgerIn}
 use Rattle.wire.proofs.Lists.{every-both, every-first, every-none}

@@ -1,11 +1,7 @@
 -- The words of an opening: what the stores leave in words of zeros, what they are as the rules' state, and that they are accepted; and
 -- the words beside a refused one. Assumes nothing.
-use Prim.Native.Nat.{_*_, _+_, _<_, _≤_, ℕ}
-use mathlib.Core.Bool.{false, true}
-use mathlib.Core.List.{List, [], _++_, _∷_, append-assoc}
-use mathlib.Core.Path.{_∙_, _≡_, ap, refl, subst, sym}
-use native.Mathlib.Omega.{arith}
-use lib.ListN.{drop, getD, length, length-replicate, replicate, replicate-append-replicate, set, take}
+use Rattle.wire.proofs.Prelude.{List, [], _*_, _++_, _+_, _<_, _∙_, _∷_, _≡_, _≤_, ap, append-assoc, arith, drop, false, getD, length}
+use Rattle.wire.proofs.Prelude.{length-replicate, refl, replicate, replicate-append-replicate, set, subst, sym, take, true, ℕ}
 use Rattle.ledgers.specs.Limits.{accountLimit, capacity}
 use Rattle.pair_core.proofs.Accept.{PairSound, sound-accepts}
 use Rattle.pair_core.proofs.Ledgers.{by-byte}

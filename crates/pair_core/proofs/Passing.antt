@@ -1,21 +1,10 @@
 -- A record that passes: what its stores need; the words then are, seen as the rules' state, the rules' next state, and are accepted
 -- again. Assumes nothing.
-use Prim.Native.Nat.{_*_, _+_, _-_, _<_, _^_, _≤_, ℕ}
-use mathlib.Core.Bool.{true}
-use mathlib.Core.List.{List}
-use mathlib.Core.Logic.{_⊎_, inl, inr, ⊎-elim}
-use mathlib.Core.Path.{_∙_, _≡_, ap, refl, sym}
-use native.Mathlib.Omega.{arith}
-use lib.ListN.{getD, length, length-set}
-use lib.Seq.{getD-set-other, getD-set-same}
-use borrow.Author.Tests.{leb-true}
+use Rattle.wire.proofs.Prelude.{List, _*_, _+_, _-_, _<_, _^_, _∙_, _≡_, _≤_, _⊎_, ap, arith, getD, getD-set-other, getD-set-same, inl, inr}
+use Rattle.wire.proofs.Prelude.{leb-true, length, length-set, refl, sym, true, ℕ, ⊎-elim}
 use Rattle.answers.proofs.Answers.{or-else-zero}
 use Rattle.ledgers.specs.Ledgers.{counterpart, ledgerByte, ledgerOf}
 use Rattle.ledgers.specs.Limits.{accountLimit, capacity, maxAmount}
-use Rattle.ledgers.specs.declared.Kind.{Kind}
-use Rattle.ledgers.specs.declared.Kind.the-variants.{Local, Receiving, Sending}
-use Rattle.ledgers.specs.declared.Ledger.{Ledger}
-use Rattle.ledgers.specs.declared.Ledger.the-variants.{Far, Home}
 use Rattle.pair_core.proofs.Accept.{PairSound, sound-accepts, sound-of}
 use Rattle.pair_core.proofs.Ledgers.{Bounds, accounts-fit, balances-within, by-byte, byte-below, length-balances, length-held}
 use Rattle.pair_core.proofs.Ledgers.{state-on}
@@ -26,14 +15,12 @@ use Rattle.places.specs.Entries.{givenBy, takenBy}
 use Rattle.places.specs.NumberIndex.{chainCount}
 use Rattle.records.proofs.Formed.{read-formed}
 use Rattle.records.specs.Records.{formed, reading, recordIn, wordsOf}
-use Rattle.records.specs.declared.Reading.the-variants.{Read}
-use Rattle.records.specs.declared.Record.{Record}
 use Rattle.records.specs.declared.Words.{Words}
 use Rattle.rules.proofs.PairAccepted.{accepts-facts, pair-step}
 use Rattle.rules.proofs.Refusals.{Passable, judge-none, room-none}
 use Rattle.rules.specs.Lists.{lowered, total}
 use Rattle.rules.specs.PairValidator.{pairAccepts, pairJudge, supplyAllowed}
-use Rattle.rules.specs.Rules.{after, afterBytes, held, judge}
+use Rattle.rules.specs.Rules.{Far, Home, Kind, Ledger, Local, Read, Receiving, Record, Sending, after, afterBytes, held, judge}
 use Rattle.table.proofs.Balances.{balance-fits, balance-in, given-fits}
 use Rattle.table.proofs.Growing.{grown, grown-kept, index-beside, index-grown}
 use Rattle.table.proofs.Storing.{Agree, LedgerStored, Stored, formed-same, ledger-same, ledger-stored-of, number-same, stored-of}

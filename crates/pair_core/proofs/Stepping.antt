@@ -1,9 +1,5 @@
 -- What a record asks that passes in a state with the indexes of its numbers, and what it leaves. Assumes nothing.
-use Prim.Native.Nat.{_+_, _<_, ℕ}
-use mathlib.Core.List.{List}
-use mathlib.Core.Path.{_≡_}
-use native.Mathlib.Omega.{arith}
-use lib.ListN.{length}
+use Rattle.wire.proofs.Prelude.{List, _+_, _<_, _≡_, arith, length, ℕ}
 use Rattle.ledgers.specs.Ledgers.{ledgerByte, ledgerOf}
 use Rattle.ledgers.specs.Limits.{capacity}
 use Rattle.pair_core.proofs.Accept.{sound-of}
@@ -11,11 +7,10 @@ use Rattle.pair_core.proofs.Ledgers.{byte-below}
 use Rattle.pair_core.proofs.Passing.{next-of, passes-of}
 use Rattle.pair_core.specs.Layout.{PairReady, countOn, indexOn, pairViewOf, pairWith, pairWordsChecker}
 use Rattle.places.specs.NumberIndex.{chainCount}
-use Rattle.records.specs.declared.Reading.the-variants.{Read}
-use Rattle.records.specs.declared.Record.{Record}
 use Rattle.records.specs.declared.Words.{Words}
 use Rattle.rules.proofs.Parts.{ReadsAs, Stepped, step-passed}
 use Rattle.rules.specs.PairValidator.{pairJudge}
+use Rattle.rules.specs.Rules.{Read, Record}
 use Rattle.table.proofs.Growing.{grown}
 
 module _ {s index b : List ℕ} {w : Words} {r : Record} (h : PairReady s index) (x : ReadsAs b w r)

@@ -1,10 +1,5 @@
 -- The row of an accepted opening. Assumes nothing.
-use Prim.Native.Nat.{_+_, _-_, _≤_, ℕ}
-use mathlib.Core.List.{List}
-use mathlib.Core.Path.{_∙_, _≡_, ap, sym}
-use native.Mathlib.Omega.{arith}
-use lib.ListN.{getD, length}
-use borrow.Author.Tests.{leb-true}
+use Rattle.wire.proofs.Prelude.{List, _+_, _-_, _∙_, _≡_, _≤_, ap, arith, getD, leb-true, length, sym, ℕ}
 use Rattle.answers.specs.Answers.{unlessRefused}
 use Rattle.ledgers.specs.Limits.{maxAmount}
 use Rattle.pair_core.proofs.Opened.{opened-view}

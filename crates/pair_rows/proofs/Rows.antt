@@ -1,15 +1,8 @@
 -- The next row: of a refused record with the figures as they were, of a passed one with the figures moved. Assumes nothing.
-use Prim.Native.Nat.{_+_, _≤_, suc, zero, ℕ}
-use mathlib.Core.List.{List}
-use mathlib.Core.Path.{_∙_, _≡_, ap, ap₂, refl, subst, sym}
-use native.Mathlib.Omega.{arith}
+use Rattle.wire.proofs.Prelude.{List, _+_, _∙_, _≡_, _≤_, ap, ap₂, arith, refl, subst, suc, sym, zero, ℕ}
 use Rattle.answers.proofs.Answers.{or-else-zero}
 use Rattle.ledgers.specs.Ledgers.{ledgerByte, ledgerOf}
 use Rattle.ledgers.specs.Limits.{capacity}
-use Rattle.ledgers.specs.declared.Kind.{Kind}
-use Rattle.ledgers.specs.declared.Kind.the-variants.{Local, Receiving, Sending}
-use Rattle.ledgers.specs.declared.Ledger.{Ledger}
-use Rattle.ledgers.specs.declared.Ledger.the-variants.{Far, Home}
 use Rattle.pair_core.proofs.Accept.{sound-of}
 use Rattle.pair_core.proofs.Passing.{next-of}
 use Rattle.pair_core.specs.Layout.{PairReady, pairViewOf, pairWith, pairWordsChecker, supplyOf}
@@ -17,15 +10,14 @@ use Rattle.pair_rows.specs.Rows.{RowReady, movedRow, rowOf, totalIn}
 use Rattle.pair_rows.specs.declared.Row.{Row}
 use Rattle.places.specs.Entries.{givenBy, takenBy}
 use Rattle.records.specs.Records.{reading, wordsOf}
-use Rattle.records.specs.declared.Reading.the-variants.{Read, Unreadable}
-use Rattle.records.specs.declared.Record.{Record}
 use Rattle.rules.proofs.Lists.{balance-total, length-lowered, total-lowered, total-raised}
 use Rattle.rules.proofs.PairAccepted.{accepts-facts}
 use Rattle.rules.proofs.Refusals.{Passable, judge-none}
 use Rattle.rules.specs.Calls.{callOne}
 use Rattle.rules.specs.Lists.{lowered, total}
 use Rattle.rules.specs.PairValidator.{PairView, pairJudge}
-use Rattle.rules.specs.Rules.{LedgerState, PairState, after, inFlight, judge, moved, stateOf}
+use Rattle.rules.specs.Rules.{Far, Home, Kind, Ledger, LedgerState, Local, PairState, Read, Receiving, Record, Sending, Unreadable, after}
+use Rattle.rules.specs.Rules.{inFlight, judge, moved, stateOf}
 
 -- ## A ledger's total
 

@@ -1,12 +1,6 @@
 -- Laws of the totals, the figures, the balance of an account and the places left of accepted words. Assumes nothing.
-use Prim.Native.Nat.{_*_, _+_, _-_, _<_, _≤_, suc, zero, ℕ}
-use mathlib.Core.Bool.{false, true}
-use mathlib.Core.List.{List}
-use mathlib.Core.Path.{_∙_, _≡_, refl, sym}
-use native.Mathlib.Omega.{arith}
-use lib.Dec.{ltb}
-use lib.ListN.{drop, getD, length, take}
-use borrow.Author.Tests.{le-ltb, leb-true}
+use Rattle.wire.proofs.Prelude.{List, _*_, _+_, _-_, _<_, _∙_, _≡_, _≤_, arith, drop, false, getD, le-ltb, leb-true, length, ltb, refl, suc}
+use Rattle.wire.proofs.Prelude.{sym, take, true, zero, ℕ}
 use Rattle.answers.specs.Answers.{answer}
 use Rattle.answers.specs.Balances.{balanceAmong, balanceRefused}
 use Rattle.answers.specs.declared.Answer.{Answer}

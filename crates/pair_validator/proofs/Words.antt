@@ -1,7 +1,5 @@
 -- A call over the state is the call over its words. Assumes nothing.
-use Prim.Native.Nat.{ℕ}
-use mathlib.Core.List.{List}
-use mathlib.Core.Path.{_∙_, _≡_, ap, refl, sym}
+use Rattle.wire.proofs.Prelude.{List, _∙_, _≡_, ap, refl, sym, ℕ}
 use Rattle.answers.specs.declared.Answer.{Answer}
 use Rattle.pair_core.specs.Layout.{pairWordsChecker}
 use Rattle.pair_validator.specs.State.{pairChecker}

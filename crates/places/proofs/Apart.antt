@@ -1,12 +1,6 @@
 -- Laws of numbers that are apart, one more at a time. Assumes nothing.
-use Prim.Native.Nat.{_%_, _+_, _<_, _≤_, suc, zero, ℕ}
-use mathlib.Core.Bool.{Bool, _||_, false, true}
-use mathlib.Core.Logic.{⊎-elim}
-use mathlib.Core.Path.{_∙_, _≡_, ap, refl, sym}
-use native.Mathlib.Nat.{eq-or-lt-of-le}
-use native.Mathlib.Omega.{arith}
-use lib.Dec.{eqb}
-use borrow.Author.Tests.{eq-eqb, eqb-true}
+use Rattle.wire.proofs.Prelude.{Bool, _%_, _+_, _<_, _||_, _∙_, _≡_, _≤_, ap, arith, eq-eqb, eq-or-lt-of-le, eqb, eqb-true, false, refl}
+use Rattle.wire.proofs.Prelude.{suc, sym, true, zero, ℕ, ⊎-elim}
 use Rattle.places.proofs.OverPlaces.{any-some, apart-all, apart-not}
 use Rattle.places.specs.NumberIndex.{Chains, chainCount}
 use Rattle.places.specs.OverPlaces.{anyAt, apartAt}

@@ -1,10 +1,5 @@
 -- Balances from a place on, and their total. Assumes nothing.
-use Prim.Native.Nat.{_+_, _≤_, suc, zero, ℕ}
-use mathlib.Core.List.{List}
-use mathlib.Core.Path.{_∙_, _≡_, ap, refl}
-use native.Mathlib.Omega.{arith}
-use lib.ListN.{drop, getD, length, take}
-use lib.Seq.{drop-cons}
+use Rattle.wire.proofs.Prelude.{List, _+_, _∙_, _≡_, _≤_, ap, arith, drop, drop-cons, getD, length, refl, suc, take, zero, ℕ}
 use Rattle.places.specs.OverPlaces.{sumAt}
 use Rattle.rules.specs.Lists.{sum, total}
 

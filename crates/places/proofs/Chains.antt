@@ -1,12 +1,6 @@
 -- Laws of chains of places: how they are built. Assumes nothing.
-use Prim.Native.Nat.{_%_, _+_, _-_, _<_, _≤_, ℕ}
-use mathlib.Core.Bool.{Bool, false, true}
-use mathlib.Core.Logic.{_⊎_, inl, inr, ⊎-elim}
-use mathlib.Core.Path.{_∙_, _≡_, ap, refl, sym}
-use native.Mathlib.Nat.{eq-or-lt-of-le, not-suc-le-zero}
-use native.Mathlib.Omega.{arith}
-use lib.Dec.{eqb}
-use borrow.Author.Tests.{eqb-false, eqb-true}
+use Rattle.wire.proofs.Prelude.{Bool, _%_, _+_, _-_, _<_, _∙_, _≡_, _≤_, _⊎_, ap, arith, eq-or-lt-of-le, eqb, eqb-false, eqb-true, false}
+use Rattle.wire.proofs.Prelude.{inl, inr, not-suc-le-zero, refl, sym, true, ℕ, ⊎-elim}
 use Rattle.places.specs.NumberIndex.{Chains, chainCount}
 
 -- ## Numbers that are the same or not

@@ -1,8 +1,5 @@
 -- Laws of sums in two limbs. Assumes nothing.
-use Prim.Native.Nat.{_%_, _*_, _+_, _-_, _/_, _<_, _^_, _≤_, ℕ}
-use mathlib.Core.Bool.{Bool, cond, false, true}
-use mathlib.Core.Path.{_≡_, refl}
-use native.Mathlib.Omega.{arith}
+use Rattle.wire.proofs.Prelude.{Bool, _%_, _*_, _+_, _-_, _/_, _<_, _^_, _≡_, _≤_, arith, cond, false, refl, true, ℕ}
 use Rattle.ledgers.specs.Limits.{maxAmount}
 use Rattle.places.specs.ExactSums.{Added, Halves, wide}
 use Rattle.places.specs.declared.exact_sums.Wide.{Wide}

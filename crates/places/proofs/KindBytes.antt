@@ -1,12 +1,7 @@
 -- Kinds by their bytes. Assumes nothing.
-use Prim.Native.Nat.{_≤_, suc, zero, ℕ}
-use mathlib.Core.Path.{_≡_, refl}
-use native.Mathlib.Omega.{arith}
-use lib.Dec.{eqb}
-use borrow.Author.Tests.{ne-eqb}
+use Rattle.wire.proofs.Prelude.{_≡_, _≤_, arith, eqb, ne-eqb, refl, suc, zero, ℕ}
 use Rattle.ledgers.specs.Ledgers.{kindAt}
-use Rattle.ledgers.specs.declared.Ledger.{Ledger}
-use Rattle.rules.specs.Rules.{isReceiving, isSending}
+use Rattle.rules.specs.Rules.{Ledger, isReceiving, isSending}
 
 -- the sendings are those with byte 2
 pub sending-byte : (k : ℕ) (l : Ledger) → isSending (kindAt k l) ≡ eqb k 2

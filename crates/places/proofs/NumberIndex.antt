@@ -1,10 +1,5 @@
 -- Laws of lists of numbers that hold an index: zeros, and what stays beside what is written. Assumes nothing.
-use Prim.Native.Nat.{_<_, _≤_, suc, zero, ℕ}
-use mathlib.Core.List.{List}
-use mathlib.Core.Path.{_∙_, _≡_, refl}
-use native.Mathlib.Omega.{arith}
-use lib.ListN.{getD, length-set, replicate, set}
-use lib.Seq.{getD-set-other}
+use Rattle.wire.proofs.Prelude.{List, _<_, _∙_, _≡_, _≤_, arith, getD, getD-set-other, length-set, refl, replicate, set, suc, zero, ℕ}
 use Rattle.places.specs.NumberIndex.{Kept}
 
 -- an entry of a list of zeros

@@ -1,14 +1,8 @@
 -- Laws of an opening: its numbers of accounts, its refusals, the total of its balances, and zeros after them. Assumes nothing.
-use Prim.Native.Nat.{_+_, _-_, _<_, _≤_, suc, zero, ℕ}
-use lib.Dec.{eqb}
-use native.Mathlib.Nat.{suc-add, zero-add}
-use mathlib.Core.Bool.{false, true}
-use mathlib.Core.List.{List, [], _++_, _∷_, append-assoc}
-use mathlib.Core.Path.{_∙_, _≡_, ap, refl, sym}
-use native.Mathlib.Omega.{arith}
-use lib.ListN.{List·getD-append, drop, getD, length, length-append, length-replicate, replicate, set, take}
-use lib.Seq.{drop-append-le, drop-at, drop-drop, getD-append-add, take-append-seam, take-at, take-length}
-use borrow.Author.Tests.{eq-eqb, le-leb, leb-true, lt-leb, lt-ltb, ltb-true}
+use Rattle.wire.proofs.Prelude.{List, List·getD-append, [], _++_, _+_, _-_, _<_, _∙_, _∷_, _≡_, _≤_, ap, append-assoc, arith, drop}
+use Rattle.wire.proofs.Prelude.{drop-append-le, drop-at, drop-drop, eq-eqb, eqb, false, getD, getD-append-add, le-leb, leb-true, length}
+use Rattle.wire.proofs.Prelude.{length-append, length-replicate, lt-leb, lt-ltb, ltb-true, refl, replicate, set, suc, suc-add, sym, take}
+use Rattle.wire.proofs.Prelude.{take-append-seam, take-at, take-length, true, zero, zero-add, ℕ}
 use Rattle.answers.specs.Answers.{unlessRefused}
 use Rattle.ledgers.specs.Limits.{accountLimit, maxAmount}
 use Rattle.places.proofs.BalanceTotals.{balances-sum}

@@ -1,16 +1,7 @@
 -- Laws of lists, tests and sums over places: what a loop at place i before an end cites, and how they meet the rules' lists.
 -- Assumes nothing.
-use Prim.Native.Nat.{_+_, _-_, _<_, _≤_, suc, zero, ℕ}
-use mathlib.Core.Bool.{Bool, _&&_, _||_, cond, false, not, or-assoc, or-false, true}
-use mathlib.Core.List.{List, [], _++_, _∷_}
-use mathlib.Core.Logic.{⊎-elim}
-use mathlib.Core.Path.{_∙_, _≡_, ap, refl, sym}
-use native.Mathlib.Nat.{eq-or-lt-of-le}
-use native.Mathlib.Numerals.{add-one}
-use native.Mathlib.Omega.{arith}
-use lib.Dec.{eqb}
-use lib.ListN.{length}
-use borrow.Author.Tests.{eq-eqb, ne-eqb}
+use Rattle.wire.proofs.Prelude.{Bool, List, [], _&&_, _++_, _+_, _-_, _<_, _||_, _∙_, _∷_, _≡_, _≤_, add-one, ap, arith, cond, eq-eqb}
+use Rattle.wire.proofs.Prelude.{eq-or-lt-of-le, eqb, false, length, ne-eqb, not, or-assoc, or-false, refl, suc, sym, true, zero, ℕ, ⊎-elim}
 use Rattle.places.specs.OverPlaces.{allAt, anyAt, apartAt, listAt, sumAt}
 use Rattle.rules.proofs.Lists.{never-both-tests, or-right}
 use Rattle.rules.specs.Lists.{all, any, sum}

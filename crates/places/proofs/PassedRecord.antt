@@ -1,26 +1,15 @@
 -- A passed record in the balances: what changes, and what stays. Assumes nothing.
-use Prim.Native.Nat.{_+_, _-_, _<_, _≤_, suc, zero, ℕ}
-use mathlib.Core.Bool.{Bool, cond, false, true}
-use mathlib.Core.List.{List, _∷_}
-use mathlib.Core.Logic.{_⊎_, ⊎-elim}
-use mathlib.Core.Path.{_∙_, _≡_, ap, refl, sym}
-use native.Mathlib.Omega.{arith}
-use lib.Dec.{eqb, ltb}
-use lib.ListN.{List·getD-eq-default, drop, getD, length, length-set, length-take, set, take}
-use lib.Seq.{drop-cons, drop-set-add, getD-drop, getD-set-other, getD-set-same, getD-take, set-getD, take-set-lt}
-use borrow.Author.Tests.{eqb-false, eqb-true, ltb-false, ltb-true}
+use Rattle.wire.proofs.Prelude.{Bool, List, List·getD-eq-default, _+_, _-_, _<_, _∙_, _∷_, _≡_, _≤_, _⊎_, ap, arith, cond, drop, drop-cons}
+use Rattle.wire.proofs.Prelude.{drop-set-add, eqb, eqb-false, eqb-true, false, getD, getD-drop, getD-set-other, getD-set-same, getD-take}
+use Rattle.wire.proofs.Prelude.{length, length-set, length-take, ltb, ltb-false, ltb-true, refl, set, set-getD, suc, sym, take, take-set-lt}
+use Rattle.wire.proofs.Prelude.{true, zero, ℕ, ⊎-elim}
 use Rattle.ledgers.specs.Ledgers.{counterpart, ledgerByte}
-use Rattle.ledgers.specs.declared.Kind.{Kind}
-use Rattle.ledgers.specs.declared.Kind.the-variants.{Local, Receiving, Sending}
-use Rattle.ledgers.specs.declared.Ledger.{Ledger}
-use Rattle.ledgers.specs.declared.Ledger.the-variants.{Far, Home}
 use Rattle.places.proofs.OverPlaces.{all-ext, list-ext}
 use Rattle.places.specs.Entries.{givenBy, takenBy}
 use Rattle.places.specs.LedgerBalances.{balanceAt, movedAt, placed, zerosAt}
 use Rattle.places.specs.OverPlaces.{listAt}
-use Rattle.records.specs.declared.Record.{Record}
 use Rattle.rules.specs.Lists.{lowered, raised}
-use Rattle.rules.specs.Rules.{moved}
+use Rattle.rules.specs.Rules.{Far, Home, Kind, Ledger, Local, Receiving, Record, Sending, moved}
 
 -- the bytes of a ledger and of the other one
 pub ledger-other : (l : Ledger) → ledgerByte l + ledgerByte (counterpart l) ≡ 1

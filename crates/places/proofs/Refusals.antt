@@ -1,21 +1,14 @@
 -- Refusals by the balances of a list, and one refusal after others, as the rules say. Assumes nothing.
-use Prim.Native.Nat.{ℕ}
-use mathlib.Core.Bool.{Bool, not}
-use mathlib.Core.List.{List}
-use mathlib.Core.Path.{_∙_, _≡_, ap, sym}
-use lib.Dec.{leb}
-use lib.ListN.{drop, take}
+use Rattle.wire.proofs.Prelude.{Bool, List, _∙_, _≡_, ap, drop, leb, not, sym, take, ℕ}
 use Rattle.answers.proofs.Answers.{refuse-later}
 use Rattle.answers.specs.Answers.{orElse, refuse}
 use Rattle.ledgers.specs.Ledgers.{receiverLedger, senderLedger}
 use Rattle.ledgers.specs.Limits.{capacity}
-use Rattle.ledgers.specs.declared.Ledger.{Ledger}
 use Rattle.places.proofs.PassedRecord.{balance-part}
 use Rattle.places.specs.LedgerBalances.{firstBy, fundsAt}
-use Rattle.records.specs.declared.Record.{Record}
 use Rattle.rules.specs.Lists.{any}
 use Rattle.rules.specs.PairValidator.{roomRefusal}
-use Rattle.rules.specs.Rules.{clashes, firstRefusal, fundsRefusal}
+use Rattle.rules.specs.Rules.{Ledger, Record, clashes, firstRefusal, fundsRefusal}
 
 -- a refusal after 22, 23, 24 and the later ones
 pub first-else : (accounts : Ledger → ℕ) (passed : List Record) (r : Record) (later x : ℕ)

@@ -1,8 +1,5 @@
 -- Laws of walks down the chain of a number, to a place where a test holds. Assumes nothing.
-use Prim.Native.Nat.{_%_, _+_, _-_, _<_, _≤_, ℕ}
-use mathlib.Core.Bool.{Bool, false, true}
-use mathlib.Core.Path.{_∙_, _≡_, ap, refl, sym}
-use native.Mathlib.Omega.{arith}
+use Rattle.wire.proofs.Prelude.{Bool, _%_, _+_, _-_, _<_, _∙_, _≡_, _≤_, ap, arith, false, refl, sym, true, ℕ}
 use Rattle.places.proofs.Chains.{less, low-bits-most}
 use Rattle.places.proofs.OverPlaces.{any-none, any-some}
 use Rattle.places.specs.NumberIndex.{Chains, chainCount}

@@ -1,11 +1,6 @@
 -- Bytes read as a record exactly when they are its encoding. Assumes nothing.
-use Prim.Native.Nat.{ℕ, zero, suc, _+_, _≤_, _<_}
-use mathlib.Core.Path.{_≡_, refl, sym, ap, ap₂, _∙_, subst}
-use mathlib.Core.Bool.{Bool, true, false, cond}
-use mathlib.Core.List.{List, [], _∷_, _++_}
-use native.Mathlib.Omega.{arith}
-use lib.Dec.{eqb}
-use lib.ListN.{length, drop, drop-of-length-le}
+use Rattle.wire.proofs.Prelude.{Bool, List, [], _++_, _+_, _<_, _∙_, _∷_, _≡_, _≤_, ap, ap₂, arith, cond, drop, drop-of-length-le, eqb}
+use Rattle.wire.proofs.Prelude.{false, length, refl, subst, suc, sym, true, zero, ℕ}
 use Rattle.ledgers.specs.Ledgers.{ledgerByte, ledgerAt, kindByte, kindAt, ledgerOf}
 use Rattle.ledgers.specs.Limits.{maxAmount}
 use Rattle.ledgers.specs.declared.Kind.{Kind}

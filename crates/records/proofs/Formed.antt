@@ -1,12 +1,6 @@
 -- What words and bytes that refusal 21 lets pass show, fact by fact. Assumes nothing.
-use Prim.Native.Nat.{ℕ, _+_, _-_, _/_, _%_, _≤_, _<_, _^_}
-use mathlib.Core.Path.{_≡_, ap, ap₂, refl, sym, _∙_}
-use mathlib.Core.Bool.{Bool, true, false}
-use mathlib.Core.List.{List}
-use native.Mathlib.Omega.{arith}
-use lib.Dec.{eqb}
-use lib.ListN.{length}
-use borrow.Author.Tests.{eqb-true, eq-eqb, ltb-true, lt-ltb, leb-true, le-leb}
+use Rattle.wire.proofs.Prelude.{Bool, List, _%_, _+_, _-_, _/_, _<_, _^_, _∙_, _≡_, _≤_, ap, ap₂, arith, eq-eqb, eqb, eqb-true, false}
+use Rattle.wire.proofs.Prelude.{le-leb, leb-true, length, lt-ltb, ltb-true, refl, sym, true, ℕ}
 use Rattle.ledgers.specs.Ledgers.{kindAt, ledgerAt}
 use Rattle.ledgers.specs.Limits.{maxAmount}
 use Rattle.records.specs.Records.{Record, Read, Unreadable, Words, formed, recordIn, reading, readingWords, within, wordsOf}

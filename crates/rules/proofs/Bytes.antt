@@ -1,14 +1,9 @@
 -- Ledgers and kinds by their bytes. Assumes nothing.
-use Prim.Native.Nat.{ℕ, zero, suc, _≤_}
-use mathlib.Core.Bool.{true, cond}
-use mathlib.Core.Path.{_≡_, refl, sym}
-use native.Mathlib.Omega.{arith}
-use lib.Dec.{eqb}
+use Rattle.wire.proofs.Prelude.{_≡_, _≤_, arith, cond, eqb, refl, suc, sym, true, zero, ℕ}
 use Rattle.ledgers.specs.Ledgers.{counterpart, kindAt, ledgerAt, ledgerByte, receiverLedger, senderLedger}
-use Rattle.ledgers.specs.declared.Ledger.{Ledger}
-use Rattle.ledgers.specs.declared.Ledger.the-variants.{Far, Home}
 use Rattle.rules.proofs.Lists.{never-both-tests}
 use Rattle.rules.specs.PairValidator.{sameLedger}
+use Rattle.rules.specs.Rules.{Far, Home, Ledger}
 
 -- the ledger with a ledger's byte
 pub at-byte : (L : Ledger) → ledgerAt (ledgerByte L) ≡ L

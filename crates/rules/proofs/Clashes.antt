@@ -1,10 +1,6 @@
 -- Laws of clashing records. Only those of the first section open the definition of `clashes`. Assumes nothing.
-use Prim.Native.Nat.{ℕ}
-use mathlib.Core.Path.{_≡_, refl, sym, _∙_}
-use mathlib.Core.Bool.{Bool, true, false, _||_}
-use mathlib.Core.List.{List, [], _∷_, _++_}
-use lib.Dec.{eqb}
-use borrow.Author.Tests.{eq-eqb, ne-eqb, eqb-false, not-true}
+use Rattle.wire.proofs.Prelude.{Bool, List, [], _++_, _||_, _∙_, _∷_, _≡_, eq-eqb, eqb, eqb-false, false, ne-eqb, not-true, refl, sym, true}
+use Rattle.wire.proofs.Prelude.{ℕ}
 use Rattle.rules.proofs.Lists.{or-neither, any-snoc}
 use Rattle.rules.specs.Lists.{any}
 use Rattle.rules.specs.PairValidator.{unshared}

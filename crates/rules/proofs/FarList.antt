@@ -2,16 +2,10 @@
 -- records that pass the rules. Far account 0 holds the far pool: what home sends goes on to it, and what home receives comes
 -- from it. The far locals for that take their numbers from a block of 2^32 that no home record uses. Assumes nothing.
 use Rattle.rules.specs.Calls.{InTurn}
-use Prim.Native.Nat.{ℕ, zero, suc, _+_, _-_, _*_, _/_, _^_, _≤_, _<_}
-use mathlib.Core.Path.{_≡_, refl, sym, ap, _∙_}
-use mathlib.Core.Bool.{true, false}
-use mathlib.Core.List.{List, [], _∷_}
-use native.Mathlib.Omega.{arith}
+use Rattle.wire.proofs.Prelude.{List, [], _*_, _+_, _-_, _/_, _<_, _^_, _∙_, _∷_, _≡_, _≤_, ap, arith, drop, drop-cons, drop-of-length-le}
+use Rattle.wire.proofs.Prelude.{drop-set-lt, eqb, false, getD, getD-set-other, getD-set-same, length, lt-length-set, ne-eqb, refl, set-getD}
+use Rattle.wire.proofs.Prelude.{set-set, suc, sym, true, zero, ℕ}
 use native.Mathlib.Decide.{ℕ-discrete}
-use lib.Dec.{eqb}
-use lib.ListN.{length, drop, getD, drop-of-length-le}
-use lib.Seq.{lt-length-set, drop-cons, drop-set-lt, getD-set-same, getD-set-other, set-set, set-getD}
-use borrow.Author.Tests.{ne-eqb}
 use Rattle.ledgers.specs.Ledgers.{ledgerOf}
 use Rattle.ledgers.specs.Limits.{maxAmount}
 use Rattle.records.proofs.Exactly.{encoding-bytes, encoding-reads, reads-exactly}

@@ -1,12 +1,6 @@
 -- A pass keeps a state of the home validator accepted, whatever accepted state it starts from. Assumes nothing.
-use Prim.Native.Nat.{ℕ, _+_, _≤_, _<_}
-use mathlib.Core.Path.{fun-ext, _≡_, refl, _∙_}
-use mathlib.Core.Bool.{true}
-use mathlib.Core.List.{List, [], _∷_}
-use native.Mathlib.Omega.{arith}
-use lib.Dec.{lit<}
-use lib.ListN.{length, length-append}
-use borrow.Author.Tests.{eqb-true, eq-eqb, leb-true, le-leb}
+use Rattle.wire.proofs.Prelude.{List, [], _+_, _<_, _∙_, _∷_, _≡_, _≤_, arith, eq-eqb, eqb-true, fun-ext, le-leb, leb-true, length}
+use Rattle.wire.proofs.Prelude.{length-append, lit<, refl, true, ℕ}
 use Rattle.answers.proofs.Answers.{refuse-zero}
 use Rattle.ledgers.specs.Ledgers.{ledgerOf}
 use Rattle.ledgers.specs.Limits.{maxAmount}

@@ -1,13 +1,7 @@
 -- Demand 3, second half, whole: a call of the home validator passes exactly when some far list makes it possible.
 -- Assumes nothing.
-use Prim.Native.Nat.{ℕ, zero, suc, _+_, _-_, _*_, _/_, _^_, _≤_, _<_}
-use mathlib.Core.Path.{_≡_, refl, sym, _∙_, subst}
-use mathlib.Core.Bool.{false}
-use mathlib.Core.List.{List, [], _∷_, _++_, map}
-use native.Mathlib.Omega.{arith}
-use lib.Dec.{eqb}
-use lib.ListN.{length, length-map, drop, getD, length-append}
-use borrow.Author.Tests.{eqb-false, ltb-true, leb-true}
+use Rattle.wire.proofs.Prelude.{List, [], _*_, _++_, _+_, _-_, _/_, _<_, _^_, _∙_, _∷_, _≡_, _≤_, arith, drop, eqb, eqb-false, false, getD}
+use Rattle.wire.proofs.Prelude.{leb-true, length, length-append, length-map, ltb-true, map, refl, subst, suc, sym, zero, ℕ}
 use Rattle.answers.specs.declared.Answer.{Answer}
 use Rattle.answers.specs.declared.Answer.the-variants.{Passed, Refused}
 use Rattle.ledgers.specs.Limits.{accountLimit, maxAmount}

@@ -1,10 +1,7 @@
 -- Demand 3, second half: home never pays out above the far pool, at any beginning of the passed records of a run.
 -- Assumes nothing.
 use Rattle.wire.specs.BigEndian.{All}
-use Prim.Native.Nat.{ℕ, _+_}
-use mathlib.Core.Path.{_≡_, refl, ap, _∙_}
-use mathlib.Core.List.{List, [], _∷_, _++_}
-use native.Mathlib.Omega.{arith}
+use Rattle.wire.proofs.Prelude.{List, [], _++_, _+_, _∙_, _∷_, _≡_, ap, arith, refl, ℕ}
 use Rattle.answers.proofs.Answers.{or-else-zero}
 use Rattle.records.specs.Records.{reading}
 use Rattle.rules.proofs.HomeAccepted.{home-only, home-run-accepted}

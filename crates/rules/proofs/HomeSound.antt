@@ -1,12 +1,7 @@
 -- Demand 3, second half, from a far list to a pass: where an interleaving passes the rules, the home validator passes its home
 -- records. Assumes nothing.
 use Rattle.rules.specs.Calls.{InTurn}
-use Prim.Native.Nat.{ℕ, _+_, _≤_}
-use mathlib.Core.Path.{fun-ext, _≡_, refl, sym, _∙_}
-use mathlib.Core.Bool.{true, false}
-use mathlib.Core.List.{List, [], _∷_}
-use native.Mathlib.Omega.{arith}
-use lib.ListN.{length, length-append}
+use Rattle.wire.proofs.Prelude.{List, [], _+_, _∙_, _∷_, _≡_, _≤_, arith, false, fun-ext, length, length-append, refl, sym, true, ℕ}
 use Rattle.ledgers.specs.Ledgers.{ledgerOf}
 use Rattle.records.specs.Records.{reading}
 use Rattle.rules.proofs.Clashes.{Distinct}

@@ -1,15 +1,8 @@
 -- In flight, in lists of distinct numbers whose receivings have their sendings, is what was sent less what was received.
 -- Assumes nothing.
-use Prim.Native.Nat.{ℕ, _+_}
-use mathlib.Core.Path.{_≡_, refl, sym}
-use mathlib.Core.Bool.{true, false, cond, and-false, and-true, or-false}
-use mathlib.Core.List.{List, [], _∷_, _++_}
-use native.Mathlib.Omega.{arith}
-use lib.Dec.{eqb}
-use borrow.Author.Tests.{eqb-true, eq-eqb, ne-eqb, eqb-false}
+use Rattle.wire.proofs.Prelude.{List, [], _++_, _+_, _∷_, _≡_, and-false, and-true, arith, cond, dichotomy, eq-eqb, eqb, eqb-false}
+use Rattle.wire.proofs.Prelude.{eqb-true, false, inl, inr, ne-eqb, or-false, refl, sym, true, ℕ}
 use Rattle.rules.proofs.Clashes.{Distinct, used, clash-used}
-use mathlib.Mathlib.Data.Bool.Basic.{dichotomy}
-use mathlib.Core.Logic.{inl, inr}
 use Rattle.rules.proofs.Lists.{or-neither, or-second, sum-snoc, sum-ext, any-none, every-all, all-every}
 use Rattle.rules.specs.HomeValidator.{sent, received}
 use Rattle.rules.specs.Lists.{sum, any, all}

@@ -1,15 +1,7 @@
 -- A number at most as large as a list is long that is not in the list. Assumes nothing.
-use Prim.Native.Nat.{ℕ, zero, suc, _≤_, _<_}
-use mathlib.Core.Path.{_≡_, refl, sym, ap, _∙_}
-use mathlib.Core.Bool.{Bool, true, false}
-use mathlib.Core.List.{List, [], _∷_}
-use mathlib.Core.Logic.{inl, inr}
-use mathlib.Mathlib.Data.Bool.Basic.{dichotomy}
-use native.Mathlib.Omega.{arith}
+use Rattle.wire.proofs.Prelude.{Bool, List, [], _<_, _∙_, _∷_, _≡_, _≤_, ap, arith, dichotomy, eqb, false, inl, inr, length, ne-eqb, refl}
+use Rattle.wire.proofs.Prelude.{suc, sym, true, zero, ℕ}
 use native.Mathlib.Decide.{ℕ-discrete}
-use lib.Dec.{eqb}
-use lib.ListN.{length}
-use borrow.Author.Tests.{ne-eqb}
 use Rattle.rules.proofs.Lists.{never-both-tests, or-neither, or-second}
 use Rattle.rules.specs.Lists.{any}
 

@@ -1,9 +1,5 @@
 -- A passed record on one ledger, seen from it and from the other one. Assumes nothing.
-use Prim.Native.Nat.{ℕ, _+_, _≤_, _<_}
-use mathlib.Core.Path.{fun-ext, _≡_, refl, ap}
-use mathlib.Core.Bool.{or-true, or-assoc, true, false}
-use mathlib.Core.List.{List, [], _∷_, _++_}
-use native.Mathlib.Omega.{arith}
+use Rattle.wire.proofs.Prelude.{List, [], _++_, _+_, _<_, _∷_, _≡_, _≤_, ap, arith, false, fun-ext, or-assoc, or-true, refl, true, ℕ}
 use Rattle.ledgers.specs.Ledgers.{counterpart}
 use Rattle.ledgers.specs.Limits.{maxAmount}
 use Rattle.records.proofs.Formed.{formed-facts, read-formed}

@@ -1,11 +1,6 @@
 -- A call with a list, one record after the other: what a loop over the list's bytes cites. Assumes nothing.
-use Prim.Native.Nat.{ℕ, zero, suc, _≤_, _<_, _+_}
-use mathlib.Core.Path.{_≡_, refl, ap}
-use mathlib.Core.List.{List, [], _∷_, _++_}
-use mathlib.Core.Logic.{inl, inr}
-use native.Mathlib.Nat.{add-zero, zero-add, add-suc, suc-add}
-use native.Mathlib.Omega.{arith}
-use lib.ListN.{length, take, drop, length-drop}
+use Rattle.wire.proofs.Prelude.{List, [], _++_, _+_, _<_, _∷_, _≡_, _≤_, add-suc, add-zero, ap, arith, drop, inl, inr, length, length-drop}
+use Rattle.wire.proofs.Prelude.{refl, suc, suc-add, take, zero, zero-add, ℕ}
 use Rattle.answers.specs.declared.Answer.the-variants.{Passed, Refused}
 use Rattle.rules.proofs.Lists.{zero-or-more}
 use Rattle.rules.specs.Calls.{Call, one, list, recordsIn, handed, Checker, callOne, callList, ifAccepted, call, InTurn, stateAfter}

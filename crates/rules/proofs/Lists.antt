@@ -1,13 +1,7 @@
 -- Laws of sums, tests and balances. Assumes nothing.
-use Prim.Native.Nat.{ℕ, zero, suc, _+_, _-_, _≤_, _<_}
-use mathlib.Core.Path.{_≡_, refl, sym, ap, _∙_}
-use mathlib.Core.Bool.{Bool, true, false, _||_, or-true, or-false, or-assoc}
-use mathlib.Core.List.{List, [], _∷_, _++_}
-use mathlib.Core.Logic.{_⊎_, inl, inr}
-use mathlib.Mathlib.Data.Bool.Basic.{dichotomy}
-use native.Mathlib.Omega.{arith}
-use lib.ListN.{length, getD, set, length-set}
-use lib.Seq.{getD-set-same}
+use Rattle.wire.proofs.Prelude.{Bool, List, [], _++_, _+_, _-_, _<_, _||_, _∙_, _∷_, _≡_, _≤_, _⊎_, ap, arith, dichotomy, false, getD}
+use Rattle.wire.proofs.Prelude.{getD-set-same, inl, inr, length, length-set, or-assoc, or-false, or-true, refl, set, suc, sym, true, zero}
+use Rattle.wire.proofs.Prelude.{ℕ}
 use Rattle.rules.specs.Lists.{sum, any, all, total, lowered, raised}
 use Rattle.rules.specs.Rules.{Kind, Local, Sending, Receiving, Record, debit, credit, moved}
 use Rattle.wire.proofs.Lists.{and-both, every-none, every-first, every-both}

@@ -1,10 +1,5 @@
 -- No call in an accepted state answers 3. Assumes nothing.
-use Prim.Native.Nat.{ℕ, zero, suc}
-use mathlib.Core.Path.{_≡_, refl, _∙_}
-use mathlib.Core.Bool.{Bool, true, false}
-use mathlib.Core.List.{List}
-use lib.Dec.{eqb}
-use borrow.Author.Tests.{eqb-false}
+use Rattle.wire.proofs.Prelude.{Bool, List, _∙_, _≡_, eqb, eqb-false, false, refl, suc, true, zero, ℕ}
 use Rattle.answers.specs.Answers.{answer, refuse, orElse}
 use Rattle.answers.specs.declared.Answer.the-variants.{Refused}
 use Rattle.rules.proofs.Runs.{outcome, passes, refuses, never-both}

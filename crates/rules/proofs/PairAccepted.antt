@@ -1,11 +1,6 @@
 -- A pass keeps a state of the pair validator accepted, whatever accepted state it starts from. Assumes nothing.
-use Prim.Native.Nat.{ℕ, _+_, _≤_, _<_}
-use mathlib.Core.Path.{_≡_, refl}
-use mathlib.Core.Bool.{true}
-use mathlib.Core.List.{List, [], _∷_}
-use native.Mathlib.Omega.{arith}
-use lib.ListN.{length, length-append}
-use borrow.Author.Tests.{eqb-true, eq-eqb, ltb-true, lt-ltb, leb-true, le-leb}
+use Rattle.wire.proofs.Prelude.{List, [], _+_, _<_, _∷_, _≡_, _≤_, arith, eq-eqb, eqb-true, le-leb, leb-true, length, length-append, lt-ltb}
+use Rattle.wire.proofs.Prelude.{ltb-true, refl, true, ℕ}
 use Rattle.ledgers.specs.Ledgers.{counterpart, ledgerOf, senderLedger, receiverLedger}
 use Rattle.ledgers.specs.Limits.{maxAmount}
 use Rattle.records.specs.Records.{reading}

@@ -1,11 +1,5 @@
 -- Demand 3, first half: conservation over the runs of the pair validator. Assumes nothing.
-use Prim.Native.Nat.{ℕ, _+_}
-use mathlib.Core.Path.{_≡_, refl, sym, _∙_}
-use mathlib.Core.Bool.{true}
-use mathlib.Core.List.{List, [], _∷_, _++_, append-assoc, append-nil}
-use native.Mathlib.Omega.{arith}
-use lib.Dec.{lit<}
-use borrow.Author.Tests.{not-false}
+use Rattle.wire.proofs.Prelude.{List, [], _++_, _+_, _∙_, _∷_, _≡_, append-assoc, append-nil, arith, lit<, not-false, refl, sym, true, ℕ}
 use Rattle.answers.proofs.Answers.{refuse-zero}
 use Rattle.ledgers.specs.Ledgers.{ledgerOf}
 use Rattle.records.specs.Records.{reading}

@@ -1,25 +1,17 @@
 -- The records of a call's bytes: what a call with one record, and a loop over those of a list, cite. Assumes nothing.
-use Prim.Native.Nat.{_+_, _-_, _<_, _≤_, min, suc, zero, ℕ}
-use mathlib.Core.Bool.{Bool, false, not, true}
-use mathlib.Core.List.{List, [], _∷_}
-use mathlib.Core.Path.{_∙_, _≡_, ap, refl, sym}
-use native.Mathlib.Nat.{min-zero, suc-min-suc, zero-min}
-use native.Mathlib.Numerals.{add-one}
-use native.Mathlib.Omega.{arith}
-use lib.ListN.{drop, drop-of-length-le, length, length-drop, take}
-use lib.Seq.{drop-drop}
-use borrow.Author.Tests.{not-false, not-true}
+use Rattle.wire.proofs.Prelude.{Bool, List, [], _+_, _-_, _<_, _∙_, _∷_, _≡_, _≤_, add-one, ap, arith, drop, drop-drop, drop-of-length-le}
+use Rattle.wire.proofs.Prelude.{false, length, length-drop, min, min-zero, not, not-false, not-true, refl, suc, suc-min-suc, sym, take}
+use Rattle.wire.proofs.Prelude.{true, zero, zero-min, ℕ}
 use Rattle.answers.specs.Answers.{answer}
 use Rattle.answers.specs.declared.Answer.{Answer}
 use Rattle.answers.specs.declared.Answer.the-variants.{Passed, Refused}
 use Rattle.records.proofs.Formed.{read-formed}
 use Rattle.records.specs.Records.{formed, reading, recordIn, wordsOf}
-use Rattle.records.specs.declared.Reading.the-variants.{Read}
-use Rattle.records.specs.declared.Record.{Record}
 use Rattle.records.specs.declared.Words.{Words}
 use Rattle.rules.proofs.ListCalls.{cut-first, list-end, list-passed, list-refused}
 use Rattle.rules.specs.Calls.{Call, Checker, Result, call, callList, callOne, list, one, recordsIn}
 use Rattle.rules.specs.Lists.{cut}
+use Rattle.rules.specs.Rules.{Read, Record}
 
 -- ## Any call
 

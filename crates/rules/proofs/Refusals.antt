@@ -1,14 +1,7 @@
 -- What it takes to have no refusal: the facts behind `judge .. ≡ 0`, both ways. Assumes nothing.
-use Prim.Native.Nat.{ℕ, _≤_, _<_}
-use mathlib.Core.Path.{_≡_, refl, sym, subst}
-use mathlib.Core.Bool.{true, false}
-use mathlib.Core.List.{List}
-use mathlib.Core.Logic.{_↔_, Iff·rfl}
-use native.Mathlib.Omega.{arith}
+use Rattle.wire.proofs.Prelude.{Iff·rfl, List, _<_, _↔_, _≡_, _≤_, arith, false, getD, le-leb, le-ltb, leb-false, length, lit<, lt-leb}
+use Rattle.wire.proofs.Prelude.{ltb-false, not-false, refl, subst, sym, true, ℕ}
 use Rattle.rules.proofs.Lists.{never-both-tests}
-use lib.Dec.{lit<}
-use lib.ListN.{length, getD}
-use borrow.Author.Tests.{le-ltb, ltb-false, le-leb, lt-leb, leb-false, not-false}
 use Rattle.answers.proofs.Answers.{or-else-zero, refuse-zero}
 use Rattle.ledgers.specs.Ledgers.{counterpart, ledgerOf, senderLedger, receiverLedger}
 use Rattle.rules.specs.HomeValidator.{HomeView, homeAccounts, isFar, poolRefusal, homeLastRefusal, homeJudgeRecord, homeJudge}

@@ -1,12 +1,7 @@
 -- Calls and runs of any validator: what each passed record keeps holds after every run, and a call passes exactly when its
 -- records pass in turn. Assumes nothing.
-use Prim.Native.Nat.{ℕ, suc}
-use mathlib.Core.Path.{_≡_, refl, sym, _∙_}
-use mathlib.Core.Bool.{true}
-use mathlib.Core.List.{List, [], _∷_, _++_, append-assoc, append-nil}
-use mathlib.Core.Logic.{inl, inr}
-use mathlib.Mathlib.Data.Bool.Basic.{dichotomy}
-use native.Mathlib.Omega.{arith}
+use Rattle.wire.proofs.Prelude.{List, [], _++_, _∙_, _∷_, _≡_, append-assoc, append-nil, arith, dichotomy, inl, inr, refl, suc, sym, true}
+use Rattle.wire.proofs.Prelude.{ℕ}
 use Rattle.answers.specs.declared.Answer.the-variants.{Passed, Refused}
 use Rattle.rules.proofs.ListCalls.{call-list, list-all}
 use Rattle.rules.proofs.Lists.{never-both-tests, zero-or-more}

@@ -1,12 +1,8 @@
 -- Runs of one validator are, through a view of its states, runs of another. With it the theorems about the validators over the
 -- rules' states hold of validators over the program's structs. Assumes nothing.
-use Prim.Native.Nat.{ℕ, suc}
-use mathlib.Core.Logic.{inl, inr}
-use mathlib.Mathlib.Data.Bool.Basic.{dichotomy}
+use Rattle.wire.proofs.Prelude.{List, [], _∙_, _∷_, _≡_, dichotomy, inl, inr, refl, suc, sym, ℕ}
 use Rattle.rules.proofs.ListCalls.{call-list}
 use Rattle.rules.proofs.Lists.{zero-or-more}
-use mathlib.Core.Path.{_≡_, refl, sym, _∙_}
-use mathlib.Core.List.{List, [], _∷_}
 use Rattle.rules.specs.Calls.{Call, handed, Checker, Result, callList, call, run, passedRecords}
 
 -- c over S and d over R agree in every state of S with the invariant, and each passed record keeps that

@@ -1,8 +1,5 @@
 -- What D3.2 asks of a validity language, proved of the rules. Assumes nothing.
-use Prim.Native.Nat.{ℕ}
-use mathlib.Core.Path.{_≡_, refl, sym, ap, _∙_}
-use mathlib.Core.Bool.{Bool, true}
-use mathlib.Core.List.{List, [], _∷_, _++_}
+use Rattle.wire.proofs.Prelude.{Bool, List, [], _++_, _∙_, _∷_, _≡_, ap, refl, sym, true, ℕ}
 use Rattle.ledgers.specs.Ledgers.{counterpart, ledgerOf}
 use Rattle.records.specs.Records.{reading}
 use Rattle.rules.proofs.Clashes.{clash-self}

@@ -1,8 +1,5 @@
 -- The digest is 32 bytes. Assumes nothing.
-use mathlib.Core.Path.{_≡_, refl}
-use mathlib.Core.List.{List}
-use Prim.Native.Nat.{ℕ}
-use lib.ListN.{length}
+use Rattle.wire.proofs.Prelude.{List, _≡_, length, refl, ℕ}
 use Rattle.sha256.specs.Sha256.{sha256, hashBytes}
 use Rattle.wire.proofs.Numbers.{bytes-bytesOf, bytes-then}
 use Rattle.wire.specs.BigEndian.{Bytes, bytesOf}

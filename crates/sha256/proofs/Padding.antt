@@ -1,12 +1,8 @@
 -- Laws of padded messages: their length, their blocks, and the bytes after the whole blocks. Assumes nothing.
-use Prim.Native.Nat.{ℕ, suc, _+_, _-_, _*_, _/_, _%_, _^_, _≤_}
-use mathlib.Core.Path.{_≡_, sym, ap, _∙_}
-use mathlib.Core.List.{List, [], _∷_, _++_, append-assoc}
-use native.Mathlib.Numerals.{add-one}
-use native.Mathlib.Omega.{arith}
-use lib.ListN.{length, take, drop, getD, set, replicate, length-append, length-replicate, length-drop, replicate-append-replicate}
-use lib.Seq.{length-take-le, take-all, take-length, take-take, take-add, take-at, take-append-le}
-use lib.Seq.{drop-drop, drop-at, drop-append-le, set-append-seam}
+use Rattle.wire.proofs.Prelude.{List, [], _%_, _*_, _++_, _+_, _-_, _/_, _^_, _∙_, _∷_, _≡_, _≤_, add-one, ap, append-assoc, arith, drop}
+use Rattle.wire.proofs.Prelude.{drop-append-le, drop-at, drop-drop, getD, length, length-append, length-drop, length-replicate}
+use Rattle.wire.proofs.Prelude.{length-take-le, replicate, replicate-append-replicate, set, set-append-seam, suc, sym, take, take-add}
+use Rattle.wire.proofs.Prelude.{take-all, take-append-le, take-at, take-length, take-take, ℕ}
 use Rattle.sha256.specs.Sha256.{zeroCount, padding, padded, block, compressed, hashed, hashBytes}
 use Rattle.sha256.specs.declared.compression.Hash.{Hash}
 use Rattle.wire.proofs.Numbers.{length-bytesOf}

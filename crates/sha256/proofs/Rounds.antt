@@ -1,15 +1,6 @@
 -- Laws of the message schedule and of the rounds, one word and sixteen words at a time. Assumes nothing.
-use Prim.Native.Nat.{ℕ, zero, suc, _+_, _-_, _≤_, _<_}
-use mathlib.Core.Path.{_≡_, refl, sym, ap, _∙_}
-use mathlib.Core.Bool.{true}
-use mathlib.Core.List.{List, [], _∷_, _++_}
-use mathlib.Core.Logic.{⊎-elim}
-use native.Mathlib.Nat.{eq-or-lt-of-le}
-use native.Mathlib.Omega.{arith}
-use lib.Dec.{ltb}
-use lib.ListN.{length, getD, length-append, List·getD-append}
-use lib.Seq.{getD-at}
-use borrow.Author.Tests.{ltb-true}
+use Rattle.wire.proofs.Prelude.{List, List·getD-append, [], _++_, _+_, _-_, _<_, _∙_, _∷_, _≡_, _≤_, ap, arith, eq-or-lt-of-le, getD}
+use Rattle.wire.proofs.Prelude.{getD-at, length, length-append, ltb, ltb-true, refl, suc, sym, true, zero, ℕ, ⊎-elim}
 use Rattle.sha256.specs.Sha256.{K, word, words, nextWord, schedule, round, rounds, sums, compressed}
 use Rattle.sha256.specs.Sixteen.{nextOf, wordsOf, Follows, wordsFrom, sixteenRounds}
 use Rattle.sha256.specs.declared.compression.Hash.{Hash}

@@ -1,14 +1,7 @@
 -- The balances of a ledger in the words of a state: none is more than their total, and what is given to one stays in 64 bits.
 -- Assumes nothing.
-use Prim.Native.Nat.{_+_, _-_, _<_, _^_, _≤_, ℕ}
-use mathlib.Core.Bool.{Bool, false, true}
-use mathlib.Core.List.{List}
-use mathlib.Core.Path.{_∙_, _≡_, refl, sym}
-use native.Mathlib.Omega.{arith}
-use lib.Dec.{eqb, ltb}
-use lib.ListN.{drop, getD, length}
-use lib.Seq.{getD-drop, getD-take}
-use borrow.Author.Tests.{eqb-true, ltb-false, ltb-true}
+use Rattle.wire.proofs.Prelude.{Bool, List, _+_, _-_, _<_, _^_, _∙_, _≡_, _≤_, arith, drop, eqb, eqb-true, false, getD, getD-drop}
+use Rattle.wire.proofs.Prelude.{getD-take, length, ltb, ltb-false, ltb-true, refl, sym, true, ℕ}
 use Rattle.ledgers.specs.Limits.{maxAmount}
 use Rattle.places.proofs.OverPlaces.{all-each}
 use Rattle.places.proofs.PassedRecord.{given-most, stored-fits}

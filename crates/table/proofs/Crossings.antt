@@ -1,29 +1,21 @@
 -- Arrivals and their sendings in words, and the sums of both: what is asked of the words is what the rules ask of the records.
 -- Assumes nothing.
-use Prim.Native.Nat.{ℕ, suc, zero, _+_, _*_, _/_, _%_, _^_, _<_, _≤_}
-use mathlib.Core.Bool.{Bool, _||_, cond, not, true}
-use mathlib.Core.List.{List, [], _∷_}
-use mathlib.Core.Path.{_∙_, _≡_, ap, ap₂, refl, sym}
-use native.Mathlib.Omega.{arith}
-use lib.Dec.{eqb}
-use lib.ListN.{getD}
-use borrow.Author.Tests.{eq-eqb, eqb-true}
+use Rattle.wire.proofs.Prelude.{Bool, List, [], _%_, _*_, _+_, _/_, _<_, _^_, _||_, _∙_, _∷_, _≡_, _≤_, ap, ap₂, arith, cond, eq-eqb, eqb}
+use Rattle.wire.proofs.Prelude.{eqb-true, getD, not, refl, suc, sym, true, zero, ℕ}
 use Rattle.ledgers.specs.Ledgers.{ledgerAt, ledgerByte}
-use Rattle.ledgers.specs.declared.Ledger.{Ledger}
 use Rattle.places.proofs.KindBytes.{receiving-byte, sending-byte}
 use Rattle.places.proofs.OverPlaces.{all-ext, all-list, any-list, sum-ext, sum-list}
 use Rattle.places.specs.OverPlaces.{allAt, anyAt, sumAt}
 use Rattle.records.proofs.Exactly.{kind-ledger}
 use Rattle.records.proofs.Formed.{formed-facts}
 use Rattle.records.specs.Records.{formed, recordIn, within}
-use Rattle.records.specs.declared.Record.{Record}
 use Rattle.records.specs.declared.Words.{Words}
 use Rattle.rules.proofs.Bytes.{byte-most, byte-only}
 use Rattle.rules.proofs.Lists.{same-tests}
 use Rattle.rules.specs.HomeValidator.{received, sent}
 use Rattle.rules.specs.Lists.{all, any}
 use Rattle.rules.specs.PairValidator.{matched, sameLedger, standsUnder}
-use Rattle.rules.specs.Rules.{isReceiving, isSending, matches}
+use Rattle.rules.specs.Rules.{Ledger, Record, isReceiving, isSending, matches}
 use Rattle.table.proofs.Limits.{Parts, parts-of}
 use Rattle.table.specs.Table.{amountAt, backedAt, backedBy, flowAt, headAt, recordAt, recordsFrom, sendingHead, sentAt, wordsAt}
 use Rattle.wire.proofs.Lists.{every-both, every-first, every-none}

@@ -1,14 +1,6 @@
 -- An index with a number more, and numbers that are apart. Assumes nothing.
-use Prim.Native.Nat.{_%_, _+_, _<_, _≤_, ℕ}
-use mathlib.Core.Bool.{Bool, cond, false, true}
-use mathlib.Core.List.{List}
-use mathlib.Core.Logic.{_⊎_, ⊎-elim}
-use mathlib.Core.Path.{_∙_, _≡_, ap, refl, sym}
-use native.Mathlib.Omega.{arith}
-use lib.Dec.{ltb}
-use lib.ListN.{getD, length, length-set, set}
-use lib.Seq.{getD-set-other, getD-set-same}
-use borrow.Author.Tests.{lt-ltb, ltb-true}
+use Rattle.wire.proofs.Prelude.{Bool, List, _%_, _+_, _<_, _∙_, _≡_, _≤_, _⊎_, ap, arith, cond, false, getD, getD-set-other, getD-set-same}
+use Rattle.wire.proofs.Prelude.{length, length-set, lt-ltb, ltb, ltb-true, refl, set, sym, true, ℕ, ⊎-elim}
 use Rattle.places.proofs.Chains.{chains-grow, chains-same, low-bits-most}
 use Rattle.places.proofs.NumberIndex.{kept-set, kept-twice}
 use Rattle.places.specs.NumberIndex.{Kept, chainCount}

@@ -1,27 +1,19 @@
 -- Words that pass the tests by limits are those that a ledger may hold. Assumes nothing.
-use Prim.Native.Nat.{ℕ, zero, _+_, _*_, _/_, _%_, _^_, _<_, _≤_}
-use mathlib.Core.Bool.{Bool, true, false, cond, _&&_}
-use mathlib.Core.List.{List, [], _∷_}
-use mathlib.Core.Path.{_≡_, refl, sym, ap, subst, _∙_}
-use native.Mathlib.Nat.{div-add-mod}
-use native.Mathlib.Omega.{arith}
-use lib.Dec.{eqb, leb, ltb}
-use lib.ListN.{getD}
-use borrow.Author.Tests.{eq-eqb, eqb-true, le-leb, leb-true, lt-ltb, ltb-true}
+use Rattle.wire.proofs.Prelude.{Bool, List, [], _%_, _&&_, _*_, _+_, _/_, _<_, _^_, _∙_, _∷_, _≡_, _≤_, ap, arith, cond, div-add-mod}
+use Rattle.wire.proofs.Prelude.{eq-eqb, eqb, eqb-true, false, getD, le-leb, leb, leb-true, lt-ltb, ltb, ltb-true, refl, subst, sym, true}
+use Rattle.wire.proofs.Prelude.{zero, ℕ}
 use Rattle.ledgers.specs.Ledgers.{counterpart, kindAt, ledgerAt, ledgerByte, receiverLedger, senderLedger}
 use Rattle.ledgers.specs.Limits.{accountLimit, maxAmount}
-use Rattle.ledgers.specs.declared.Ledger.{Ledger}
-use Rattle.ledgers.specs.declared.Ledger.the-variants.{Far, Home}
 use Rattle.records.proofs.Exactly.{kind-ledger}
 use Rattle.records.proofs.Formed.{facts-formed, formed-facts}
 use Rattle.records.specs.Records.{formed, readingWords, recordIn, within}
-use Rattle.records.specs.declared.Reading.the-variants.{Read}
 use Rattle.records.specs.declared.Words.{Words}
 use Rattle.rules.proofs.Bytes.{at-byte, byte-at, byte-most, byte-only, receiver-byte, same-own, sender-byte}
 use Rattle.rules.proofs.Lists.{never-both-tests, same-tests}
 use Rattle.rules.proofs.PairAccepted.{allowed-held, held-allowed}
 use Rattle.rules.specs.Lists.{any}
 use Rattle.rules.specs.PairValidator.{heldAllowed, sameLedger, standsUnder}
+use Rattle.rules.specs.Rules.{Far, Home, Ledger, Read}
 use Rattle.table.proofs.Limits.{Parts, below-head, below-receiver, head-below, parts-of, receiver-below}
 use Rattle.table.specs.Table.{accountsBy, headBases, mayHold, receiverLimits, senderLimits}
 use Rattle.wire.proofs.Lists.{and-both, every-both, every-first, every-none}

@@ -1,11 +1,6 @@
 -- The head of a record in parts, and what it shows to be below the limits of its kind. Assumes nothing.
-use Prim.Native.Nat.{ℕ, zero, suc, _+_, _*_, _/_, _%_, _^_, _<_, _≤_}
-use mathlib.Core.Bool.{cond}
-use mathlib.Core.Path.{_≡_}
-use native.Mathlib.Nat.{div-add-mod, div-div-eq-div-mul}
-use native.Mathlib.Omega.{arith}
-use lib.Dec.{eqb}
-use lib.ListN.{getD}
+use Rattle.wire.proofs.Prelude.{_%_, _*_, _+_, _/_, _<_, _^_, _≡_, _≤_, arith, cond, div-add-mod, div-div-eq-div-mul, eqb, getD, suc, zero}
+use Rattle.wire.proofs.Prelude.{ℕ}
 use Rattle.ledgers.specs.Limits.{accountLimit}
 use Rattle.table.specs.Table.{headBases, receiverLimits, senderLimits}
 

@@ -1,18 +1,13 @@
 -- The numbers of a table's records, and the index of none. Assumes nothing.
-use Prim.Native.Nat.{_+_, suc, zero, ℕ}
-use mathlib.Core.Bool.{Bool, _&&_, false, not, true}
-use mathlib.Core.List.{List, [], _∷_}
-use mathlib.Core.Path.{_∙_, _≡_, ap₂, refl, sym}
-use lib.ListN.{replicate}
+use Rattle.wire.proofs.Prelude.{Bool, List, [], _&&_, _+_, _∙_, _∷_, _≡_, ap₂, false, not, refl, replicate, suc, sym, true, zero, ℕ}
 use Rattle.places.proofs.Chains.{chains-of-none}
 use Rattle.places.proofs.NumberIndex.{zero-at}
 use Rattle.places.proofs.OverPlaces.{any-list}
 use Rattle.places.specs.OverPlaces.{anyAt, apartAt, listAt}
 use Rattle.records.specs.Records.{recordIn}
-use Rattle.records.specs.declared.Record.{Record}
 use Rattle.rules.specs.Lists.{any}
 use Rattle.rules.specs.PairValidator.{unshared}
-use Rattle.rules.specs.Rules.{clashes}
+use Rattle.rules.specs.Rules.{Record, clashes}
 use Rattle.table.specs.Table.{IndexOf, numberAt, numberedAt, recordAt, recordsFrom}
 use Rattle.wire.specs.BigEndian.{every}
 

@@ -1,20 +1,14 @@
 -- What is asked of a table place by place is what the rules ask of its records. Assumes nothing.
-use Prim.Native.Nat.{_≤_, ℕ}
-use mathlib.Core.Bool.{true}
-use mathlib.Core.List.{List}
-use mathlib.Core.Path.{_∙_, _≡_, ap, sym}
-use native.Mathlib.Omega.{arith}
-use lib.ListN.{length}
+use Rattle.wire.proofs.Prelude.{List, _∙_, _≡_, _≤_, ap, arith, length, sym, true, ℕ}
 use Rattle.ledgers.specs.Limits.{maxAmount}
-use Rattle.ledgers.specs.declared.Ledger.{Ledger}
 use Rattle.places.proofs.OverPlaces.{all-each, all-list, all-of, length-list}
 use Rattle.places.specs.OverPlaces.{allAt}
 use Rattle.records.proofs.Formed.{formed-facts}
 use Rattle.records.specs.Records.{formed, recordIn}
-use Rattle.records.specs.declared.Record.{Record}
 use Rattle.records.specs.declared.Words.{Words}
 use Rattle.rules.specs.Lists.{all}
 use Rattle.rules.specs.PairValidator.{heldAllowed, standsUnder}
+use Rattle.rules.specs.Rules.{Ledger, Record}
 use Rattle.table.proofs.Holding.{Holds, holds-of, of-holds}
 use Rattle.table.specs.Table.{mayHoldAt, recordAt, recordsFrom, wordsAt}
 

@@ -1,22 +1,13 @@
 -- The words once a record has passed on a ledger: what they hold of it, and what stays. Assumes nothing.
-use Prim.Native.Nat.{_*_, _+_, _<_, _≤_, ℕ}
-use mathlib.Core.Bool.{true}
-use mathlib.Core.List.{List, [], _++_, _∷_}
-use mathlib.Core.Logic.{_⊎_, inl, inr, ⊎-elim}
-use mathlib.Core.Path.{_∙_, _≡_, ap, ap₂, sym}
-use native.Mathlib.Nat.{eq-or-lt-of-le}
-use native.Mathlib.Numerals.{add-one}
-use native.Mathlib.Omega.{arith}
-use lib.ListN.{drop, getD, length, length-set, set, take}
-use lib.Seq.{getD-set-other, getD-set-same}
+use Rattle.wire.proofs.Prelude.{List, [], _*_, _++_, _+_, _<_, _∙_, _∷_, _≡_, _≤_, _⊎_, add-one, ap, ap₂, arith, drop, eq-or-lt-of-le, getD}
+use Rattle.wire.proofs.Prelude.{getD-set-other, getD-set-same, inl, inr, length, length-set, set, sym, take, true, ℕ, ⊎-elim}
 use Rattle.places.proofs.OverPlaces.{all-each, all-ext, all-of, list-ext, list-snoc}
 use Rattle.places.proofs.PassedRecord.{Changes, Part, part-kept, part-moved}
 use Rattle.places.specs.LedgerBalances.{movedAt}
 use Rattle.places.specs.OverPlaces.{allAt}
 use Rattle.records.specs.Records.{formed, recordIn}
-use Rattle.records.specs.declared.Record.{Record}
 use Rattle.records.specs.declared.Words.{Words}
-use Rattle.rules.specs.Rules.{held, moved}
+use Rattle.rules.specs.Rules.{Record, held, moved}
 use Rattle.table.specs.Table.{ledgerIn, numberAt, recordAt, recordsFrom, stored, withWords, wordsAt}
 
 -- ## A record's words

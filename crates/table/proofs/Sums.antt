@@ -1,10 +1,5 @@
 -- A sum in two limbs, against an amount and against another one. Assumes nothing.
-use Prim.Native.Nat.{_<_, _^_, _≤_, ℕ}
-use mathlib.Core.Bool.{Bool, false, true}
-use mathlib.Core.Path.{_≡_, ap, refl, sym}
-use native.Mathlib.Omega.{arith}
-use lib.Dec.{eqb}
-use borrow.Author.Tests.{eq-eqb, eqb-false, eqb-true, ne-eqb}
+use Rattle.wire.proofs.Prelude.{Bool, _<_, _^_, _≡_, _≤_, ap, arith, eq-eqb, eqb, eqb-false, eqb-true, false, ne-eqb, refl, sym, true, ℕ}
 use Rattle.ledgers.specs.Limits.{maxAmount}
 use Rattle.places.proofs.ExactSums.{same-limbs, same-wide, wide-passes}
 use Rattle.places.specs.ExactSums.{wide}

@@ -1,10 +1,5 @@
 -- Walks down the chain of a number of a table, for a test that only places with the number meet. Assumes nothing.
-use Prim.Native.Nat.{_%_, _+_, _-_, _<_, ℕ}
-use mathlib.Core.Bool.{Bool, false, true}
-use mathlib.Core.List.{List}
-use mathlib.Core.Path.{_≡_}
-use lib.ListN.{getD}
-use borrow.Author.Tests.{eqb-true}
+use Rattle.wire.proofs.Prelude.{Bool, List, _%_, _+_, _-_, _<_, _≡_, eqb-true, false, getD, true, ℕ}
 use Rattle.places.proofs.Walks.{WalkOver, over-end, over-first, over-found, over-lower, over-next}
 use Rattle.places.specs.NumberIndex.{chainCount}
 use Rattle.places.specs.OverPlaces.{anyAt}

@@ -1,14 +1,7 @@
 -- Laws of tests, properties and zero bytes over lists. Assumes nothing.
-use Prim.Native.Nat.{ℕ, zero, suc, _+_, _-_, _≤_, _<_}
-use mathlib.Core.Path.{_≡_, refl, sym, ap, ap₂, _∙_}
-use mathlib.Core.Bool.{Bool, true, false, _&&_, and-true, false≢true}
-use mathlib.Core.List.{List, [], _∷_, _++_}
-use native.Mathlib.Omega.{arith}
-use native.Mathlib.Numerals.{add-one}
-use lib.Dec.{eqb}
-use lib.ListN.{length, take, drop, getD, replicate, drop-of-length-le}
-use lib.Seq.{drop-cons}
-use borrow.Author.Tests.{eqb-true, eq-eqb}
+use Rattle.wire.proofs.Prelude.{Bool, List, [], _&&_, _++_, _+_, _-_, _<_, _∙_, _∷_, _≡_, _≤_, add-one, and-true, ap, ap₂, arith}
+use Rattle.wire.proofs.Prelude.{drop, drop-cons, drop-of-length-le, eq-eqb, eqb, eqb-true, false, false≢true, getD, length, refl}
+use Rattle.wire.proofs.Prelude.{replicate, suc, sym, take, true, zero, ℕ}
 use Rattle.wire.specs.BigEndian.{All, Bytes, every, zeros, same}
 
 -- ## Tests

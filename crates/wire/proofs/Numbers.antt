@@ -1,13 +1,9 @@
 -- Numbers and their bytes: one law each over every width. Assumes nothing.
-use Prim.Native.Nat.{ℕ, zero, suc, _+_, _*_, _/_, _%_, _^_, _≤_, _<_}
-use mathlib.Core.Path.{_≡_, refl, sym, ap, ap₂, _∙_, subst}
-use mathlib.Core.List.{List, [], _∷_, _++_}
-use native.Mathlib.Omega.{arith}
-use native.Mathlib.Nat.{pow-suc, mul-comm, add-mul, mul-add-div-right, mod-eq-of-lt, one-le-pow}
+use Rattle.wire.proofs.Prelude.{List, [], _%_, _*_, _++_, _+_, _/_, _<_, _^_, _∙_, _∷_, _≡_, _≤_, add-mul, ap, ap₂, arith, drop}
+use Rattle.wire.proofs.Prelude.{drop-cons, drop-drop, drop-of-length-le, getD, length, length-drop, length-take-le, lit<}
+use Rattle.wire.proofs.Prelude.{mod-eq-of-lt, mul-add-div-right, mul-comm, one-le-pow, pow-suc, refl, subst, suc, sym, take}
+use Rattle.wire.proofs.Prelude.{take-add, take-append-drop, take-nil, zero, ℕ}
 use lib.Arith.{digits-lt, digits-div, digits-mod, mod-mul}
-use lib.Dec.{lit<}
-use lib.ListN.{length, take, drop, getD, length-drop, take-append-drop, drop-of-length-le}
-use lib.Seq.{take-add, drop-drop, drop-cons, length-take-le, take-nil}
 use Rattle.wire.proofs.Lists.{all-take, all-drop, bytes-append}
 use Rattle.wire.specs.BigEndian.{All, Bytes, valueAfter, value, field, bytesOf}
 

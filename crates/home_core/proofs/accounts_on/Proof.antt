@@ -2,9 +2,7 @@
 use Rattle.home_core.proofs.Accept.{length-balances, sound-of}
 use Rattle.home_core.specs.Layout.{homeViewOf}
 use Rattle.rules.specs.HomeValidator.{homeAccounts}
-use borrow.Author.Needs.{needs}
-use mathlib.Core.Path.{_∙_, ap, sym}
-use native.Mathlib.Omega.{arith}
+use Rattle.wire.proofs.Prelude.{_∙_, ap, arith, needs, sym}
 use Rattle.home_core.proofs.accounts_on.Statement.{statement}
 use Rattle.home_core.proofs.accounts_on.Tie as tie
 

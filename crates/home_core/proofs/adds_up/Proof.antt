@@ -2,8 +2,7 @@
 use Rattle.home_core.proofs.Accept.{bounds-facts}
 use Rattle.places.proofs.ExactSums.{added-after, added-value}
 use Rattle.table.proofs.Sums.{high-passes, low-compares}
-use borrow.Author.Needs.{needs}
-use native.Mathlib.Omega.{arith}
+use Rattle.wire.proofs.Prelude.{arith, needs}
 use Rattle.home_core.proofs.adds_up.Statement.{statement}
 use Rattle.home_core.proofs.adds_up.Tie as tie
 

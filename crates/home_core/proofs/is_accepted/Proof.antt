@@ -2,11 +2,7 @@
 use Rattle.home_core.proofs.Accept.{HomeBounds, bounds-facts, tests-are, tests-refused, testsHome}
 use Rattle.home_core.specs.Layout.{acceptsHome, homeBounds}
 use Rattle.wire.proofs.Lists.{every-not, every-one, every-skip}
-use borrow.Author.Needs.{needs}
-use borrow.Author.Tests.{eq-eqb, ne-eqb, not-false, not-true}
-use mathlib.Core.Bool.{true}
-use mathlib.Core.Path.{_∙_, _≡_, refl, sym}
-use native.Mathlib.Omega.{arith}
+use Rattle.wire.proofs.Prelude.{_∙_, _≡_, arith, eq-eqb, ne-eqb, needs, not-false, not-true, refl, sym, true}
 use Rattle.home_core.proofs.is_accepted.Statement.{statement}
 use Rattle.home_core.proofs.is_accepted.Tie as tie
 

@@ -4,10 +4,7 @@ use Rattle.home_core.proofs.Accept.{sound-of}
 use Rattle.home_core.proofs.Judging.{judge-by}
 use Rattle.home_core.specs.Layout.{homeViewOf}
 use Rattle.rules.specs.HomeValidator.{homeAccounts, isFar}
-use borrow.Author.Needs.{needs}
-use mathlib.Core.Bool.{Bool}
-use mathlib.Core.Path.{_∙_, ap}
-use native.Mathlib.Omega.{arith}
+use Rattle.wire.proofs.Prelude.{Bool, _∙_, ap, arith, needs}
 use Rattle.home_core.proofs.judge.Statement.{statement}
 use Rattle.home_core.proofs.judge.Tie as tie
 

@@ -1,9 +1,7 @@
 -- `home_core::last_refusal` meets its contract. Assumes nothing.
 use Rattle.home_core.proofs.Accept.{sound-of}
 use Rattle.home_core.proofs.Judging.{last-paid, last-pooled}
-use borrow.Author.Needs.{needs}
-use mathlib.Core.Path.{_∙_, sym}
-use native.Mathlib.Omega.{arith}
+use Rattle.wire.proofs.Prelude.{_∙_, arith, needs, sym}
 use Rattle.home_core.proofs.last_refusal.Statement.{statement}
 use Rattle.home_core.proofs.last_refusal.Tie as tie
 

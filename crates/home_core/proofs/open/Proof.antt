@@ -1,13 +1,9 @@
 -- `home_core::open` meets its contract. Assumes nothing.
-use Prim.Native.Nat.{_≤_}
+use Rattle.wire.proofs.Prelude.{_∙_, _≡_, _≤_, arith, length, needs, refl, sym}
 use Rattle.answers.proofs.Answers.{instead-refused}
 use Rattle.home_core.proofs.Opened.{opened-by, opened-count}
 use Rattle.ledgers.specs.Limits.{accountLimit}
 use Rattle.rules.specs.HomeValidator.{homeOpeningRefusal}
-use borrow.Author.Needs.{needs}
-use lib.ListN.{length}
-use mathlib.Core.Path.{_∙_, _≡_, refl, sym}
-use native.Mathlib.Omega.{arith}
 use Rattle.home_core.proofs.open.Statement.{statement}
 use Rattle.home_core.proofs.open.Tie as tie
 

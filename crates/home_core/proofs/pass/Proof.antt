@@ -1,15 +1,10 @@
 -- `home_core::pass` meets its contract. Assumes nothing.
-use Prim.Native.Nat.{_+_, _-_, ℕ}
+use Rattle.wire.proofs.Prelude.{List, _+_, _-_, _≡_, ap₂, arith, getD, needs, set, sym, ℕ}
 use Rattle.home_core.proofs.Accept.{HomeSound, sound-of}
 use Rattle.home_core.proofs.Passing.{HomePasses, paid-fits, passes-of, pool-moved}
 use Rattle.home_core.specs.Layout.{countOf, countWord, homeWith, poolOf, poolWord}
 use Rattle.rules.specs.HomeValidator.{poolAfter}
 use Rattle.table.proofs.Records.{amount-fits}
-use borrow.Author.Needs.{needs}
-use lib.ListN.{getD, set}
-use mathlib.Core.List.{List}
-use mathlib.Core.Path.{_≡_, ap₂, sym}
-use native.Mathlib.Omega.{arith}
 use Rattle.home_core.proofs.pass.Statement.{statement}
 use Rattle.home_core.proofs.pass.Tie as tie
 

@@ -7,9 +7,7 @@ use Rattle.records.specs.Records.{reading}
 use Rattle.records.specs.declared.Reading.the-variants.{Read}
 use Rattle.rules.proofs.Parts.{ReadsAs, formed-as, step-refused}
 use Rattle.rules.specs.HomeValidator.{homeJudge}
-use borrow.Author.Needs.{needs}
-use mathlib.Core.Path.{_∙_, _≡_, ap, sym}
-use native.Mathlib.Omega.{arith}
+use Rattle.wire.proofs.Prelude.{_∙_, _≡_, ap, arith, needs, sym}
 use Rattle.home_core.proofs.step.Statement.{statement}
 use Rattle.home_core.proofs.step.Tie as tie
 

@@ -3,9 +3,7 @@ use Rattle.home_core.specs.Layout.{homeWordsChecker, indexLength}
 use Rattle.rules.proofs.Parts.{told-one, told-unaccepted}
 use Rattle.rules.specs.Calls.{one}
 use Rattle.table.proofs.Numbers.{index-none}
-use borrow.Author.Needs.{needs}
-use borrow.Author.Tests.{not-false}
-use mathlib.Core.Path.{refl}
+use Rattle.wire.proofs.Prelude.{needs, not-false, refl}
 use Rattle.home_core.proofs.take.Statement.{statement}
 use Rattle.home_core.proofs.take.Tie as tie
 

@@ -1,13 +1,9 @@
 -- `home_core::take_list` meets its contract. Assumes nothing.
-use Prim.Native.Nat.{_-_}
+use Rattle.wire.proofs.Prelude.{_-_, arith, length, needs, refl}
 use Rattle.home_core.specs.Layout.{HomeReady, homeWordsChecker, indexLength}
 use Rattle.rules.proofs.Parts.{Taking, taking-end, taking-first, taking-next, taking-refused, told-unaccepted}
 use Rattle.rules.specs.Calls.{list}
 use Rattle.table.proofs.Numbers.{index-none}
-use borrow.Author.Needs.{needs}
-use lib.ListN.{length}
-use mathlib.Core.Path.{refl}
-use native.Mathlib.Omega.{arith}
 use Rattle.home_core.proofs.take_list.Statement.{statement}
 use Rattle.home_core.proofs.take_list.Tie as tie
 

@@ -1,7 +1,5 @@
 -- `journal_reader::item_count` meets its contract. Assumes nothing.
-use Prim.Native.Nat.{ℕ}
-use mathlib.Core.Path.{sym, ap, _∙_}
-use borrow.Author.Needs.{needs}
+use Rattle.wire.proofs.Prelude.{_∙_, ap, needs, sym, ℕ}
 use Rattle.answers.proofs.Answers.{passed-zero, refused-instead}
 use Rattle.answers.specs.Answers.{answer, unlessRefused}
 use Rattle.journal_blocks.specs.Blocks.{statedCount}

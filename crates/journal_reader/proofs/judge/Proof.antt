@@ -1,7 +1,5 @@
 -- `journal_reader::judge` meets its contract. Assumes nothing.
-use Prim.Native.Nat.{ℕ}
-use mathlib.Core.Path.{ap, _∙_}
-use borrow.Author.Needs.{needs}
+use Rattle.wire.proofs.Prelude.{_∙_, ap, needs, ℕ}
 use Rattle.answers.specs.Answers.{answer}
 use Rattle.journal_reader.proofs.judge.Statement.{statement}
 use Rattle.journal_reader.proofs.judge.Tie as tie

@@ -1,7 +1,5 @@
 -- `journal_reader::judge_record` meets its contract. Assumes nothing.
-use Prim.Native.Nat.{ℕ}
-use mathlib.Core.Path.{ap, ap₂, _∙_}
-use borrow.Author.Needs.{needs}
+use Rattle.wire.proofs.Prelude.{_∙_, ap, ap₂, needs, ℕ}
 use Rattle.answers.specs.Answers.{answer, orElse}
 use Rattle.journal_reader.specs.Judged.{recordRefusal}
 use Rattle.journal_reader.proofs.judge_record.Statement.{statement}

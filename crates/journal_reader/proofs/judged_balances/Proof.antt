@@ -1,10 +1,5 @@
 -- `journal_reader::judged_balances` meets its contract. Assumes nothing.
-use Prim.Native.Nat.{ℕ, _-_, _≤_}
-use mathlib.Core.Path.{_≡_, refl, ap, _∙_}
-use mathlib.Core.List.{List, _++_}
-use native.Mathlib.Omega.{arith}
-use lib.ListN.{set, replicate}
-use borrow.Author.Needs.{needs}
+use Rattle.wire.proofs.Prelude.{List, _++_, _-_, _∙_, _≡_, _≤_, ap, arith, needs, refl, replicate, set, ℕ}
 use Rattle.journal_blocks.proofs.Items.{table-on}
 use Rattle.journal_blocks.specs.Blocks.{statedCount, balancesIn}
 use Rattle.sha256.specs.Sha256.{block}

@@ -1,9 +1,5 @@
 -- `journal_reader::judged_part` meets its contract. Assumes nothing.
-use Prim.Native.Nat.{ℕ, _+_, _-_, _*_}
-use mathlib.Core.Path.{_≡_, ap}
-use native.Mathlib.Omega.{arith}
-use lib.ListN.{take, drop}
-use borrow.Author.Needs.{needs}
+use Rattle.wire.proofs.Prelude.{_*_, _+_, _-_, _≡_, ap, arith, drop, needs, take, ℕ}
 use Rattle.journal_blocks.specs.Blocks.{recordPart}
 use Rattle.journal_reader.proofs.judged_part.Statement.{statement}
 use Rattle.journal_reader.proofs.judged_part.Tie as tie

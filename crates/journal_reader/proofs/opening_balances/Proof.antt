@@ -1,8 +1,5 @@
 -- `journal_reader::opening_balances` meets its contract. Assumes nothing.
-use Prim.Native.Nat.{ℕ}
-use mathlib.Core.Path.{_≡_, sym, ap, ap₂, _∙_}
-use lib.ListN.{replicate}
-use borrow.Author.Needs.{needs}
+use Rattle.wire.proofs.Prelude.{_∙_, _≡_, ap, ap₂, needs, replicate, sym, ℕ}
 use Rattle.answers.proofs.Answers.{instead-refused}
 use Rattle.answers.specs.Answers.{answer, orElse}
 use Rattle.answers.specs.declared.Answer.the-variants.{Passed}

@@ -1,9 +1,5 @@
 -- `journal_reader::place_refusal` meets its contract. Assumes nothing.
-use Prim.Native.Nat.{ℕ}
-use mathlib.Core.Path.{ap, ap₂, _∙_}
-use native.Mathlib.Omega.{arith}
-use lib.Dec.{ltb, leb}
-use borrow.Author.Needs.{needs}
+use Rattle.wire.proofs.Prelude.{_∙_, ap, ap₂, arith, leb, ltb, needs, ℕ}
 use Rattle.answers.proofs.Answers.{refuse-else}
 use Rattle.answers.specs.Answers.{refuse, orElse}
 use Rattle.journal_reader.specs.Judged.{placeRefusal}

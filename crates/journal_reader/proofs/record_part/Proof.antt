@@ -1,9 +1,5 @@
 -- `journal_reader::record_part` meets its contract. Assumes nothing.
-use Prim.Native.Nat.{ℕ}
-use mathlib.Core.Path.{_≡_, sym, _∙_}
-use mathlib.Core.List.{[]}
-use native.Mathlib.Omega.{arith}
-use borrow.Author.Needs.{needs}
+use Rattle.wire.proofs.Prelude.{[], _∙_, _≡_, arith, needs, sym, ℕ}
 use Rattle.answers.proofs.Answers.{passed-zero, refused-instead}
 use Rattle.journal_blocks.specs.Blocks.{recordPart}
 use Rattle.journal_reader.proofs.Judging.{placed}

@@ -1,10 +1,6 @@
 -- `journal_writer::clear` meets its contract. Assumes nothing.
-use Prim.Native.Nat.{ℕ, _-_, _≤_}
-use mathlib.Core.Path.{_≡_, refl, ap, ap₂, _∙_}
-use mathlib.Core.List.{List, _++_, append-nil}
-use native.Mathlib.Omega.{arith}
-use lib.ListN.{length, drop, set, replicate, length-set, drop-of-length-le}
-use borrow.Author.Needs.{needs}
+use Rattle.wire.proofs.Prelude.{List, _++_, _-_, _∙_, _≡_, _≤_, ap, append-nil, ap₂, arith, drop, drop-of-length-le, length, length-set}
+use Rattle.wire.proofs.Prelude.{needs, refl, replicate, set, ℕ}
 use borrow.Author.Fill.{fill-none, fill-more}
 use Rattle.journal_writer.proofs.clear.Statement.{statement}
 use Rattle.journal_writer.proofs.clear.Tie as tie

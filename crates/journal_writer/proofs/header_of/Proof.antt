@@ -1,7 +1,5 @@
 -- `journal_writer::header_of` meets its contract. Assumes nothing.
-use mathlib.Core.List.{_∷_}
-use lib.ListN.{getD, replicate}
-use borrow.Author.Needs.{needs}
+use Rattle.wire.proofs.Prelude.{_∷_, getD, needs, replicate}
 use Rattle.wire.specs.BigEndian.{bytesOf}
 use Rattle.journal_writer.proofs.header_of.Statement.{statement}
 use Rattle.journal_writer.proofs.header_of.Tie as tie

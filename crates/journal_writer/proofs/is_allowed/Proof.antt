@@ -1,9 +1,5 @@
 -- `journal_writer::is_allowed` meets its contract. Assumes nothing.
-use Prim.Native.Nat.{ℕ, _/_, _%_}
-use mathlib.Core.Path.{ap}
-use native.Mathlib.Omega.{arith}
-use borrow.Author.Tests.{leb-true, le-leb}
-use borrow.Author.Needs.{needs}
+use Rattle.wire.proofs.Prelude.{_%_, _/_, ap, arith, le-leb, leb-true, needs, ℕ}
 use Rattle.journal_blocks.proofs.Sizes.{block-bounds}
 use Rattle.journal_writer.proofs.Allowing.{allowed-facts, facts-allowed}
 use Rattle.wire.proofs.Lists.{not-held, same-tests}

@@ -1,10 +1,5 @@
 -- `journal_writer::seal` meets its contract. Assumes nothing.
-use Prim.Native.Nat.{ℕ}
-use mathlib.Core.Path.{_≡_, ap, _∙_}
-use mathlib.Core.List.{List, _++_}
-use native.Mathlib.Omega.{arith}
-use lib.ListN.{length, take, length-take}
-use borrow.Author.Needs.{needs}
+use Rattle.wire.proofs.Prelude.{List, _++_, _∙_, _≡_, ap, arith, length, length-take, needs, take, ℕ}
 use Rattle.journal_writer.proofs.Laying.{sealed}
 use Rattle.sha256.proofs.Digests.{length-sha256}
 use Rattle.sha256.specs.Sha256.{sha256}

@@ -1,10 +1,5 @@
 -- `journal_writer::write` meets its contract. Assumes nothing.
-use Prim.Native.Nat.{ℕ, _-_, _/_}
-use mathlib.Core.Path.{_≡_, sym, ap, _∙_}
-use mathlib.Core.List.{List, _++_}
-use native.Mathlib.Omega.{arith}
-use lib.ListN.{length, take, replicate}
-use borrow.Author.Needs.{needs}
+use Rattle.wire.proofs.Prelude.{List, _++_, _-_, _/_, _∙_, _≡_, ap, arith, length, needs, replicate, sym, take, ℕ}
 use Rattle.journal_blocks.proofs.Sizes.{block-bounds}
 use Rattle.journal_writer.proofs.Allowing.{allowed-facts, allowed-room, allowed-answer, refused-answer}
 use Rattle.journal_writer.specs.Written.{header, body, journalBlock, written}

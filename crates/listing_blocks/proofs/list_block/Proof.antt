@@ -1,7 +1,5 @@
 -- `listing_blocks::list_block` meets its contract. Assumes nothing.
-use mathlib.Core.Path.{_∙_, sym}
-use native.Mathlib.Omega.{arith}
-use borrow.Author.Needs.{needs}
+use Rattle.wire.proofs.Prelude.{_∙_, arith, needs, sym}
 use Rattle.answers.proofs.Answers.{passed-zero}
 use Rattle.listing_blocks.proofs.Listed.{Right, block-stopped, right-listed, right-of}
 use Rattle.listing_lines.proofs.Puts.{fault-short}

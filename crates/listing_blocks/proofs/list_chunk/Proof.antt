@@ -1,9 +1,5 @@
 -- `listing_blocks::list_chunk` meets its contract. Assumes nothing.
-use Prim.Native.Nat.{_≤_, _-_}
-use native.Mathlib.Omega.{arith}
-use lib.ListN.{length}
-use borrow.Author.Needs.{needs}
-use borrow.Author.Tests.{not-false, not-true}
+use Rattle.wire.proofs.Prelude.{_-_, _≤_, arith, length, needs, not-false, not-true}
 use Rattle.listing_blocks.proofs.Listed.{ChunkListed, chunk-end, chunk-next, chunk-room, chunk-start, chunk-stopped}
 use Rattle.listing_blocks.proofs.list_chunk.Statement.{statement}
 use Rattle.listing_blocks.proofs.list_chunk.Tie as tie

@@ -1,9 +1,5 @@
 -- `listing_blocks::list_records` meets its contract. Assumes nothing.
-use Prim.Native.Nat.{_≤_, _-_}
-use mathlib.Core.Path.{_≡_, refl}
-use native.Mathlib.Omega.{arith}
-use lib.ListN.{length, length-take}
-use borrow.Author.Needs.{needs}
+use Rattle.wire.proofs.Prelude.{_-_, _≡_, _≤_, arith, length, length-take, needs, refl}
 use Rattle.listing_blocks.proofs.Listed.{Listed, listed-next, listed-start, part-long, records-done}
 use Rattle.listing_blocks.proofs.list_records.Statement.{statement}
 use Rattle.listing_blocks.proofs.list_records.Tie as tie

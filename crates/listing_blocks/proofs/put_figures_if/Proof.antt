@@ -1,7 +1,5 @@
 -- `listing_blocks::put_figures_if` meets its contract. Assumes nothing.
-use mathlib.Core.Path.{refl, _∙_}
-use native.Mathlib.Omega.{arith}
-use borrow.Author.Needs.{needs}
+use Rattle.wire.proofs.Prelude.{_∙_, arith, needs, refl}
 use Rattle.listing_lines.proofs.Puts.{figures-short}
 use Rattle.listing_blocks.proofs.put_figures_if.Statement.{statement}
 use Rattle.listing_blocks.proofs.put_figures_if.Tie as tie

@@ -1,6 +1,5 @@
 -- `listing_journal::goes_on` meets its contract. Assumes nothing.
-use mathlib.Core.Bool.{and-true}
-use borrow.Author.Tests.{eq-eqb, ne-eqb, not-false, not-true}
+use Rattle.wire.proofs.Prelude.{and-true, eq-eqb, ne-eqb, not-false, not-true}
 use Rattle.listing_journal.specs.Turns.{goesOn}
 use Rattle.wire.specs.BigEndian.{every}
 use Rattle.listing_journal.proofs.goes_on.Statement.{statement}

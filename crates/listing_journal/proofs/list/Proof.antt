@@ -1,12 +1,6 @@
 -- `listing_journal::list` meets its contract. Assumes nothing.
-use Prim.Native.Nat.{ℕ}
-use mathlib.Core.Path.{_∙_, _≡_, refl, sym}
-use native.Mathlib.Omega.{arith}
-use lib.Dec.{lit≤}
-use lib.ListN.{length, length-replicate, take}
-use lib.Seq.{length-take-le}
-use borrow.Author.Needs.{needs}
-use borrow.Author.Tests.{not-false, not-true}
+use Rattle.wire.proofs.Prelude.{_∙_, _≡_, arith, length, length-replicate, length-take-le, lit≤, needs, not-false, not-true, refl, sym}
+use Rattle.wire.proofs.Prelude.{take, ℕ}
 use Rattle.listing_journal.proofs.Begun.{Begun, listed-all, listed-alone, long-as, room-in, started}
 use Rattle.rules.proofs.Lists.{never-both-tests}
 use Rattle.listing_journal.proofs.list.Statement.{statement}

@@ -1,8 +1,5 @@
 -- `listing_journal::list_rest` meets its contract. Assumes nothing.
-use mathlib.Core.Path.{_∙_, sym}
-use native.Mathlib.Omega.{arith}
-use borrow.Author.Needs.{needs}
-use borrow.Author.Tests.{not-false, not-true}
+use Rattle.wire.proofs.Prelude.{_∙_, arith, needs, not-false, not-true, sym}
 use Rattle.listing.specs.Listing.{opened}
 use Rattle.listing_journal.proofs.Turning.{Turns, ended-from, turns-end, turns-next, turns-start}
 use Rattle.listing_journal.proofs.list_rest.Statement.{statement}

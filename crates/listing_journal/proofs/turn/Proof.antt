@@ -1,9 +1,5 @@
 -- `listing_journal::turn` meets its contract. Assumes nothing.
-use mathlib.Core.Path.{sym}
-use native.Mathlib.Omega.{arith}
-use lib.ListN.{length-take}
-use lib.Seq.{length-take-le}
-use borrow.Author.Needs.{needs}
+use Rattle.wire.proofs.Prelude.{arith, length-take, length-take-le, needs, sym}
 use Rattle.listing_journal.proofs.Turning.{resumed-keeps, turned-by}
 use Rattle.listing_journal.proofs.turn.Statement.{statement}
 use Rattle.listing_journal.proofs.turn.Tie as tie

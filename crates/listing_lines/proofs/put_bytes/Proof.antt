@@ -1,10 +1,5 @@
 -- `listing_lines::put_bytes` meets its contract. Assumes nothing.
-use Prim.Native.Nat.{_+_, _-_, _≤_}
-use native.Mathlib.Nat.{add-zero}
-use native.Mathlib.Omega.{arith}
-use lib.ListN.{length, take}
-use lib.Seq.{take-all}
-use borrow.Author.Needs.{needs}
+use Rattle.wire.proofs.Prelude.{_+_, _-_, _≤_, add-zero, arith, length, needs, take, take-all}
 use Rattle.listing_lines.proofs.Puts.{put-next, put-none}
 use Rattle.listing_lines.specs.Lines.{Put}
 use Rattle.listing_lines.proofs.put_bytes.Statement.{statement}

@@ -1,7 +1,5 @@
 -- `listing_lines::put_decimal` meets its contract. Assumes nothing.
-use Prim.Native.Nat.{_≤_}
-use native.Mathlib.Omega.{arith}
-use borrow.Author.Needs.{needs}
+use Rattle.wire.proofs.Prelude.{_≤_, arith, needs}
 use Rattle.listing_lines.proofs.Puts.{decimal-whole, few-digits}
 use Rattle.listing_lines.proofs.put_decimal.Statement.{statement}
 use Rattle.listing_lines.proofs.put_decimal.Tie as tie

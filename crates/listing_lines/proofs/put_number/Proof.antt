@@ -1,9 +1,5 @@
 -- `listing_lines::put_number` meets its contract. Assumes nothing.
-use Prim.Native.Nat.{_+_, _-_, _≤_}
-use mathlib.Core.Path.{_≡_}
-use native.Mathlib.Omega.{arith}
-use lib.ListN.{drop, length, take}
-use borrow.Author.Needs.{needs}
+use Rattle.wire.proofs.Prelude.{_+_, _-_, _≡_, _≤_, arith, drop, length, needs, take}
 use Rattle.listing_lines.proofs.Puts.{number-next, number-room, put-none}
 use Rattle.listing_lines.specs.Lines.{Put, hexadecimal, numberText}
 use Rattle.listing_lines.proofs.put_number.Statement.{statement}

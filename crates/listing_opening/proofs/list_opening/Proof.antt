@@ -1,11 +1,5 @@
 -- `listing_opening::list_opening` meets its contract. Assumes nothing.
-use Prim.Native.Nat.{_+_, _≤_, ℕ}
-use mathlib.Core.List.{List}
-use mathlib.Core.Path.{_∙_, _≡_, ap, ap₂, sym}
-use native.Mathlib.Omega.{arith}
-use lib.ListN.{length}
-use lib.Seq.{length-take-le}
-use borrow.Author.Needs.{needs}
+use Rattle.wire.proofs.Prelude.{List, _+_, _∙_, _≡_, _≤_, ap, ap₂, arith, length, length-take-le, needs, sym, ℕ}
 use Rattle.journal_blocks.specs.Blocks.{balancesOf, statedCount}
 use Rattle.journal_reader.specs.Judged.{openingOf}
 use Rattle.listing_lines.proofs.Puts.{header-short}

@@ -1,8 +1,5 @@
 -- `listing_opening::list_start` meets its contract. Assumes nothing.
-use mathlib.Core.Path.{sym}
-use native.Mathlib.Omega.{arith}
-use lib.Seq.{length-take-le}
-use borrow.Author.Needs.{needs}
+use Rattle.wire.proofs.Prelude.{arith, length-take-le, needs, sym}
 use Rattle.listing_opening.proofs.OpeningText.{halves}
 use Rattle.listing_opening.proofs.list_start.Statement.{statement}
 use Rattle.listing_opening.proofs.list_start.Tie as tie

@@ -1,8 +1,5 @@
 -- `moatbetony::moatbetony_block_record` meets its contract. Assumes nothing.
-use Prim.Native.Nat.{ℕ}
-use mathlib.Core.Path.{_∙_, _≡_, sym}
-use native.Mathlib.Omega.{arith}
-use borrow.Author.Needs.{needs}
+use Rattle.wire.proofs.Prelude.{_∙_, _≡_, arith, needs, sym, ℕ}
 use Rattle.answers.proofs.Answers.{passed-zero}
 use Rattle.journal_reader.proofs.Judging.{placed}
 use Rattle.journal_reader.specs.Judged.{recordRefusal}

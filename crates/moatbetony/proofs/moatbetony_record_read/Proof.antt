@@ -1,6 +1,5 @@
 -- `moatbetony::moatbetony_record_read` meets its contract. Assumes nothing.
-use mathlib.Core.Path.{_∙_, ap, sym}
-use borrow.Author.Needs.{needs}
+use Rattle.wire.proofs.Prelude.{_∙_, ap, needs, sym}
 use Rattle.moatbetony.proofs.Telling.{record-unread}
 use Rattle.moatbetony.specs.Told.{recordTold, told}
 use Rattle.moatbetony.proofs.moatbetony_record_read.Statement.{statement}

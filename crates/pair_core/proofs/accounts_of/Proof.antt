@@ -2,9 +2,7 @@
 use Rattle.pair_core.proofs.Accept.{sound-of}
 use Rattle.pair_core.proofs.Ledgers.{accounts-on}
 use Rattle.pair_core.specs.Layout.{accountsOn}
-use borrow.Author.Needs.{needs}
-use mathlib.Core.Path.{_∙_, ap, sym}
-use native.Mathlib.Omega.{arith}
+use Rattle.wire.proofs.Prelude.{_∙_, ap, arith, needs, sym}
 use Rattle.pair_core.proofs.accounts_of.Statement.{statement}
 use Rattle.pair_core.proofs.accounts_of.Tie as tie
 

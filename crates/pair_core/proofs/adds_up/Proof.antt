@@ -1,13 +1,11 @@
 -- `pair_core::adds_up` meets its contract. Assumes nothing.
-use Prim.Native.Nat.{_*_, _+_, _<_, _^_}
+use Rattle.wire.proofs.Prelude.{_*_, _+_, _<_, _^_, arith, needs}
 use Rattle.pair_core.proofs.Ledgers.{Bounds, accounts-fit, bounds-of}
 use Rattle.pair_core.specs.Layout.{accountsOn, countOn, supplyOf}
 use Rattle.pair_core.specs.Testing.{balanceSum, flowSum, sumsAgree}
 use Rattle.places.proofs.ExactSums.{added-after, added-value, halves-added, halves-both, halves-fit}
 use Rattle.places.specs.ExactSums.{Added, Halves}
 use Rattle.table.proofs.Sums.{high-differs, low-compared}
-use borrow.Author.Needs.{needs}
-use native.Mathlib.Omega.{arith}
 use Rattle.pair_core.proofs.adds_up.Statement.{statement}
 use Rattle.pair_core.proofs.adds_up.Tie as tie
 

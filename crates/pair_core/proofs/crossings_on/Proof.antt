@@ -1,8 +1,6 @@
 -- `pair_core::crossings_on` meets its contract. Assumes nothing.
-use Prim.Native.Nat.{_-_, _<_}
+use Rattle.wire.proofs.Prelude.{_-_, _<_, arith, needs}
 use Rattle.pair_core.proofs.Ledgers.{bounds-of, index-within, records-within}
-use borrow.Author.Needs.{needs}
-use native.Mathlib.Omega.{arith}
 use Rattle.pair_core.proofs.crossings_on.Statement.{statement}
 use Rattle.pair_core.proofs.crossings_on.Tie as tie
 

@@ -1,17 +1,11 @@
 -- `pair_core::is_accepted` meets its contract. Assumes nothing.
-use Prim.Native.Nat.{_^_, _<_, ℕ}
+use Rattle.wire.proofs.Prelude.{_<_, _^_, _∙_, _≡_, arith, eq-eqb, getD, length, ne-eqb, needs, not-false, not-true, refl, sym, true, ℕ}
 use Rattle.pair_core.proofs.Accept.{accepts-is, both-indexed, second-empty, tests-refused}
 use Rattle.pair_core.proofs.Ledgers.{bounds-of}
 use Rattle.pair_core.specs.Layout.{acceptsPair, countOn, indexOn, pairBounds, recordsOn}
 use Rattle.pair_core.specs.Testing.{testsOf}
 use Rattle.table.specs.Table.{IndexOf}
 use Rattle.wire.proofs.Lists.{every-not, every-one, every-skip}
-use borrow.Author.Needs.{needs}
-use borrow.Author.Tests.{eq-eqb, ne-eqb, not-false, not-true}
-use lib.ListN.{getD, length}
-use mathlib.Core.Bool.{true}
-use mathlib.Core.Path.{_∙_, _≡_, refl, sym}
-use native.Mathlib.Omega.{arith}
 use Rattle.pair_core.proofs.is_accepted.Statement.{statement}
 use Rattle.pair_core.proofs.is_accepted.Tie as tie
 

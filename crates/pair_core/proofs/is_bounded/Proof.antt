@@ -2,9 +2,7 @@
 use Rattle.pair_core.specs.Layout.{pairBounds}
 use Rattle.rules.specs.PairValidator.{supplyAllowed}
 use Rattle.wire.proofs.Lists.{every-not, every-one, every-skip}
-use borrow.Author.Needs.{needs}
-use borrow.Author.Tests.{le-leb, lt-leb, not-false, not-true}
-use mathlib.Core.Path.{_∙_, sym}
+use Rattle.wire.proofs.Prelude.{_∙_, le-leb, lt-leb, needs, not-false, not-true, sym}
 use Rattle.pair_core.proofs.is_bounded.Statement.{statement}
 use Rattle.pair_core.proofs.is_bounded.Tie as tie
 

@@ -1,10 +1,8 @@
 -- `pair_core::is_held` meets its contract. Assumes nothing.
-use Prim.Native.Nat.{_+_, _-_}
+use Rattle.wire.proofs.Prelude.{_+_, _-_, arith, needs}
 use Rattle.pair_core.proofs.Ledgers.{accounts-fit, bounds-of, index-within, records-within}
 use Rattle.pair_core.specs.Layout.{indexLength, indexOn}
 use Rattle.table.proofs.Growing.{kept-longer}
-use borrow.Author.Needs.{needs}
-use native.Mathlib.Omega.{arith}
 use Rattle.pair_core.proofs.is_held.Statement.{statement}
 use Rattle.pair_core.proofs.is_held.Tie as tie
 

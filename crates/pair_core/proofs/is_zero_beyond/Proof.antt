@@ -1,10 +1,8 @@
 -- `pair_core::is_zero_beyond` meets its contract. Assumes nothing.
-use Prim.Native.Nat.{_≤_}
+use Rattle.wire.proofs.Prelude.{_≤_, arith, needs}
 use Rattle.ledgers.specs.Limits.{accountLimit}
 use Rattle.pair_core.proofs.Ledgers.{accounts-fit, bounds-of}
 use Rattle.pair_core.specs.Layout.{accountsOn, zeroBeyond}
-use borrow.Author.Needs.{needs}
-use native.Mathlib.Omega.{arith}
 use Rattle.pair_core.proofs.is_zero_beyond.Statement.{statement}
 use Rattle.pair_core.proofs.is_zero_beyond.Tie as tie
 

@@ -5,9 +5,7 @@ use Rattle.pair_core.proofs.Judging.{judge-by}
 use Rattle.pair_core.proofs.Ledgers.{index-within, records-within}
 use Rattle.pair_core.specs.Layout.{pairViewOf}
 use Rattle.rules.specs.Rules.{accountsOf}
-use borrow.Author.Needs.{needs}
-use mathlib.Core.Path.{_∙_, ap}
-use native.Mathlib.Omega.{arith}
+use Rattle.wire.proofs.Prelude.{_∙_, ap, arith, needs}
 use Rattle.pair_core.proofs.judge.Statement.{statement}
 use Rattle.pair_core.proofs.judge.Tie as tie
 

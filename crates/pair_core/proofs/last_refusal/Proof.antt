@@ -1,5 +1,5 @@
 -- `pair_core::last_refusal` meets its contract. Assumes nothing.
-use Prim.Native.Nat.{_-_, _<_, _^_, ℕ}
+use Rattle.wire.proofs.Prelude.{Bool, _-_, _<_, _^_, _∙_, _≡_, ap, arith, getD, needs, not, refl, sym, ℕ}
 use Rattle.answers.specs.Answers.{refuse}
 use Rattle.ledgers.specs.Ledgers.{ledgerByte, ledgerOf}
 use Rattle.pair_core.proofs.Accept.{PairSound, sound-of}
@@ -7,11 +7,6 @@ use Rattle.pair_core.proofs.Judging.{last-matched, last-paid}
 use Rattle.pair_core.proofs.Ledgers.{accounts-fit, index-within, records-within}
 use Rattle.pair_core.specs.Layout.{accountsOn, balancesOn}
 use Rattle.places.specs.LedgerBalances.{fundsAt}
-use borrow.Author.Needs.{needs}
-use lib.ListN.{getD}
-use mathlib.Core.Bool.{Bool, not}
-use mathlib.Core.Path.{_∙_, _≡_, ap, refl, sym}
-use native.Mathlib.Omega.{arith}
 use Rattle.pair_core.proofs.last_refusal.Statement.{statement}
 use Rattle.pair_core.proofs.last_refusal.Tie as tie
 

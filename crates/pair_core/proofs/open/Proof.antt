@@ -1,15 +1,10 @@
 -- `pair_core::open` meets its contract. Assumes nothing.
-use Prim.Native.Nat.{_≤_, ℕ}
+use Rattle.wire.proofs.Prelude.{List, _∙_, _≡_, _≤_, arith, length, needs, refl, sym, ℕ}
 use Rattle.answers.proofs.Answers.{instead-refused}
 use Rattle.ledgers.specs.Limits.{accountLimit}
 use Rattle.pair_core.proofs.Opened.{opened-by, opened-counts}
 use Rattle.pair_core.specs.Layout.{pairWords}
 use Rattle.rules.specs.PairValidator.{pairOpeningRefusal}
-use borrow.Author.Needs.{needs}
-use mathlib.Core.List.{List}
-use mathlib.Core.Path.{_∙_, _≡_, refl, sym}
-use native.Mathlib.Omega.{arith}
-use lib.ListN.{length}
 use Rattle.pair_core.proofs.open.Statement.{statement}
 use Rattle.pair_core.proofs.open.Tie as tie
 

@@ -1,15 +1,10 @@
 -- `pair_core::pass` meets its contract. Assumes nothing.
-use Prim.Native.Nat.{_+_, ℕ}
+use Rattle.wire.proofs.Prelude.{List, _+_, _∙_, _≡_, ap, arith, needs, set, subst, sym, ℕ}
 use Rattle.ledgers.specs.Ledgers.{ledgerByte, ledgerOf}
 use Rattle.pair_core.proofs.Accept.{PairSound, sound-of}
 use Rattle.pair_core.proofs.Passing.{PairPasses, paid-fits, passes-of}
 use Rattle.pair_core.specs.Layout.{countOn, countWord, pairWith}
 use Rattle.table.proofs.Records.{amount-fits}
-use borrow.Author.Needs.{needs}
-use lib.ListN.{set}
-use mathlib.Core.List.{List}
-use mathlib.Core.Path.{_∙_, _≡_, ap, subst, sym}
-use native.Mathlib.Omega.{arith}
 use Rattle.pair_core.proofs.pass.Statement.{statement}
 use Rattle.pair_core.proofs.pass.Tie as tie
 

@@ -1,12 +1,9 @@
 -- `pair_core::take` meets its contract. Assumes nothing.
-use Prim.Native.Nat.{_*_}
+use Rattle.wire.proofs.Prelude.{_*_, needs, not-false, refl}
 use Rattle.pair_core.specs.Layout.{indexLength, indexOn, pairWordsChecker, recordsOn}
 use Rattle.rules.proofs.Parts.{told-one, told-unaccepted}
 use Rattle.rules.specs.Calls.{one}
 use Rattle.table.proofs.Numbers.{index-none}
-use borrow.Author.Needs.{needs}
-use borrow.Author.Tests.{not-false}
-use mathlib.Core.Path.{refl}
 use Rattle.pair_core.proofs.take.Statement.{statement}
 use Rattle.pair_core.proofs.take.Tie as tie
 

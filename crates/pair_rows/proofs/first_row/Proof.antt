@@ -3,9 +3,7 @@ use Rattle.pair_core.proofs.Opened.{opened-counts}
 use Rattle.pair_core.specs.Layout.{pairZeroWords}
 use Rattle.pair_rows.proofs.Opened.{FirstRow, first-row}
 use Rattle.rules.specs.PairValidator.{pairOpeningRefusal}
-use borrow.Author.Needs.{needs}
-use mathlib.Core.Path.{_∙_, _≡_, sym}
-use native.Mathlib.Omega.{arith}
+use Rattle.wire.proofs.Prelude.{_∙_, _≡_, arith, needs, sym}
 use Rattle.pair_rows.proofs.first_row.Statement.{statement}
 use Rattle.pair_rows.proofs.first_row.Tie as tie
 

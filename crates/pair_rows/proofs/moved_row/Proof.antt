@@ -1,10 +1,7 @@
 -- `pair_rows::moved_row` meets its contract. Assumes nothing.
-use Prim.Native.Nat.{_≤_}
+use Rattle.wire.proofs.Prelude.{_≤_, arith, needs, refl, subst}
 use Rattle.ledgers.specs.declared.Ledger.{Ledger}
 use Rattle.pair_rows.specs.Rows.{totalIn}
-use borrow.Author.Needs.{needs}
-use mathlib.Core.Path.{refl, subst}
-use native.Mathlib.Omega.{arith}
 use Rattle.pair_rows.proofs.moved_row.Statement.{statement}
 use Rattle.pair_rows.proofs.moved_row.Tie as tie
 

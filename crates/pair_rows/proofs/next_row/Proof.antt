@@ -3,8 +3,7 @@ use Rattle.ledgers.specs.Ledgers.{ledgerOf}
 use Rattle.pair_core.specs.Layout.{pairWordsChecker, supplyOf}
 use Rattle.pair_rows.proofs.Rows.{RowMoves, read-or-refused, row-passed, row-refused, row-tells, rowAfter}
 use Rattle.places.specs.Entries.{givenBy, takenBy}
-use borrow.Author.Needs.{needs}
-use mathlib.Core.Path.{_∙_, _≡_, sym}
+use Rattle.wire.proofs.Prelude.{_∙_, _≡_, needs, sym}
 use Rattle.pair_rows.proofs.next_row.Statement.{statement}
 use Rattle.pair_rows.proofs.next_row.Tie as tie
 

@@ -1,6 +1,5 @@
 -- `records::are_formed` meets its contract. Assumes nothing.
-use native.Mathlib.Omega.{arith}
-use borrow.Author.Tests.{eq-eqb, eqb-true}
+use Rattle.wire.proofs.Prelude.{arith, eq-eqb, eqb-true}
 use Rattle.records.proofs.Formed.{facts-formed, formed-facts}
 use Rattle.wire.proofs.Lists.{not-held, same-tests}
 use Rattle.records.proofs.are_formed.Statement.{statement}

@@ -1,11 +1,5 @@
 -- `sha256::digest` meets its contract. Assumes nothing.
-use Prim.Native.Nat.{_/_, _%_, ℕ, _≤_, _+_, _*_}
-use mathlib.Core.List.{List}
-use mathlib.Core.Path.{_≡_, sym, ap, _∙_}
-use native.Mathlib.Omega.{arith}
-use lib.Seq.{length-take-le}
-use lib.ListN.{length, take, drop}
-use borrow.Author.Needs.{needs}
+use Rattle.wire.proofs.Prelude.{List, _%_, _*_, _+_, _/_, _∙_, _≡_, _≤_, ap, arith, drop, length, length-take-le, needs, sym, take, ℕ}
 use Rattle.sha256.proofs.Padding.{block-count, block-last, hashed-next}
 use Rattle.sha256.specs.Sha256.{zeroCount, padded, block, hashed, hashBytes, sha256}
 use Rattle.sha256.proofs.digest.Statement.{statement}

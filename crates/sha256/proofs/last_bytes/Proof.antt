@@ -1,7 +1,5 @@
 -- `sha256::last_bytes` meets its contract. Assumes nothing.
-use native.Mathlib.Omega.{arith}
-use lib.ListN.{length-set}
-use borrow.Author.Needs.{needs}
+use Rattle.wire.proofs.Prelude.{arith, length-set, needs}
 use Rattle.sha256.proofs.Padding.{rest-padded}
 use Rattle.sha256.proofs.last_bytes.Statement.{statement}
 use Rattle.sha256.proofs.last_bytes.Tie as tie

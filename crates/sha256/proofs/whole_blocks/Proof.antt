@@ -1,9 +1,5 @@
 -- `sha256::whole_blocks` meets its contract. Assumes nothing.
-use Prim.Native.Nat.{_/_, ℕ, _≤_, _-_, _+_, _*_}
-use mathlib.Core.Path.{_≡_, ap, _∙_}
-use native.Mathlib.Omega.{arith}
-use lib.ListN.{length, take, drop}
-use borrow.Author.Needs.{needs}
+use Rattle.wire.proofs.Prelude.{_*_, _+_, _-_, _/_, _∙_, _≡_, _≤_, ap, arith, drop, length, needs, take, ℕ}
 use Rattle.sha256.proofs.Padding.{hashed-next, block-within}
 use Rattle.sha256.specs.Sha256.{padded, hashed}
 use Rattle.sha256.proofs.whole_blocks.Statement.{statement}

@@ -1,5 +1,6 @@
 -- `table::add_crossings` meets its contract. Assumes nothing.
-use Prim.Native.Nat.{_%_, _*_, _+_, _-_, _/_, _<_, _^_, _≤_, ℕ}
+use Rattle.wire.proofs.Prelude.{List, _%_, _*_, _+_, _-_, _/_, _<_, _^_, _∙_, _≡_, _≤_, ap, arith, eqb, needs, not-false, not-true, sym, ℕ}
+use Rattle.wire.proofs.Prelude.{⊎-elim}
 use Rattle.places.proofs.ExactSums.{counted-most, halves-fit, halves-more, halves-none}
 use Rattle.places.proofs.OverPlaces.{all-end, all-here, all-on, sum-more, sum-none}
 use Rattle.places.specs.ExactSums.{Halves}
@@ -8,13 +9,6 @@ use Rattle.records.specs.Records.{within}
 use Rattle.records.specs.declared.Words.{Words}
 use Rattle.rules.proofs.Lists.{never-both-tests}
 use Rattle.table.specs.Table.{FlowsAt, amountAt, backedAt, backedBy, flowAt, flowBy, headAt, wordsAt}
-use borrow.Author.Needs.{needs}
-use borrow.Author.Tests.{not-false, not-true}
-use lib.Dec.{eqb}
-use mathlib.Core.List.{List}
-use mathlib.Core.Logic.{⊎-elim}
-use mathlib.Core.Path.{_∙_, _≡_, ap, sym}
-use native.Mathlib.Omega.{arith}
 use Rattle.table.proofs.add_crossings.Statement.{statement}
 use Rattle.table.proofs.add_crossings.Tie as tie
 

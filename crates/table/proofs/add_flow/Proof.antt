@@ -1,10 +1,6 @@
 -- `table::add_flow` meets its contract. Assumes nothing.
-use Prim.Native.Nat.{_%_, _+_, _/_, _^_, ℕ}
+use Rattle.wire.proofs.Prelude.{_%_, _+_, _/_, _^_, _∙_, _≡_, ap, arith, eq-eqb, ne-eqb, needs, ℕ}
 use Rattle.places.proofs.OverPlaces.{chosen, not-chosen}
-use borrow.Author.Needs.{needs}
-use borrow.Author.Tests.{eq-eqb, ne-eqb}
-use mathlib.Core.Path.{_∙_, _≡_, ap}
-use native.Mathlib.Omega.{arith}
 use Rattle.table.proofs.add_flow.Statement.{statement}
 use Rattle.table.proofs.add_flow.Tie as tie
 

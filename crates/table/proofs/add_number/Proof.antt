@@ -1,7 +1,5 @@
 -- `table::add_number` meets its contract. Assumes nothing.
-use native.Mathlib.Omega.{arith}
-use lib.ListN.{length-set}
-use borrow.Author.Needs.{needs}
+use Rattle.wire.proofs.Prelude.{arith, length-set, needs}
 use Rattle.table.proofs.add_number.Statement.{statement}
 use Rattle.table.proofs.add_number.Tie as tie
 

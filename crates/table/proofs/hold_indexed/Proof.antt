@@ -1,11 +1,5 @@
 -- `table::hold_indexed` meets its contract. Assumes nothing.
-use Prim.Native.Nat.{ℕ, _+_, _*_, _-_, _%_, _≤_}
-use mathlib.Core.Bool.{Bool}
-use mathlib.Core.Logic.{⊎-elim}
-use mathlib.Core.Path.{_≡_, ap, refl, sym, _∙_}
-use native.Mathlib.Omega.{arith}
-use borrow.Author.Needs.{needs}
-use borrow.Author.Tests.{not-false, not-true}
+use Rattle.wire.proofs.Prelude.{Bool, _%_, _*_, _+_, _-_, _∙_, _≡_, _≤_, ap, arith, needs, not-false, not-true, refl, sym, ℕ, ⊎-elim}
 use Rattle.ledgers.specs.Ledgers.{ledgerAt}
 use Rattle.places.proofs.Apart.{Apart, apart-every, apart-more, value-fresh, value-new, value-twice}
 use Rattle.places.proofs.NumberIndex.{kept-twice}

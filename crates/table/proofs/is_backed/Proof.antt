@@ -1,12 +1,9 @@
 -- `table::is_backed` meets its contract. Assumes nothing.
-use Prim.Native.Nat.{ℕ}
+use Rattle.wire.proofs.Prelude.{_∙_, ap, eq-eqb, ne-eqb, needs, sym, ℕ}
 use Rattle.places.proofs.Backing.{not-asked}
 use Rattle.places.specs.OverPlaces.{anyAt}
 use Rattle.table.proofs.Crossings.{asked}
 use Rattle.table.specs.Table.{backedBy, sentAt}
-use borrow.Author.Needs.{needs}
-use borrow.Author.Tests.{eq-eqb, ne-eqb}
-use mathlib.Core.Path.{_∙_, sym, ap}
 use Rattle.table.proofs.is_backed.Statement.{statement}
 use Rattle.table.proofs.is_backed.Tie as tie
 

@@ -1,15 +1,10 @@
 -- `table::is_backed_first` meets its contract. Assumes nothing.
-use Prim.Native.Nat.{_-_, ℕ}
+use Rattle.wire.proofs.Prelude.{_-_, _∙_, _≡_, ap, arith, eq-eqb, ne-eqb, needs, sym, true, ℕ}
 use Rattle.places.proofs.Backing.{not-asked}
 use Rattle.rules.proofs.Lists.{never-both-tests}
 use Rattle.table.proofs.Crossings.{asked}
 use Rattle.table.proofs.Walking.{WalkFor, sent-numbered, walk-first, walk-found}
 use Rattle.table.specs.Table.{backedBy, sendingHead, sentAt}
-use borrow.Author.Needs.{needs}
-use borrow.Author.Tests.{eq-eqb, ne-eqb}
-use mathlib.Core.Bool.{true}
-use mathlib.Core.Path.{_∙_, _≡_, ap, sym}
-use native.Mathlib.Omega.{arith}
 use Rattle.table.proofs.is_backed_first.Statement.{statement}
 use Rattle.table.proofs.is_backed_first.Tie as tie
 

@@ -1,9 +1,7 @@
 -- `table::is_sent` meets its contract. Assumes nothing.
 use Rattle.table.proofs.Walking.{WalkFor, sent-numbered, walk-end, walk-first, walk-found, walk-lower, walk-next}
 use Rattle.table.specs.Table.{sentAt}
-use borrow.Author.Needs.{needs}
-use mathlib.Core.Path.{_∙_, sym}
-use native.Mathlib.Omega.{arith}
+use Rattle.wire.proofs.Prelude.{_∙_, arith, needs, sym}
 use Rattle.table.proofs.is_sent.Statement.{statement}
 use Rattle.table.proofs.is_sent.Tie as tie
 

@@ -1,8 +1,5 @@
 -- `table::is_used` meets its contract. Assumes nothing.
-use mathlib.Core.Path.{sym}
-use native.Mathlib.Omega.{arith}
-use borrow.Author.Needs.{needs}
-use borrow.Author.Tests.{eq-eqb, ne-eqb}
+use Rattle.wire.proofs.Prelude.{arith, eq-eqb, ne-eqb, needs, sym}
 use Rattle.table.proofs.Walking.{WalkFor, numbered, walk-end, walk-first, walk-found, walk-lower, walk-next}
 use Rattle.table.specs.Table.{numberedAt}
 use Rattle.table.proofs.is_used.Statement.{statement}

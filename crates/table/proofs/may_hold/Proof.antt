@@ -1,16 +1,11 @@
 -- `table::may_hold` meets its contract. Assumes nothing.
-use Prim.Native.Nat.{ℕ, _+_, _*_, _/_, _%_, _^_}
+use Rattle.wire.proofs.Prelude.{_%_, _*_, _+_, _/_, _^_, _∙_, _≡_, ap, arith, getD, le-leb, le-ltb, lt-leb, lt-ltb, needs, sym, ℕ}
 use Rattle.ledgers.specs.Ledgers.{ledgerAt}
 use Rattle.ledgers.specs.Limits.{maxAmount}
 use Rattle.records.specs.Records.{readingWords}
 use Rattle.table.proofs.Holding.{below, below-at}
 use Rattle.table.specs.Table.{accountsBy, mayHold}
 use Rattle.wire.proofs.Lists.{every-not, every-one, every-skip}
-use borrow.Author.Needs.{needs}
-use borrow.Author.Tests.{le-leb, le-ltb, lt-leb, lt-ltb}
-use lib.ListN.{getD}
-use mathlib.Core.Path.{_≡_, ap, sym, _∙_}
-use native.Mathlib.Omega.{arith}
 use Rattle.table.proofs.may_hold.Statement.{statement}
 use Rattle.table.proofs.may_hold.Tie as tie
 

@@ -1,7 +1,5 @@
 -- `table::put_words` meets its contract. Assumes nothing.
-use borrow.Author.Needs.{needs}
-use lib.ListN.{length-set}
-use native.Mathlib.Omega.{arith}
+use Rattle.wire.proofs.Prelude.{arith, length-set, needs}
 use Rattle.table.proofs.put_words.Statement.{statement}
 use Rattle.table.proofs.put_words.Tie as tie
 

@@ -1,9 +1,5 @@
 -- `table::scanned` meets its contract. Assumes nothing.
-use Prim.Native.Nat.{_-_, _≤_}
-use mathlib.Core.Path.{_∙_, _≡_, ap, sym}
-use native.Mathlib.Omega.{arith}
-use borrow.Author.Needs.{needs}
-use borrow.Author.Tests.{eq-eqb, ne-eqb}
+use Rattle.wire.proofs.Prelude.{_-_, _∙_, _≡_, _≤_, ap, arith, eq-eqb, ne-eqb, needs, sym}
 use Rattle.places.proofs.OverPlaces.{any-end, any-here, any-on}
 use Rattle.places.specs.OverPlaces.{anyAt}
 use Rattle.table.specs.Table.{numberedAt}

@@ -1,11 +1,8 @@
 -- `table::scanned_sent` meets its contract. Assumes nothing.
-use Prim.Native.Nat.{_-_, _≤_}
+use Rattle.wire.proofs.Prelude.{_-_, _∙_, _≡_, _≤_, ap, arith, needs, sym}
 use Rattle.places.proofs.OverPlaces.{any-end, any-here, any-on}
 use Rattle.places.specs.OverPlaces.{anyAt}
 use Rattle.table.specs.Table.{sentAt}
-use borrow.Author.Needs.{needs}
-use mathlib.Core.Path.{_∙_, _≡_, ap, sym}
-use native.Mathlib.Omega.{arith}
 use Rattle.table.proofs.scanned_sent.Statement.{statement}
 use Rattle.table.proofs.scanned_sent.Tie as tie
 

@@ -1,9 +1,7 @@
 -- `table::sent_at` meets its contract. Assumes nothing.
 use Rattle.table.specs.Table.{sentAt}
 use Rattle.wire.proofs.Lists.{every-not, every-one, every-skip}
-use borrow.Author.Needs.{needs}
-use borrow.Author.Tests.{eq-eqb, ne-eqb}
-use mathlib.Core.Path.{_∙_, sym}
+use Rattle.wire.proofs.Prelude.{_∙_, eq-eqb, ne-eqb, needs, sym}
 use Rattle.table.proofs.sent_at.Statement.{statement}
 use Rattle.table.proofs.sent_at.Tie as tie
 

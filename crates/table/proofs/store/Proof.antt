@@ -1,10 +1,7 @@
 -- `table::store` meets its contract. Assumes nothing.
-use Prim.Native.Nat.{ℕ}
+use Rattle.wire.proofs.Prelude.{List, _∙_, ap, needs, ℕ}
 use Rattle.places.proofs.PassedRecord.{taken-given}
 use Rattle.table.specs.Table.{stored, withWords}
-use borrow.Author.Needs.{needs}
-use mathlib.Core.List.{List}
-use mathlib.Core.Path.{_∙_, ap}
 use Rattle.table.proofs.store.Statement.{statement}
 use Rattle.table.proofs.store.Tie as tie
 

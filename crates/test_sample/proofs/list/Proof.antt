@@ -1,8 +1,5 @@
 -- `test_sample::list` is safe and ends. Assumes nothing.
-use Prim.Native.Nat.{_-_, _≤_}
-use mathlib.Core.Path.{_≡_}
-use lib.ListN.{length}
-use borrow.Author.Needs.{needs}
+use Rattle.wire.proofs.Prelude.{_-_, _≡_, _≤_, length, needs}
 use Rattle.test_sample.proofs.list.Statement.{statement}
 use Rattle.test_sample.proofs.list.Tie as tie
 

@@ -1,6 +1,5 @@
 -- `test_sample::main` is safe and ends. Assumes nothing.
-use Prim.Native.Nat.{_-_, _≤_}
-use borrow.Author.Needs.{needs}
+use Rattle.wire.proofs.Prelude.{_-_, _≤_, needs}
 use Rattle.test_sample.proofs.main.Statement.{statement}
 use Rattle.test_sample.proofs.main.Tie as tie
 

@@ -1,10 +1,5 @@
 -- `wire::all_zero` meets its contract. Assumes nothing.
-use Prim.Native.Nat.{_-_, _≤_}
-use mathlib.Core.Path.{_≡_, refl, sym, _∙_}
-use native.Mathlib.Omega.{arith}
-use lib.ListN.{take, drop}
-use borrow.Author.Needs.{needs}
-use borrow.Author.Tests.{eq-eqb, ne-eqb}
+use Rattle.wire.proofs.Prelude.{_-_, _∙_, _≡_, _≤_, arith, drop, eq-eqb, ne-eqb, needs, refl, sym, take}
 use Rattle.wire.proofs.Lists.{zeros-cons, zeros-end}
 use Rattle.wire.specs.BigEndian.{zeros}
 use Rattle.wire.proofs.all_zero.Statement.{statement}

@@ -1,10 +1,5 @@
 -- `wire::equal` meets its contract. Assumes nothing.
-use Prim.Native.Nat.{_-_, _≤_}
-use mathlib.Core.Path.{_≡_, refl, sym, _∙_}
-use native.Mathlib.Omega.{arith}
-use lib.ListN.{length, drop}
-use borrow.Author.Needs.{needs}
-use borrow.Author.Tests.{eq-eqb, ne-eqb}
+use Rattle.wire.proofs.Prelude.{_-_, _∙_, _≡_, _≤_, arith, drop, eq-eqb, length, ne-eqb, needs, refl, sym}
 use Rattle.wire.proofs.Lists.{same-cons, same-end}
 use Rattle.wire.specs.BigEndian.{same}
 use Rattle.wire.proofs.equal.Statement.{statement}

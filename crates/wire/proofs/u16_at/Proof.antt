@@ -1,7 +1,5 @@
 -- `wire::u16_at` meets its contract. Assumes nothing.
-use Prim.Native.Nat.{_+_}
-use native.Mathlib.Omega.{arith}
-use borrow.Author.Needs.{needs}
+use Rattle.wire.proofs.Prelude.{_+_, arith, needs}
 use Rattle.wire.proofs.Numbers.{field-split, field-one}
 use Rattle.wire.proofs.u16_at.Statement.{statement}
 use Rattle.wire.proofs.u16_at.Tie as tie

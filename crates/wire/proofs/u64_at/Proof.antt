@@ -1,6 +1,5 @@
 -- `wire::u64_at` meets its contract. Assumes nothing.
-use native.Mathlib.Omega.{arith}
-use borrow.Author.Needs.{needs}
+use Rattle.wire.proofs.Prelude.{arith, needs}
 use Rattle.wire.proofs.Numbers.{field-split}
 use Rattle.wire.proofs.u64_at.Statement.{statement}
 use Rattle.wire.proofs.u64_at.Tie as tie

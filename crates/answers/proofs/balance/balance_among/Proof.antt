@@ -1,7 +1,5 @@
 -- `answers::balance::balance_among` meets its contract. Assumes nothing.
-use mathlib.Core.Path.{_∙_}
-use native.Mathlib.Omega.{arith}
-use borrow.Author.Needs.{needs}
+use Rattle.wire.proofs.Prelude.{_∙_, arith, needs}
 use Rattle.answers.proofs.BalanceAmong.{among-closed, among-open}
 use Rattle.answers.proofs.balance.balance_among.Statement.{statement}
 use Rattle.answers.proofs.balance.balance_among.Tie as tie

@@ -1,6 +1,5 @@
 -- `answers::balance::balance_refused` meets its contract. Assumes nothing.
-use mathlib.Core.Path.{ap}
-use borrow.Author.Needs.{needs}
+use Rattle.wire.proofs.Prelude.{ap, needs}
 use Rattle.answers.specs.declared.Answer.{Answer}
 use Rattle.answers.specs.declared.balance.Balance.{Balance}
 use Rattle.answers.proofs.balance.balance_refused.Statement.{statement}

@@ -1,13 +1,10 @@
 -- `home_validator::HomeValidator::open` meets its contract. Assumes nothing.
-use Prim.Native.Nat.{ℕ}
+use Rattle.wire.proofs.Prelude.{List, _∙_, ap, needs, refl, ℕ}
 use Rattle.answers.specs.Answers.{answer}
 use Rattle.home_core.specs.Layout.{homeOpenedWords, homeZeroWords}
 use Rattle.home_validator.specs.declared.HomeValidator.{HomeValidator}
 use Rattle.places.proofs.Openings.{opening-in}
 use Rattle.rules.specs.HomeValidator.{homeOpeningRefusal}
-use borrow.Author.Needs.{needs}
-use mathlib.Core.List.{List}
-use mathlib.Core.Path.{_∙_, ap, refl}
 use Rattle.home_validator.proofs.HomeValidator.open.Statement.{statement}
 use Rattle.home_validator.proofs.HomeValidator.open.Tie as tie
 

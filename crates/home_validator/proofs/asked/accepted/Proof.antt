@@ -1,8 +1,7 @@
 -- `home_validator::asked::accepted` meets its contract. Assumes nothing.
 use Rattle.home_core.specs.Layout.{indexLength}
 use Rattle.table.proofs.Numbers.{index-none}
-use borrow.Author.Needs.{needs}
-use mathlib.Core.Path.{refl}
+use Rattle.wire.proofs.Prelude.{needs, refl}
 use Rattle.home_validator.proofs.asked.accepted.Statement.{statement}
 use Rattle.home_validator.proofs.asked.accepted.Tie as tie
 

@@ -1,10 +1,7 @@
 -- `home_validator::asked::balance` meets its contract. Assumes nothing.
 use Rattle.home_core.specs.Layout.{acceptsHome}
 use Rattle.home_validator.proofs.HomeTotals.{home-balance-passed, home-on-ledger}
-use borrow.Author.Needs.{needs}
-use borrow.Author.Tests.{not-false, not-true}
-use mathlib.Core.Bool.{true}
-use mathlib.Core.Path.{_∙_, _≡_, sym}
+use Rattle.wire.proofs.Prelude.{_∙_, _≡_, needs, not-false, not-true, sym, true}
 use Rattle.home_validator.proofs.asked.balance.Statement.{statement}
 use Rattle.home_validator.proofs.asked.balance.Tie as tie
 

@@ -1,10 +1,5 @@
 -- `journal_blocks::checks::block_refusal` meets its contract. Assumes nothing.
-use Prim.Native.Nat.{ℕ}
-use mathlib.Core.Path.{ap, ap₂, _∙_}
-use mathlib.Core.Bool.{Bool, not}
-use lib.Dec.{eqb, ltb}
-use borrow.Author.Tests.{eq-eqb, ne-eqb}
-use borrow.Author.Needs.{needs}
+use Rattle.wire.proofs.Prelude.{Bool, _∙_, ap, ap₂, eq-eqb, eqb, ltb, ne-eqb, needs, not, ℕ}
 use Rattle.answers.specs.Answers.{refuse, orElse}
 use Rattle.journal_blocks.proofs.Checking.{in-order}
 use Rattle.journal_blocks.specs.Blocks.{maxBlock, blockNumber, blockFormed}

@@ -1,10 +1,5 @@
 -- `journal_blocks::checks::is_checked` meets its contract. Assumes nothing.
-use Prim.Native.Nat.{_-_}
-use mathlib.Core.Path.{ap₂, _∙_}
-use native.Mathlib.Omega.{arith}
-use lib.ListN.{length, drop, length-take, length-drop}
-use lib.Seq.{take-all}
-use borrow.Author.Needs.{needs}
+use Rattle.wire.proofs.Prelude.{_-_, _∙_, ap₂, arith, drop, length, length-drop, length-take, needs, take-all}
 use Rattle.journal_blocks.specs.Checked.{checked}
 use Rattle.wire.specs.BigEndian.{same}
 use Rattle.journal_blocks.proofs.checks.is_checked.Statement.{statement}

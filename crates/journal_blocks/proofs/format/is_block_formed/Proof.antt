@@ -1,9 +1,5 @@
 -- `journal_blocks::format::is_block_formed` meets its contract. Assumes nothing.
-use mathlib.Core.Bool.{false≢true}
-use mathlib.Core.Path.{sym, _∙_}
-use native.Mathlib.Omega.{arith}
-use borrow.Author.Tests.{not-true, not-false}
-use borrow.Author.Needs.{needs}
+use Rattle.wire.proofs.Prelude.{_∙_, arith, false≢true, needs, not-false, not-true, sym}
 use Rattle.journal_blocks.proofs.Forming.{facts-formed-block, formed-block-facts, tail-is}
 use Rattle.wire.proofs.Lists.{not-held, same-tests}
 use Rattle.wire.proofs.Numbers.{field-one}

@@ -1,7 +1,5 @@
 -- `journal_blocks::format::kind_of_block` meets its contract. Assumes nothing.
-use mathlib.Core.Path.{sym}
-use native.Mathlib.Omega.{arith}
-use borrow.Author.Needs.{needs}
+use Rattle.wire.proofs.Prelude.{arith, needs, sym}
 use Rattle.journal_blocks.proofs.Sizes.{records-block}
 use Rattle.journal_blocks.proofs.format.kind_of_block.Statement.{statement}
 use Rattle.journal_blocks.proofs.format.kind_of_block.Tie as tie

@@ -1,7 +1,5 @@
 -- `journal_blocks::format::stated_count` meets its contract. Assumes nothing.
-use mathlib.Core.Path.{sym, _∙_}
-use native.Mathlib.Omega.{arith}
-use borrow.Author.Needs.{needs}
+use Rattle.wire.proofs.Prelude.{_∙_, arith, needs, sym}
 use Rattle.wire.proofs.Numbers.{field-one, field-none}
 use Rattle.journal_blocks.proofs.format.stated_count.Statement.{statement}
 use Rattle.journal_blocks.proofs.format.stated_count.Tie as tie

@@ -1,13 +1,10 @@
 -- `pair_validator::PairValidator::open` meets its contract. Assumes nothing.
-use Prim.Native.Nat.{ℕ}
+use Rattle.wire.proofs.Prelude.{List, _∙_, ap, needs, refl, ℕ}
 use Rattle.answers.specs.Answers.{answer}
 use Rattle.pair_core.specs.Layout.{pairOpenedWords, pairZeroWords}
 use Rattle.pair_validator.specs.declared.PairValidator.{PairValidator}
 use Rattle.places.proofs.Openings.{opening-in}
 use Rattle.rules.specs.PairValidator.{pairOpeningRefusal}
-use borrow.Author.Needs.{needs}
-use mathlib.Core.List.{List}
-use mathlib.Core.Path.{_∙_, ap, refl}
 use Rattle.pair_validator.proofs.PairValidator.open.Statement.{statement}
 use Rattle.pair_validator.proofs.PairValidator.open.Tie as tie
 

@@ -1,9 +1,7 @@
 -- `pair_validator::asked::accepted` meets its contract. Assumes nothing.
-use Prim.Native.Nat.{_*_}
+use Rattle.wire.proofs.Prelude.{_*_, needs, refl}
 use Rattle.pair_core.specs.Layout.{indexLength, indexOn, recordsOn}
 use Rattle.table.proofs.Numbers.{index-none}
-use borrow.Author.Needs.{needs}
-use mathlib.Core.Path.{refl}
 use Rattle.pair_validator.proofs.asked.accepted.Statement.{statement}
 use Rattle.pair_validator.proofs.asked.accepted.Tie as tie
 

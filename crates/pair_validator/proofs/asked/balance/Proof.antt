@@ -1,11 +1,7 @@
 -- `pair_validator::asked::balance` meets its contract. Assumes nothing.
 use Rattle.pair_core.specs.Layout.{acceptsPair}
 use Rattle.pair_validator.proofs.PairTotals.{no-such-ledger, pair-balance-passed, pair-on-ledger}
-use borrow.Author.Needs.{needs}
-use borrow.Author.Tests.{not-false, not-true}
-use mathlib.Core.Bool.{true}
-use mathlib.Core.Path.{_∙_, _≡_, sym}
-use native.Mathlib.Omega.{arith}
+use Rattle.wire.proofs.Prelude.{_∙_, _≡_, arith, needs, not-false, not-true, sym, true}
 use Rattle.pair_validator.proofs.asked.balance.Statement.{statement}
 use Rattle.pair_validator.proofs.asked.balance.Tie as tie
 

@@ -1,14 +1,8 @@
 -- `pair_validator::asked::figures` meets its contract. Assumes nothing.
-use Prim.Native.Nat.{ℕ}
-use mathlib.Core.List.{List}
+use Rattle.wire.proofs.Prelude.{List, _∙_, _≡_, arith, needs, not-false, not-true, sym, true, ℕ}
 use Rattle.pair_core.specs.Layout.{acceptsPair, ledgerOn}
 use Rattle.pair_validator.proofs.PairTotals.{pair-figures-passed, pair-on-ledger, pair-supply-shared, pair-total}
 use Rattle.rules.specs.Lists.{total}
-use borrow.Author.Needs.{needs}
-use borrow.Author.Tests.{not-false, not-true}
-use mathlib.Core.Bool.{true}
-use mathlib.Core.Path.{_∙_, _≡_, sym}
-use native.Mathlib.Omega.{arith}
 use Rattle.pair_validator.proofs.asked.figures.Statement.{statement}
 use Rattle.pair_validator.proofs.asked.figures.Tie as tie
 

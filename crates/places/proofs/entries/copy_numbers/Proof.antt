@@ -1,12 +1,6 @@
 -- `places::entries::copy_numbers` meets its contract. Assumes nothing.
-use Prim.Native.Nat.{_+_, _-_, _≤_, ℕ}
-use mathlib.Core.List.{List, _++_, append-assoc}
-use mathlib.Core.Path.{_∙_, _≡_, ap, refl}
-use native.Mathlib.Numerals.{add-one}
-use native.Mathlib.Omega.{arith}
-use lib.ListN.{drop, getD, length, length-set, set, take}
-use lib.Seq.{paste, paste-suc, paste-zero, take-length}
-use borrow.Author.Needs.{needs}
+use Rattle.wire.proofs.Prelude.{List, _++_, _+_, _-_, _∙_, _≡_, _≤_, add-one, ap, append-assoc, arith, drop, getD, length, length-set}
+use Rattle.wire.proofs.Prelude.{needs, paste, paste-suc, paste-zero, refl, set, take, take-length, ℕ}
 use Rattle.places.proofs.entries.copy_numbers.Statement.{statement}
 use Rattle.places.proofs.entries.copy_numbers.Tie as tie
 

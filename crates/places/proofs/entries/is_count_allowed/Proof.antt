@@ -1,7 +1,5 @@
 -- `places::entries::is_count_allowed` meets its contract. Assumes nothing.
-use mathlib.Core.Path.{_∙_, sym}
-use native.Mathlib.Omega.{arith}
-use borrow.Author.Tests.{le-ltb, lt-ltb}
+use Rattle.wire.proofs.Prelude.{_∙_, arith, le-ltb, lt-ltb, sym}
 use Rattle.rules.specs.PairValidator.{countAllowed}
 use Rattle.wire.proofs.Lists.{every-not, every-one, every-skip}
 use Rattle.places.proofs.entries.is_count_allowed.Statement.{statement}

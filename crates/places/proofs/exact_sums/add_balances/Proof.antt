@@ -1,9 +1,5 @@
 -- `places::exact_sums::add_balances` meets its contract. Assumes nothing.
-use Prim.Native.Nat.{_+_, _-_, _<_, _^_, _≤_, ℕ}
-use mathlib.Core.Path.{_≡_}
-use native.Mathlib.Omega.{arith}
-use lib.ListN.{getD}
-use borrow.Author.Needs.{needs}
+use Rattle.wire.proofs.Prelude.{_+_, _-_, _<_, _^_, _≡_, _≤_, arith, getD, needs, ℕ}
 use Rattle.places.proofs.ExactSums.{all-places, half-fits, half-low, halves-added, halves-fit, halves-more, halves-none}
 use Rattle.places.proofs.OverPlaces.{sum-more, sum-none}
 use Rattle.places.specs.ExactSums.{Halves}

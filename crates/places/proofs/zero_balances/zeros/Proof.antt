@@ -1,11 +1,5 @@
 -- `places::zero_balances::zeros` meets its contract. Assumes nothing.
-use Prim.Native.Nat.{_+_, _-_, _≤_, ℕ}
-use mathlib.Core.Path.{_∙_, _≡_, sym}
-use native.Mathlib.Omega.{arith}
-use lib.Dec.{eqb}
-use lib.ListN.{getD}
-use borrow.Author.Needs.{needs}
-use borrow.Author.Tests.{eq-eqb, ne-eqb}
+use Rattle.wire.proofs.Prelude.{_+_, _-_, _∙_, _≡_, _≤_, arith, eq-eqb, eqb, getD, ne-eqb, needs, sym, ℕ}
 use Rattle.places.proofs.OverPlaces.{all-end, all-here, all-on, from-start}
 use Rattle.places.specs.LedgerBalances.{zerosAt}
 use Rattle.places.specs.OverPlaces.{allAt}

@@ -1,7 +1,5 @@
 -- `records::Record::read` meets its contract. Assumes nothing.
-use mathlib.Core.Path.{_∙_, ap}
-use borrow.Author.Needs.{needs}
-use borrow.Author.Tests.{eq-eqb, ne-eqb}
+use Rattle.wire.proofs.Prelude.{_∙_, ap, eq-eqb, ne-eqb, needs}
 use Rattle.records.specs.Records.{reading, readingWords}
 use Rattle.records.proofs.Record.read.Statement.{statement}
 use Rattle.records.proofs.Record.read.Tie as tie

@@ -1,7 +1,5 @@
 -- `records::fields::field_bytes` meets its contract. Assumes nothing.
-use mathlib.Core.List.{[], _∷_}
-use lib.ListN.{getD}
-use borrow.Author.Needs.{needs}
+use Rattle.wire.proofs.Prelude.{[], _∷_, getD, needs}
 use Rattle.records.specs.Fields.{fieldBytes}
 use Rattle.wire.specs.BigEndian.{bytesOf}
 use Rattle.records.proofs.fields.field_bytes.Statement.{statement}

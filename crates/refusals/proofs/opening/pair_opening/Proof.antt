@@ -1,11 +1,5 @@
 -- `refusals::opening::pair_opening` meets its contract. Assumes nothing.
-use Prim.Native.Nat.{_+_, _<_, _≤_}
-use mathlib.Core.Bool.{true}
-use mathlib.Core.Path.{_∙_, _≡_, sym}
-use native.Mathlib.Omega.{arith}
-use lib.ListN.{length}
-use borrow.Author.Needs.{needs}
-use borrow.Author.Tests.{not-false, not-true}
+use Rattle.wire.proofs.Prelude.{_+_, _<_, _∙_, _≡_, _≤_, arith, length, needs, not-false, not-true, sym, true}
 use Rattle.ledgers.specs.Limits.{maxAmount}
 use Rattle.places.proofs.ExactSums.{added-after, added-value, wide-fits, wide-passes}
 use Rattle.places.proofs.Openings.{count-facts, far-refused, home-refused, low-is-wide, none-refused, supply-refused, total-sum}

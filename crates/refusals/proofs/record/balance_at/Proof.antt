@@ -1,7 +1,5 @@
 -- `refusals::record::balance_at` meets its contract. Assumes nothing.
-use native.Mathlib.Omega.{arith}
-use borrow.Author.Needs.{needs}
-use borrow.Author.Tests.{le-ltb, lt-ltb}
+use Rattle.wire.proofs.Prelude.{arith, le-ltb, lt-ltb, needs}
 use Rattle.places.specs.LedgerBalances.{balanceAt}
 use Rattle.refusals.proofs.record.balance_at.Statement.{statement}
 use Rattle.refusals.proofs.record.balance_at.Tie as tie

@@ -1,10 +1,5 @@
 -- `refusals::record::first_refusals` meets its contract. Assumes nothing.
-use Prim.Native.Nat.{ℕ}
-use mathlib.Core.Bool.{not}
-use mathlib.Core.Path.{_∙_, ap, ap₂}
-use native.Mathlib.Omega.{arith}
-use lib.Dec.{leb}
-use borrow.Author.Needs.{needs}
+use Rattle.wire.proofs.Prelude.{_∙_, ap, ap₂, arith, leb, needs, not, ℕ}
 use Rattle.answers.proofs.Answers.{refuse-else}
 use Rattle.answers.specs.Answers.{orElse, refuse}
 use Rattle.places.specs.LedgerBalances.{firstBy}

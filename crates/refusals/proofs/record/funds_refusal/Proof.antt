@@ -1,8 +1,5 @@
 -- `refusals::record::funds_refusal` meets its contract. Assumes nothing.
-use Prim.Native.Nat.{ℕ}
-use mathlib.Core.Path.{_∙_, ap}
-use lib.Dec.{ltb}
-use borrow.Author.Needs.{needs}
+use Rattle.wire.proofs.Prelude.{_∙_, ap, ltb, needs, ℕ}
 use Rattle.answers.specs.Answers.{refuse}
 use Rattle.places.specs.LedgerBalances.{fundsAt}
 use Rattle.refusals.proofs.record.funds_refusal.Statement.{statement}

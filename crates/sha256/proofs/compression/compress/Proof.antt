@@ -1,6 +1,5 @@
 -- `sha256::compression::compress` meets its contract. Assumes nothing.
-use mathlib.Core.Path.{_∙_}
-use borrow.Author.Needs.{needs}
+use Rattle.wire.proofs.Prelude.{_∙_, needs}
 use Rattle.sha256.proofs.Rounds.{compressed-by-sixteen}
 use Rattle.sha256.proofs.compression.compress.Statement.{statement}
 use Rattle.sha256.proofs.compression.compress.Tie as tie

@@ -1,6 +1,5 @@
 -- `places::exact_sums::Wide::add_halves` meets its contract. Assumes nothing.
-use native.Mathlib.Omega.{arith}
-use borrow.Author.Needs.{needs}
+use Rattle.wire.proofs.Prelude.{arith, needs}
 use Rattle.places.proofs.ExactSums.{high-added}
 use Rattle.places.proofs.exact_sums.Wide.add_halves.Statement.{statement}
 use Rattle.places.proofs.exact_sums.Wide.add_halves.Tie as tie
