@@ -2,20 +2,20 @@
 // answer, as every call does, and does nothing else.
 ghost use mathlib.Core.Path.{_≡_};
 ghost use Rattle.answers.specs.declared.Answer.the-variants.{Passed};
-ghost use Rattle.moatbetony.specs.Told.{pairTold, homeTold};
+ghost use Rattle.moatbetony.specs.Plain.{pairOutcome, homeOutcome};
 use home_validator::HomeValidator;
-use moatbetony::HomeTold;
-use moatbetony::PairTold;
-use moatbetony::Told;
+use moatbetony::HomeOutcome;
+use moatbetony::PairOutcome;
+use moatbetony::PlainAnswer;
 use pair_validator::PairValidator;
 
 // The pair validator's echo.
 #[no_mangle]
-pub extern "C" fn bench_pair_echo(state: PairValidator) -> PairTold
-    ensures { λ r. ⌜ r ≡ pairTold Passed state ⌝ }
+pub extern "C" fn bench_pair_echo(state: PairValidator) -> PairOutcome
+    ensures { λ r. ⌜ r ≡ pairOutcome Passed state ⌝ }
 {
-    PairTold {
-        answer: Told {
+    PairOutcome {
+        answer: PlainAnswer {
             number: 0,
             passed: 1,
             place: 0,
@@ -26,11 +26,11 @@ pub extern "C" fn bench_pair_echo(state: PairValidator) -> PairTold
 
 // The home validator's echo.
 #[no_mangle]
-pub extern "C" fn bench_home_echo(state: HomeValidator) -> HomeTold
-    ensures { λ r. ⌜ r ≡ homeTold Passed state ⌝ }
+pub extern "C" fn bench_home_echo(state: HomeValidator) -> HomeOutcome
+    ensures { λ r. ⌜ r ≡ homeOutcome Passed state ⌝ }
 {
-    HomeTold {
-        answer: Told {
+    HomeOutcome {
+        answer: PlainAnswer {
             number: 0,
             passed: 1,
             place: 0,

@@ -1,8 +1,9 @@
 -- What accepted words have, and that what is tested of words is what refusal 3 asks of them. Assumes nothing.
 use Rattle.wire.proofs.Prelude.{Bool, List, [], _&&_, _+_, _-_, _∙_, _∷_, _≡_, _≤_, arith, drop, eq-eqb, eqb, eqb-true, false, getD, le-leb}
 use Rattle.wire.proofs.Prelude.{leb-true, length, length-drop, length-take-le, refl, subst, sym, true, ℕ}
-use Rattle.home_core.specs.Layout.{HomeReady, acceptsHome, balancesFrom, countOf, farsOf, homeBounds, homeViewOf, homeWords, homesOf}
-use Rattle.home_core.specs.Layout.{poolOf, supplyOf}
+use Rattle.home_core.specs.Layout.{HomeReady, acceptsHome, balancesFrom, homeCountOf, farsOf, homeBounds, homeViewOf, homeWords}
+use Rattle.home_core.specs.Layout.{homesOf}
+use Rattle.home_core.specs.Layout.{poolOf, homeSupplyOf}
 use Rattle.ledgers.specs.Limits.{accountLimit, capacity, maxAmount}
 use Rattle.places.proofs.BalanceTotals.{balances-sum}
 use Rattle.places.proofs.Openings.{count-facts, facts-count}
@@ -30,8 +31,8 @@ pub record HomeBounds (s : List ℕ) : Type 0 where
   pub home-fits : homesOf s ≤ accountLimit
   pub far-some : 1 ≤ farsOf s
   pub far-fits : farsOf s ≤ accountLimit
-  pub room : countOf s ≤ capacity
-  pub supply-fits : supplyOf s ≤ maxAmount
+  pub room : homeCountOf s ≤ capacity
+  pub supply-fits : homeSupplyOf s ≤ maxAmount
 
 -- from the test
 pub bounds-facts : (s : List ℕ) → homeBounds s ≡ true → HomeBounds s
@@ -46,8 +47,8 @@ bounds-facts s h =
       home-fits = count-facts (homesOf s) (a .0) .1;
       far-some = count-facts (farsOf s) (b .0) .0;
       far-fits = count-facts (farsOf s) (b .0) .1;
-      room = leb-true (countOf s) capacity (c .0);
-      supply-fits = leb-true (supplyOf s) maxAmount (d .0);
+      room = leb-true (homeCountOf s) capacity (c .0);
+      supply-fits = leb-true (homeSupplyOf s) maxAmount (d .0);
     }
 
 -- and back
@@ -56,8 +57,8 @@ unfolding homeBounds supplyAllowed
 facts-bounds s b =
     every-both _ _ (facts-count (homesOf s) (b .home-some) (b .home-fits))
     (every-both _ _ (facts-count (farsOf s) (b .far-some) (b .far-fits))
-    (every-both _ _ (le-leb (countOf s) capacity (b .room))
-    (every-both _ _ (le-leb (supplyOf s) maxAmount (b .supply-fits))
+    (every-both _ _ (le-leb (homeCountOf s) capacity (b .room))
+    (every-both _ _ (le-leb (homeSupplyOf s) maxAmount (b .supply-fits))
     every-none)))
 
 -- ## Accepted words
@@ -67,7 +68,7 @@ pub record HomeSound (s : List ℕ) : Type 0 where
   pub long : length s ≡ homeWords
   pub bounds : HomeBounds s
   pub zeros : zerosAt s (balancesFrom + homesOf s) (accountLimit - homesOf s) ≡ true
-  pub reads : allAt (λ (i : ℕ). formed (wordsAt s 0 i)) 0 (countOf s) ≡ true
+  pub reads : allAt (λ (i : ℕ). formed (wordsAt s 0 i)) 0 (homeCountOf s) ≡ true
   pub accepted : homeAccepts capacity (homeViewOf s) ≡ true
 
 -- from the test
@@ -101,9 +102,9 @@ sound-accepts s h =
 -- ## The ledger as the rules see it
 
 -- it has as many held records as the count says
-pub length-held : (s : List ℕ) → length (homeViewOf s .home .passed) ≡ countOf s
+pub length-held : (s : List ℕ) → length (homeViewOf s .home .passed) ≡ homeCountOf s
 unfolding ledgerIn
-length-held s = length-records s 0 (countOf s)
+length-held s = length-records s 0 (homeCountOf s)
 
 module _ (s : List ℕ) (z : length s ≡ homeWords) (fits : homesOf s ≤ accountLimit) where
   -- it has as many balances as accounts
@@ -128,11 +129,11 @@ module _ (s : List ℕ) (z : length s ≡ homeWords) (fits : homesOf s ≤ accou
 
 -- the test of the held records
 abbrev holdsAll : List ℕ → Bool
-holdsAll s = allAt (mayHoldAt s 0 Home (accountsBy Home (homesOf s) (farsOf s))) 0 (countOf s)
+holdsAll s = allAt (mayHoldAt s 0 Home (accountsBy Home (homesOf s) (farsOf s))) 0 (homeCountOf s)
 
 -- the test of their numbers
 abbrev apartAll : List ℕ → Bool
-apartAll s = apartAt (numberAt s 0) 0 (countOf s)
+apartAll s = apartAt (numberAt s 0) 0 (homeCountOf s)
 
 -- the sum of the balances and of the far pool
 abbrev sumAll : List ℕ → ℕ
@@ -146,25 +147,25 @@ testsHome s =
     ∷ homeBounds s
     ∷ zerosAt s (balancesFrom + homesOf s) (accountLimit - homesOf s)
     ∷ (holdsAll s && apartAll s)
-    ∷ eqb (sumAll s) (supplyOf s)
+    ∷ eqb (sumAll s) (homeSupplyOf s)
     ∷ []
     )
 
 module _ (s : List ℕ) (z : length s ≡ homeWords) (b : HomeBounds s) where
   -- records that the ledger may hold
-  held-there : holdsAll s ≡ true → AllHeld s 0 (countOf s) Home (homeAccounts (homeViewOf s))
+  held-there : holdsAll s ≡ true → AllHeld s 0 (homeCountOf s) Home (homeAccounts (homeViewOf s))
   held-there h =
-      subst (AllHeld s 0 (countOf s) Home) (sym (accounts-are s z (b .home-fits)))
-      (all-held s 0 (countOf s) Home (accountsBy Home (homesOf s) (farsOf s)) h)
+      subst (AllHeld s 0 (homeCountOf s) Home) (sym (accounts-are s z (b .home-fits)))
+      (all-held s 0 (homeCountOf s) Home (accountsBy Home (homesOf s) (farsOf s)) h)
 
   -- and back
-  held-back : AllHeld s 0 (countOf s) Home (homeAccounts (homeViewOf s)) → holdsAll s ≡ true
+  held-back : AllHeld s 0 (homeCountOf s) Home (homeAccounts (homeViewOf s)) → holdsAll s ≡ true
   held-back h =
-      held-all s 0 (countOf s) Home (accountsBy Home (homesOf s) (farsOf s))
-      (subst (AllHeld s 0 (countOf s) Home) (accounts-are s z (b .home-fits)) h)
+      held-all s 0 (homeCountOf s) Home (accountsBy Home (homesOf s) (farsOf s))
+      (subst (AllHeld s 0 (homeCountOf s) Home) (accounts-are s z (b .home-fits)) h)
 
   -- what is tested gives the facts of an accepted state
-  tested-facts : holdsAll s ≡ true → apartAll s ≡ true → sumAll s ≡ supplyOf s → HomeFacts capacity (homeViewOf s)
+  tested-facts : holdsAll s ≡ true → apartAll s ≡ true → sumAll s ≡ homeSupplyOf s → HomeFacts capacity (homeViewOf s)
   unfolding supplyAllowed ledgerIn
   tested-facts holds apart adds =
       let h = held-there holds in
@@ -172,9 +173,9 @@ module _ (s : List ℕ) (z : length s ≡ homeWords) (b : HomeBounds s) where
         home-count = rw (length-balances s z (b .home-fits)) (facts-count (homesOf s) (b .home-some) (b .home-fits));
         far-count = facts-count (farsOf s) (b .far-some) (b .far-fits);
         room = rw (length-held s) (b .room);
-        supply-fits = le-leb (supplyOf s) maxAmount (b .supply-fits);
+        supply-fits = le-leb (homeSupplyOf s) maxAmount (b .supply-fits);
         allowed = h .allowed;
-        distinct = unshared-distinct _ (sym (apart-records s 0 (countOf s)) ∙ apart);
+        distinct = unshared-distinct _ (sym (apart-records s 0 (homeCountOf s)) ∙ apart);
         stand = h .stand;
         sums = omega (arith, adds, total-is s z (b .home-fits));
       }
@@ -206,14 +207,14 @@ unfolding testsHome ledgerIn
 accepts-tests s h =
     let o = sound-of s h in
     let f = home-accepts-facts capacity (homeViewOf s) (o .accepted) in
-    let adds : sumAll s ≡ supplyOf s = omega (arith, f .sums, total-is s (o .long) (o .bounds .home-fits)) in
+    let adds : sumAll s ≡ homeSupplyOf s = omega (arith, f .sums, total-is s (o .long) (o .bounds .home-fits)) in
     let holds = held-back s (o .long) (o .bounds) (record { read = o .reads; stand = f .stand; allowed = f .allowed }) in
-    let apart = apart-records s 0 (countOf s) ∙ distinct-unshared _ (f .distinct) in
+    let apart = apart-records s 0 (homeCountOf s) ∙ distinct-unshared _ (f .distinct) in
     every-both _ _ (eq-eqb (length s) homeWords (o .long))
     (every-both _ _ (facts-bounds s (o .bounds))
     (every-both _ _ (o .zeros)
     (every-both _ _ (rw (holds, apart))
-    (every-both _ _ (eq-eqb (sumAll s) (supplyOf s) adds)
+    (every-both _ _ (eq-eqb (sumAll s) (homeSupplyOf s) adds)
     every-none))))
 
 -- what is tested is what refusal 3 asks

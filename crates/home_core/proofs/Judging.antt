@@ -3,7 +3,7 @@ use Rattle.wire.proofs.Prelude.{Bool, List, _∙_, _≡_, false, leb, refl, sym
 use Rattle.answers.proofs.Answers.{refuse-later}
 use Rattle.answers.specs.Answers.{orElse, refuse}
 use Rattle.home_core.proofs.Accept.{length-held}
-use Rattle.home_core.specs.Layout.{balancesFrom, countOf, homeViewOf, homesOf, poolOf}
+use Rattle.home_core.specs.Layout.{balancesFrom, homeCountOf, homeViewOf, homesOf, poolOf}
 use Rattle.ledgers.specs.Ledgers.{ledgerOf, receiverLedger, senderLedger}
 use Rattle.ledgers.specs.Limits.{capacity}
 use Rattle.places.proofs.Refusals.{funds-at, judged-by}
@@ -34,14 +34,15 @@ module _ (s : List ℕ) (r : Record) where
   pub judge-by : {far senders receivers last full later rest n : ℕ} {taken : Bool} → far ≡ refuse (isFar (ledgerOf (r .kind))) 33 0
       → senders ≡ homeAccounts (homeViewOf s) (senderLedger (r .kind))
       → receivers ≡ homeAccounts (homeViewOf s) (receiverLedger (r .kind))
-      → last ≡ homeLastRefusal (homeViewOf s) r (r .kind) → full ≡ refuse (leb capacity (countOf s)) 41 0 → later ≡ orElse last full
-      → taken ≡ anyAt (numberedAt (r .number) s 0) 0 (countOf s) → rest ≡ firstBy senders receivers r taken later
+      → last ≡ homeLastRefusal (homeViewOf s) r (r .kind) → full ≡ refuse (leb capacity (homeCountOf s)) 41 0 → later ≡ orElse last full
+      → taken ≡ anyAt (numberedAt (r .number) s 0) 0 (homeCountOf s) → rest ≡ firstBy senders receivers r taken later
       → n ≡ orElse far rest → n ≡ homeJudge capacity (homeViewOf s) (Read r)
   unfolding homeJudgeRecord roomRefusal ledgerIn
   judge-by ef es ev el eu ea et er h =
       let v = homeViewOf s in
       let x = homeLastRefusal v r (r .kind) in
-      let e = judged-by (homeAccounts v) (v .home .passed) r x es ev el (rw (length-held s) eu) ea (rw (clash-records s 0 r (countOf s)) et) er in
+      let e = judged-by (homeAccounts v) (v .home .passed) r x es ev el (rw (length-held s) eu) ea (rw (clash-records s 0 r (homeCountOf
+      s)) et) er in
       h
       ∙ rw (ef, e) (refuse-later (isFar (ledgerOf (r .kind))) 32 0 _)
       ∙ sym (refuse-later (isFar (ledgerOf (r .kind))) 32 (firstRefusal (homeAccounts v) (v .home .passed) r x) _)

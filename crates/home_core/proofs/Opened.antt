@@ -4,10 +4,10 @@ use Rattle.wire.proofs.Prelude.{List, [], _*_, _++_, _+_, _∙_, _∷_, _≡_, 
 use Rattle.wire.proofs.Prelude.{length-replicate, refl, replicate, replicate-append-replicate, set, take, ℕ}
 use Rattle.home_core.proofs.Accept.{HomeSound}
 use Rattle.home_core.specs.Layout.{acceptsHome, balancesFrom, farsWord, homeBounds, homeOpenedWords, homeViewOf, homeZeroWords}
-use Rattle.home_core.specs.Layout.{homesWord, poolWord, supplyWord}
+use Rattle.home_core.specs.Layout.{homesWord, poolWord, homeSupplyWord}
 use Rattle.ledgers.specs.Limits.{accountLimit, capacity, maxAmount}
 use Rattle.places.proofs.Openings.{Stands, copied, count-facts, stands, stored-behind}
-use Rattle.places.specs.LedgerBalances.{padded}
+use Rattle.places.specs.LedgerBalances.{zeroFilled}
 use Rattle.places.specs.OverPlaces.{allAt, listAt}
 use Rattle.rules.proofs.HomeAccepted.{home-opened-accepted}
 use Rattle.rules.proofs.PairConserved.{opening-none}
@@ -27,8 +27,8 @@ zeros-split a b c = simp replicate-append-replicate
 stores-leave : (z : List ℕ) → length z ≡ balancesFrom → (homes : List ℕ) → length homes ≤ accountLimit → (s first : List ℕ)
     → (supply pool n m : ℕ) → s ≡ z ++ (replicate accountLimit 0 ++ replicate 5 0)
     → first ≡ take balancesFrom s ++ (homes ++ drop (balancesFrom + length homes) s)
-    → set (set (set (set first supplyWord supply) poolWord pool) homesWord n) farsWord m
-    ≡ z ++ (padded homes ++ supply ∷ pool ∷ n ∷ m ∷ 0 ∷ [])
+    → set (set (set (set first homeSupplyWord supply) poolWord pool) homesWord n) farsWord m
+    ≡ z ++ (zeroFilled homes ++ supply ∷ pool ∷ n ∷ m ∷ 0 ∷ [])
 stores-leave z e homes h s first supply pool n m q a =
     rw (
       a,
@@ -44,13 +44,13 @@ module _ (homes : List ℕ) (fars farTotal : ℕ) where
   -- the words of an opening are what the stores leave in words of zeros
   pub opened-by : length homes ≤ accountLimit → (s first : List ℕ) (supply : ℕ) → s ≡ homeZeroWords → supply ≡ total homes + farTotal
       → first ≡ take balancesFrom s ++ (homes ++ drop (balancesFrom + length homes) s)
-      → set (set (set (set first supplyWord supply) poolWord farTotal) homesWord (length homes)) farsWord fars
+      → set (set (set (set first homeSupplyWord supply) poolWord farTotal) homesWord (length homes)) farsWord fars
       ≡ homeOpenedWords homes fars farTotal
   unfolding homeOpenedWords homeZeroWords
   opened-by h s first supply q u a =
       stores-leave (replicate (4 * capacity) 0) (length-replicate {A = ℕ} (4 * capacity) 0) homes h s first supply farTotal
       (length homes) fars (q ∙ zeros-split (4 * capacity) accountLimit 5) a
-      ∙ ap (λ (n : ℕ). replicate (4 * capacity) 0 ++ (padded homes ++ n ∷ farTotal ∷ length homes ∷ fars ∷ 0 ∷ [])) u
+      ∙ ap (λ (n : ℕ). replicate (4 * capacity) 0 ++ (zeroFilled homes ++ n ∷ farTotal ∷ length homes ∷ fars ∷ 0 ∷ [])) u
 
   -- ## An accepted opening
 
@@ -74,7 +74,7 @@ module _ (homes : List ℕ) (fars farTotal : ℕ) where
         stands (replicate (4 * capacity) 0) balancesFrom (length-replicate {A = ℕ} (4 * capacity) 0) homes opened-count scalars
 
     -- each of the last five
-    last : (k : ℕ) → getD opened (supplyWord + k) 0 ≡ getD scalars k 0
+    last : (k : ℕ) → getD opened (homeSupplyWord + k) 0 ≡ getD scalars k 0
     last = opened-stand .behind
 
     -- they are, seen as the rules' state, the rules' opened state

@@ -4,8 +4,9 @@ use Rattle.wire.proofs.Prelude.{List, _*_, _+_, _-_, _<_, _^_, _∙_, _≡_, _�
 use Rattle.wire.proofs.Prelude.{length-set, refl, set, sym, true, ℕ}
 use Rattle.answers.proofs.Answers.{or-else-zero}
 use Rattle.home_core.proofs.Accept.{HomeBounds, HomeSound, length-balances, length-held, sound-accepts, sound-of}
-use Rattle.home_core.specs.Layout.{HomeReady, acceptsHome, balancesFrom, countOf, countWord, farsOf, farsWord, homeViewOf, homeWith}
-use Rattle.home_core.specs.Layout.{homesOf, homesWord, poolOf, poolWord, supplyOf, supplyWord}
+use Rattle.home_core.specs.Layout.{HomeReady, acceptsHome, balancesFrom, homeCountOf, homeCountWord, farsOf, farsWord, homeViewOf}
+use Rattle.home_core.specs.Layout.{homeWith}
+use Rattle.home_core.specs.Layout.{homesOf, homesWord, poolOf, poolWord, homeSupplyOf, homeSupplyWord}
 use Rattle.ledgers.specs.Limits.{accountLimit, capacity, maxAmount}
 use Rattle.places.proofs.PassedRecord.{Changes, zeros-kept}
 use Rattle.places.specs.Entries.{givenBy, takenBy}
@@ -35,13 +36,13 @@ module _ (s : List ℕ) (o : HomeSound s) where
   -- any balance is at most the greatest amount
   balance-most : (i : ℕ) → i < accountLimit → getD s (balancesFrom + i) 0 ≤ maxAmount
   balance-most i h =
-      balance-fits s balancesFrom (homesOf s) 0 (countOf s) accountLimit (o .zeros) maxAmount (omega (arith, sums-fit)) i h
+      balance-fits s balancesFrom (homesOf s) 0 (homeCountOf s) accountLimit (o .zeros) maxAmount (omega (arith, sums-fit)) i h
 
 -- ## A pass
 
 -- what a pass says of a record of a kind
 pub record HomePasses (s : List ℕ) (r : Record) (k : Kind) : Type 0 where
-  pub room : countOf s < capacity
+  pub room : homeCountOf s < capacity
   pub changes : Changes (homesOf s) r k
   pub sender : r .sender < accountLimit
   pub receiver : r .receiver < accountLimit
@@ -49,7 +50,7 @@ pub record HomePasses (s : List ℕ) (r : Record) (k : Kind) : Type 0 where
   pub pool-has : givenBy k (r .amount) ≤ poolOf s + takenBy k (r .amount)
   pub pool-fits : poolOf s + takenBy k (r .amount) ≤ maxAmount
 
-module _ (s : List ℕ) (o : HomeSound s) (r : Record) (space : countOf s < capacity) where
+module _ (s : List ℕ) (o : HomeSound s) (r : Record) (space : homeCountOf s < capacity) where
   -- the rules count as many accounts
   own : length (homeViewOf s .home .balances) ≡ homesOf s
   own = length-balances s (o .long) (o .bounds .home-fits)
@@ -57,7 +58,11 @@ module _ (s : List ℕ) (o : HomeSound s) (r : Record) (space : countOf s < capa
   -- the sender's balance, as the rules have it, is within the total
   pays-by : r .sender < homesOf s → (getD s (balancesFrom + r .sender) 0 ≡ getD (homeViewOf s .home .balances) (r .sender) 0)
       × (getD (homeViewOf s .home .balances) (r .sender) 0 ≤ total (homeViewOf s .home .balances))
-  pays-by x = (balance-in s balancesFrom (homesOf s) 0 (countOf s) (r .sender) x, balance-total (homeViewOf s .home .balances) (r .sender))
+  pays-by x = (
+    balance-in s balancesFrom (homesOf s) 0 (homeCountOf s) (r .sender) x,
+    balance-total (homeViewOf s .home .balances) (r
+        .sender),
+  )
 
   -- from what the rules ask
   passes-by : (k : Kind) → HomePassable (homeViewOf s) r k → HomePasses s r k
@@ -101,12 +106,12 @@ pool-moved pool r (Receiving l) = omega arith
 -- words t are those after a pass: the ledger's by its store, the others by name
 pub record HomeWritten (s t : List ℕ) (w : Words) (r : Record) : Type 0 where
   pub long : length t ≡ length s
-  pub below : (i : ℕ) → i < supplyWord → getD t i 0 ≡ getD (stored s balancesFrom (0 + 4 * countOf s) w r) i 0
-  pub supply : supplyOf t ≡ supplyOf s
+  pub below : (i : ℕ) → i < homeSupplyWord → getD t i 0 ≡ getD (stored s balancesFrom (0 + 4 * homeCountOf s) w r) i 0
+  pub supply : homeSupplyOf t ≡ homeSupplyOf s
   pub pool : poolOf t ≡ poolAfter (poolOf s) r (r .kind)
   pub homes : homesOf t ≡ homesOf s
   pub fars : farsOf t ≡ farsOf s
-  pub count : countOf t ≡ countOf s + 1
+  pub count : homeCountOf t ≡ homeCountOf s + 1
 
 -- two words stored, seen elsewhere
 set-two : (x : List ℕ) (j k a b i : ℕ) → (i ≡ j → ⊥) → (i ≡ k → ⊥) → getD (set (set x j a) k b) i 0 ≡ getD x i 0
@@ -115,19 +120,19 @@ set-two x j k a b i p q = getD-set-other (set x j a) k i b 0 q ∙ getD-set-othe
 module _ (s : List ℕ) (w : Words) (r : Record) (o : HomeSound s) (p : HomePasses s r (r .kind)) where
   -- the words after the store
   abbrev after : List ℕ
-  after = stored s balancesFrom (4 * countOf s) w r
+  after = stored s balancesFrom (4 * homeCountOf s) w r
 
   -- the store
-  is-stored : Stored s balancesFrom (homesOf s) (4 * countOf s) w r
+  is-stored : Stored s balancesFrom (homesOf s) (4 * homeCountOf s) w r
   is-stored =
-      stored-of s balancesFrom (homesOf s) (4 * countOf s) w r (p .changes) (omega (arith, p .room))
+      stored-of s balancesFrom (homesOf s) (4 * homeCountOf s) w r (p .changes) (omega (arith, p .room))
       (omega (arith, o .long, o .bounds .home-fits))
 
   -- a word above the balances that is neither the pool nor the count
-  above : (i : ℕ) → supplyWord ≤ i → (i ≡ poolWord → ⊥) → (i ≡ countWord → ⊥) → getD (homeWith s w r) i 0 ≡ getD s i 0
+  above : (i : ℕ) → homeSupplyWord ≤ i → (i ≡ poolWord → ⊥) → (i ≡ homeCountWord → ⊥) → getD (homeWith s w r) i 0 ≡ getD s i 0
   unfolding homeWith
   above i h a b =
-      set-two after poolWord countWord (poolAfter (poolOf s) r (r .kind)) (countOf s + 1) i a b
+      set-two after poolWord homeCountWord (poolAfter (poolOf s) r (r .kind)) (homeCountOf s + 1) i a b
       ∙ is-stored .others i (inr (omega (arith, h, o .bounds .home-fits))) (inr (omega (arith, h, p .room)))
 
   -- what was written
@@ -135,29 +140,29 @@ module _ (s : List ℕ) (w : Words) (r : Record) (o : HomeSound s) (p : HomePass
   unfolding homeWith
   written =
       let x = poolAfter (poolOf s) r (r .kind) in
-      let z : 0 + 4 * countOf s ≡ 4 * countOf s = omega arith in
+      let z : 0 + 4 * homeCountOf s ≡ 4 * homeCountOf s = omega arith in
       record {
-        long = length-set (set after poolWord x) countWord (countOf s + 1) ∙ length-set after poolWord x ∙ is-stored .long;
+        long = length-set (set after poolWord x) homeCountWord (homeCountOf s + 1) ∙ length-set after poolWord x ∙ is-stored .long;
         below =
             λ i h.
-            set-two after poolWord countWord x (countOf s + 1) i (λ q. omega arith) (λ q. omega arith)
+            set-two after poolWord homeCountWord x (homeCountOf s + 1) i (λ q. omega arith) (λ q. omega arith)
             ∙ ap (λ (a : ℕ). getD (stored s balancesFrom a w r) i 0) (sym z);
-        supply = above supplyWord (omega arith) (λ q. omega arith) (λ q. omega arith);
+        supply = above homeSupplyWord (omega arith) (λ q. omega arith) (λ q. omega arith);
         pool =
-            getD-set-other (set after poolWord x) countWord poolWord (countOf s + 1) 0 (λ q. omega arith)
+            getD-set-other (set after poolWord x) homeCountWord poolWord (homeCountOf s + 1) 0 (λ q. omega arith)
             ∙ getD-set-same after poolWord x 0 (omega (arith, is-stored .long, o .long));
         homes = above homesWord (omega arith) (λ q. omega arith) (λ q. omega arith);
         fars = above farsWord (omega arith) (λ q. omega arith) (λ q. omega arith);
-        count = getD-set-same (set after poolWord x) countWord (countOf s + 1) 0
+        count = getD-set-same (set after poolWord x) homeCountWord (homeCountOf s + 1) 0
             (omega (arith, length-set after poolWord x, is-stored .long, o .long));
       }
 
 module _ (s t : List ℕ) (w : Words) (r : Record) (o : HomeSound s) (p : HomePasses s r (r .kind)) (c : HomeWritten s t w r)
     (e : recordIn w ≡ r) where
   -- the ledger
-  ledger-after : LedgerStored s t balancesFrom (homesOf s) 0 (countOf s) supplyWord w r
+  ledger-after : LedgerStored s t balancesFrom (homesOf s) 0 (homeCountOf s) homeSupplyWord w r
   ledger-after =
-      ledger-stored-of s t balancesFrom (homesOf s) 0 (countOf s) supplyWord w r (p .changes) (omega (arith, p .room))
+      ledger-stored-of s t balancesFrom (homesOf s) 0 (homeCountOf s) homeSupplyWord w r (p .changes) (omega (arith, p .room))
       (omega (arith, o .bounds .home-fits)) (omega (arith, o .long)) (c .long) (c .below)
 
   -- the state, as the rules have it
@@ -166,7 +171,7 @@ module _ (s t : List ℕ) (w : Words) (r : Record) (o : HomeSound s) (p : HomePa
       rw (c .supply, c .pool, c .homes, c .fars, c .count)
       (ap
       (λ (l : LedgerState).
-      record { home = l; farAccounts = farsOf s; farPool = poolAfter (poolOf s) r (r .kind); supply = supplyOf s })
+      record { home = l; farAccounts = farsOf s; farPool = poolAfter (poolOf s) r (r .kind); supply = homeSupplyOf s })
       (ledger-after .ledger e))
 
   -- the bounds
@@ -182,7 +187,7 @@ module _ (s t : List ℕ) (w : Words) (r : Record) (o : HomeSound s) (p : HomePa
       ∙ o .zeros)
 
   -- all held records read
-  reads-after : formed w ≡ true → allAt (λ (i : ℕ). formed (wordsAt t 0 i)) 0 (countOf t) ≡ true
+  reads-after : formed w ≡ true → allAt (λ (i : ℕ). formed (wordsAt t 0 i)) 0 (homeCountOf t) ≡ true
   reads-after f = rw (c .count) (ledger-after .reads f (o .reads))
 
   -- accepted again
@@ -199,7 +204,7 @@ module _ (s t : List ℕ) (w : Words) (r : Record) (o : HomeSound s) (p : HomePa
 
   -- with the index of one number more
   ready-after : (index : List ℕ) → HomeReady s index → formed w ≡ true
-      → homeAccepts capacity (homeAfter (homeViewOf s) (Read r)) ≡ true → HomeReady t (grown index 0 (countOf s) (r .number))
+      → homeAccepts capacity (homeAfter (homeViewOf s) (Read r)) ≡ true → HomeReady t (grown index 0 (homeCountOf s) (r .number))
   unfolding recordIn
   ready-after index d f h =
       let q : r .number ≡ w .number = ap (λ (x : Record). x .number) (sym e) in
@@ -208,7 +213,7 @@ module _ (s t : List ℕ) (w : Words) (r : Record) (o : HomeSound s) (p : HomePa
         index-long = simp length-set (d .index-long);
         indexed =
             rw (c .count)
-            (index-grown s t 0 index 0 (countOf s) (r .number) (d .indexed) (omega (arith, d .index-long, p .room))
+            (index-grown s t 0 index 0 (homeCountOf s) (r .number) (d .indexed) (omega (arith, d .index-long, p .room))
             (ledger-after .numbers) (q ∙ ledger-after .number));
       }
 
@@ -216,7 +221,7 @@ module _ (s t : List ℕ) (w : Words) (r : Record) (o : HomeSound s) (p : HomePa
 pub record HomeNext (s : List ℕ) (w : Words) (r : Record) : Type 0 where
   pub accepted : acceptsHome (homeWith s w r) ≡ true
   pub view : homeViewOf (homeWith s w r) ≡ homeAfter (homeViewOf s) (Read r)
-  pub ready : (index : List ℕ) → HomeReady s index → HomeReady (homeWith s w r) (grown index 0 (countOf s) (r .number))
+  pub ready : (index : List ℕ) → HomeReady s index → HomeReady (homeWith s w r) (grown index 0 (homeCountOf s) (r .number))
 
 -- bytes that pass
 pub next-of : (s : List ℕ) → acceptsHome s ≡ true → (b : List ℕ) (r : Record) → reading b ≡ Read r

@@ -9,7 +9,7 @@ use mathlib.Core.Path.{_≡_}
 use lib.Dec.{eqb, leb}
 use lib.ListN.{getD, length, replicate, set}
 use Rattle.ledgers.specs.Limits.{accountLimit, capacity}
-use Rattle.places.specs.LedgerBalances.{padded, zerosAt}
+use Rattle.places.specs.LedgerBalances.{zeroFilled, zerosAt}
 use Rattle.places.specs.NumberIndex.{chainCount}
 use Rattle.places.specs.OverPlaces.{allAt}
 use Rattle.records.specs.Records.{formed, reading, wordsOf}
@@ -31,30 +31,30 @@ abbrev pub balancesFrom : ℕ
 balancesFrom = 4 * capacity
 
 -- the words of the supply, the far pool, the numbers of accounts and of held records
-abbrev pub supplyWord : ℕ
-supplyWord = balancesFrom + accountLimit
+abbrev pub homeSupplyWord : ℕ
+homeSupplyWord = balancesFrom + accountLimit
 
 abbrev pub poolWord : ℕ
-poolWord = supplyWord + 1
+poolWord = homeSupplyWord + 1
 
 abbrev pub homesWord : ℕ
-homesWord = supplyWord + 2
+homesWord = homeSupplyWord + 2
 
 abbrev pub farsWord : ℕ
-farsWord = supplyWord + 3
+farsWord = homeSupplyWord + 3
 
-abbrev pub countWord : ℕ
-countWord = supplyWord + 4
+abbrev pub homeCountWord : ℕ
+homeCountWord = homeSupplyWord + 4
 
 -- all words
 abbrev pub homeWords : ℕ
-homeWords = supplyWord + 5
+homeWords = homeSupplyWord + 5
 
 -- ## What the words say
 
 -- document 01: stake
-abbrev pub supplyOf : List ℕ → ℕ
-supplyOf s = getD s supplyWord 0
+abbrev pub homeSupplyOf : List ℕ → ℕ
+homeSupplyOf s = getD s homeSupplyWord 0
 
 -- document 01: far due
 abbrev pub poolOf : List ℕ → ℕ
@@ -69,17 +69,17 @@ abbrev pub farsOf : List ℕ → ℕ
 farsOf s = getD s farsWord 0
 
 -- of held records
-abbrev pub countOf : List ℕ → ℕ
-countOf s = getD s countWord 0
+abbrev pub homeCountOf : List ℕ → ℕ
+homeCountOf s = getD s homeCountWord 0
 
 -- the state, seen as the rules' state
 abbrev pub homeViewOf : List ℕ → HomeView
 homeViewOf s =
     record {
-      home = ledgerIn s balancesFrom (homesOf s) 0 (countOf s);
+      home = ledgerIn s balancesFrom (homesOf s) 0 (homeCountOf s);
       farAccounts = farsOf s;
       farPool = poolOf s;
-      supply = supplyOf s;
+      supply = homeSupplyOf s;
     }
 
 -- ## 3
@@ -90,8 +90,8 @@ homeBounds s =
     every
     (countAllowed (homesOf s)
     ∷ countAllowed (farsOf s)
-    ∷ leb (countOf s) capacity
-    ∷ supplyAllowed (supplyOf s)
+    ∷ leb (homeCountOf s) capacity
+    ∷ supplyAllowed (homeSupplyOf s)
     ∷ []
     )
 
@@ -103,7 +103,7 @@ acceptsHome s =
     (eqb (length s) homeWords
     ∷ homeBounds s
     ∷ zerosAt s (balancesFrom + homesOf s) (accountLimit - homesOf s)
-    ∷ allAt (λ (i : ℕ). formed (wordsAt s 0 i)) 0 (countOf s)
+    ∷ allAt (λ (i : ℕ). formed (wordsAt s 0 i)) 0 (homeCountOf s)
     ∷ homeAccepts capacity (homeViewOf s)
     ∷ []
     )
@@ -113,7 +113,7 @@ acceptsHome s =
 -- the words once a record has passed: its balances and its own words, the pool, the number of held records
 unfoldable pub homeWith : List ℕ → Words → Record → List ℕ
 homeWith s w r =
-    set (set (stored s balancesFrom (4 * countOf s) w r) poolWord (poolAfter (poolOf s) r (r .kind))) countWord (countOf s + 1)
+    set (set (stored s balancesFrom (4 * homeCountOf s) w r) poolWord (poolAfter (poolOf s) r (r .kind))) homeCountWord (homeCountOf s + 1)
 
 -- the words once what was read has passed
 abbrev pub homeAfterRead : List ℕ → Words → Reading → List ℕ
@@ -135,7 +135,7 @@ homeWordsChecker =
 unfoldable pub homeOpenedWords : List ℕ → ℕ → ℕ → List ℕ
 homeOpenedWords homes fars farTotal =
     replicate (4 * capacity) 0
-    ++ (padded homes ++ (total homes + farTotal) ∷ farTotal ∷ length homes ∷ fars ∷ 0 ∷ [])
+    ++ (zeroFilled homes ++ (total homes + farTotal) ∷ farTotal ∷ length homes ∷ fars ∷ 0 ∷ [])
 
 -- all zero, which 3 refuses: what stands beside a refused opening
 unfoldable pub homeZeroWords : List ℕ
@@ -144,11 +144,11 @@ homeZeroWords = replicate homeWords 0
 -- ## For inner functions
 
 -- the elements of the index of the numbers: the heads of the chains, then the places
-abbrev pub indexLength : ℕ
-indexLength = chainCount + capacity
+abbrev pub homeIndexLength : ℕ
+homeIndexLength = chainCount + capacity
 
 -- a state that is accepted, with the index of its numbers
 pub record HomeReady (s index : List ℕ) : Type 0 where
   pub accepted : acceptsHome s ≡ true
-  pub index-long : length index ≡ indexLength
-  pub indexed : IndexOf s 0 index 0 (countOf s)
+  pub index-long : length index ≡ homeIndexLength
+  pub indexed : IndexOf s 0 index 0 (homeCountOf s)

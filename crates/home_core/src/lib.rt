@@ -7,7 +7,8 @@ ghost use lib.Dec.{eqb};
 ghost use lib.ListN.{getD, length};
 ghost use Rattle.answers.specs.Answers.{unlessRefused};
 ghost use Rattle.home_core.specs.Layout.{HomeReady, acceptsHome, balancesFrom, homeBounds, homeViewOf, homeWith, homeWords};
-ghost use Rattle.home_core.specs.Layout.{homeOpenedWords, homeWordsChecker, homeZeroWords, homesOf, indexLength, poolOf, supplyOf};
+ghost use Rattle.home_core.specs.Layout.{homeOpenedWords, homeWordsChecker, homeZeroWords, homesOf, homeIndexLength, poolOf};
+ghost use Rattle.home_core.specs.Layout.{homeSupplyOf};
 ghost use Rattle.ledgers.specs.Limits.{capacity};
 ghost use Rattle.places.specs.OverPlaces.{sumAt};
 ghost use Rattle.records.specs.Records.{formed, recordIn};
@@ -85,7 +86,7 @@ fn is_bounded(s: &[u64]) -> bool
 fn adds_up(s: &[u64]) -> bool
     requires { ⌜ (length (now s) ≡ homeWords) × (homeBounds (now s) ≡ true) ⌝ }
     ensures { λ b. ⌜ b ≡ eqb (sumAt (λ (i : ℕ). getD (now (s .entry)) i 0) balancesFrom (homesOf (now (s .entry)))
-        + poolOf (now (s .entry))) (supplyOf (now (s .entry))) ⌝ }
+        + poolOf (now (s .entry))) (homeSupplyOf (now (s .entry))) ⌝ }
 {
     let zero = Wide { high: 0, low: 0 };
     let sum = add_balances(s, BALANCES, s[HOMES] as usize, zero).add(s[POOL]);
@@ -97,7 +98,7 @@ fn adds_up(s: &[u64]) -> bool
 
 // All that 3 asks of a state; where it holds, the index of its numbers is made in place of an empty one.
 pub fn is_accepted<'a, 'b>(s: &'a [u64], index: &'b mut [u16]) -> bool
-    requires { ⌜ (length (now index) ≡ indexLength) × IndexOf (now s) 0 (now index) 0 0 ⌝ }
+    requires { ⌜ (length (now index) ≡ homeIndexLength) × IndexOf (now s) 0 (now index) 0 0 ⌝ }
     ensures accepts { λ b. ⌜ b ≡ acceptsHome (now (s .entry)) ⌝ }
     ensures ready { λ b. ⌜ (b ≡ true → HomeReady (now (s .entry)) (now (index .exit))) ⌝ }
     ensures long { λ b. ⌜ length (now (index .exit)) ≡ length (now (index .entry)) ⌝ }

@@ -5,7 +5,7 @@ use Rattle.answers.specs.Balances.{balanceAmong}
 use Rattle.answers.specs.declared.Answer.{Answer}
 use Rattle.answers.specs.declared.Answer.the-variants.{Passed}
 use Rattle.home_core.proofs.Accept.{length-held, sound-of}
-use Rattle.home_core.specs.Layout.{acceptsHome, balancesFrom, countOf, homeViewOf, homesOf, poolOf, supplyOf}
+use Rattle.home_core.specs.Layout.{acceptsHome, balancesFrom, homeCountOf, homeViewOf, homesOf, poolOf, homeSupplyOf}
 use Rattle.home_validator.specs.Figures.{homeBalanceOf, homeFiguresOf, homePlacesOf}
 use Rattle.home_validator.specs.declared.asked.HomeFigures.{HomeFigures}
 use Rattle.home_validator.specs.declared.asked.HomePlaces.{HomePlaces}
@@ -21,14 +21,14 @@ home-places-refused s h e = rw h (λ i. record { answer = e i; home = 0 })
 
 module _ (s : List ℕ) (h : acceptsHome s ≡ true) where
   -- balances and the pool are the supply
-  pub home-supply-shared : total (homeViewOf s .home .balances) + poolOf s ≡ supplyOf s
+  pub home-supply-shared : total (homeViewOf s .home .balances) + poolOf s ≡ homeSupplyOf s
   home-supply-shared = home-accepts-facts capacity (homeViewOf s) (sound-of s h .accepted) .sums
 
   -- the figures of accepted words
-  pub home-figures-passed : _≡_ {A = HomeFigures} (record { answer = Passed; home = supplyOf s - poolOf s; pool = poolOf s })
+  pub home-figures-passed : _≡_ {A = HomeFigures} (record { answer = Passed; home = homeSupplyOf s - poolOf s; pool = poolOf s })
       (homeFiguresOf (acceptsHome s) s)
   home-figures-passed =
-      let e : supplyOf s - poolOf s ≡ total (homeViewOf s .home .balances) = omega (arith, home-supply-shared) in
+      let e : homeSupplyOf s - poolOf s ≡ total (homeViewOf s .home .balances) = omega (arith, home-supply-shared) in
       rw h (λ i. record { answer = Passed; home = e i; pool = poolOf s })
 
   -- the accounts are within the words
@@ -41,9 +41,10 @@ module _ (s : List ℕ) (h : acceptsHome s ≡ true) where
   home-balance-passed a = rw h
 
   -- the count is within the capacity
-  pub home-held-fits : countOf s ≤ capacity
+  pub home-held-fits : homeCountOf s ≤ capacity
   home-held-fits = sound-of s h .bounds .room
 
   -- the places left, by the count
-  pub home-places-passed : _≡_ {A = HomePlaces} (record { answer = Passed; home = capacity - countOf s }) (homePlacesOf (acceptsHome s) s)
+  pub home-places-passed : _≡_ {A = HomePlaces} (record { answer = Passed; home = capacity - homeCountOf s }) (homePlacesOf (acceptsHome s)
+      s)
   home-places-passed = rw h (λ i. record { answer = Passed; home = capacity - sym (length-held s) i })

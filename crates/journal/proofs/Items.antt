@@ -4,7 +4,7 @@ use Rattle.wire.proofs.Prelude.{arith, drop, drop-at, drop-drop, eq-or-lt-of-le
 use Rattle.wire.proofs.Prelude.{length-take-le, refl, suc, sym, take, take-add, take-at, zero, ℕ, ⊎-elim}
 use Rattle.journal.specs.Journal.{RecordBytes, joined, balanceBytes}
 use Rattle.journal_blocks.proofs.Items.{length-records}
-use Rattle.journal_blocks.specs.Blocks.{recordPart, recordsIn, balancesIn}
+use Rattle.journal_blocks.specs.Blocks.{recordPart, firstRecords, firstBalances}
 use Rattle.wire.proofs.Lists.{all-append, all-take, all-drop, bytes-append}
 use Rattle.wire.proofs.Numbers.{field-fits, length-bytesOf, bytes-bytesOf, value-back, bytes-field}
 use Rattle.wire.specs.BigEndian.{All, Bytes, value, field, bytesOf}
@@ -62,8 +62,8 @@ joined-only n l (x ∷ xs) (y ∷ ys) h k e =
     ap₂ (λ (z : List ℕ) (t : List (List ℕ)). z ∷ t) (s .0) (joined-only n l xs ys (h .1) (k .1) (s .1))
 
 -- the first n records of a block, in a row
-pub records-joined : (n : ℕ) (b : List ℕ) → joined (recordsIn n b) ≡ take (n * 32) (drop 32 b)
-unfolding recordsIn recordPart joined
+pub records-joined : (n : ℕ) (b : List ℕ) → joined (firstRecords n b) ≡ take (n * 32) (drop 32 b)
+unfolding firstRecords recordPart joined
 records-joined zero b = refl
 records-joined (suc n) b =
     let z : suc n * 32 ≡ n * 32 + 32 = omega arith in
@@ -71,8 +71,8 @@ records-joined (suc n) b =
     rw (joined-snoc, records-joined n b, z, take-add, drop-drop, w)
 
 -- the first n records of a block are records of bytes
-pub records-whole : (n : ℕ) (b : List ℕ) → Bytes b → 32 + n * 32 ≤ length b → All RecordBytes (recordsIn n b)
-unfolding recordsIn recordPart All
+pub records-whole : (n : ℕ) (b : List ℕ) → Bytes b → 32 + n * 32 ≤ length b → All RecordBytes (firstRecords n b)
+unfolding firstRecords recordPart All
 records-whole zero b y h = tt
 records-whole (suc n) b y h =
     let d : List ℕ = drop (32 + 32 * n) b in
@@ -81,16 +81,16 @@ records-whole (suc n) b y h =
       long = length-take-le 32 d (omega (arith, length-drop (32 + 32 * n) b));
       bytes = all-take _ 32 d (all-drop _ (32 + 32 * n) b y);
     } in
-    all-append RecordBytes (recordsIn n b) (take 32 d ∷ []) (records-whole n b y (omega arith)) (one, tt)
+    all-append RecordBytes (firstRecords n b) (take 32 d ∷ []) (records-whole n b y (omega arith)) (one, tt)
 
 -- the record at each place
-pub record-at : (n : ℕ) (b : List ℕ) (place : ℕ) → place < n → getD (recordsIn n b) place [] ≡ recordPart b place
-unfolding recordsIn
+pub record-at : (n : ℕ) (b : List ℕ) (place : ℕ) → place < n → getD (firstRecords n b) place [] ≡ recordPart b place
+unfolding firstRecords
 record-at zero b place h = absurd (omega arith)
 record-at (suc n) b place h =
     ⊎-elim
-    (λ e. getD-at (recordsIn n b) (recordPart b n) [] [] place (length-records n b ∙ sym e) ∙ ap (recordPart b) (sym e))
-    (λ l. List·getD-append (recordsIn n b) (recordPart b n ∷ []) [] place (omega (arith, length-records n b)) ∙ record-at n b place l)
+    (λ e. getD-at (firstRecords n b) (recordPart b n) [] [] place (length-records n b ∙ sym e) ∙ ap (recordPart b) (sym e))
+    (λ l. List·getD-append (firstRecords n b) (recordPart b n ∷ []) [] place (omega (arith, length-records n b)) ∙ record-at n b place l)
     (eq-or-lt-of-le (omega arith))
 
 -- ## Opening balances
@@ -129,8 +129,8 @@ balances-only (x ∷ xs) (y ∷ ys) h k e =
     (balances-only xs ys (h .1) (k .1) (s .1))
 
 -- the first n opening balances of a block, in a row
-pub balances-joined : (n : ℕ) (b : List ℕ) → Bytes b → 32 + n * 8 ≤ length b → balanceBytes (balancesIn n b) ≡ take (n * 8) (drop 32 b)
-unfolding balancesIn balanceBytes
+pub balances-joined : (n : ℕ) (b : List ℕ) → Bytes b → 32 + n * 8 ≤ length b → balanceBytes (firstBalances n b) ≡ take (n * 8) (drop 32 b)
+unfolding firstBalances balanceBytes
 balances-joined zero b y h = refl
 balances-joined (suc n) b y h =
     let z : suc n * 8 ≡ n * 8 + 8 = omega arith in
@@ -138,9 +138,9 @@ balances-joined (suc n) b y h =
     rw (balance-snoc, balances-joined n b y (omega arith), bytes-field (32 + 8 * n) 8 b y (omega arith), z, take-add, drop-drop, w)
 
 -- the first n opening balances of a block are numbers of 8 bytes
-pub balances-fit : (n : ℕ) (b : List ℕ) → Bytes b → 32 + n * 8 ≤ length b → All Fit (balancesIn n b)
-unfolding balancesIn All
+pub balances-fit : (n : ℕ) (b : List ℕ) → Bytes b → 32 + n * 8 ≤ length b → All Fit (firstBalances n b)
+unfolding firstBalances All
 balances-fit zero b y h = tt
 balances-fit (suc n) b y h =
-    all-append Fit (balancesIn n b) (field (32 + 8 * n) 8 b ∷ []) (balances-fit n b y (omega arith))
+    all-append Fit (firstBalances n b) (field (32 + 8 * n) 8 b ∷ []) (balances-fit n b y (omega arith))
     (field-fits (32 + 8 * n) 8 b y (omega arith), tt)

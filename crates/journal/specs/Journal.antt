@@ -31,7 +31,7 @@ abbrev pub recordLimit : ℕ
 recordLimit = recordsPerBlock * (maxBlock - 1)
 
 -- two openings and records within the limit
-pub record Within (home far : List ℕ) (records : List (List ℕ)) : Type 0 where
+pub record WithinLimits (home far : List ℕ) (records : List (List ℕ)) : Type 0 where
   pub home-opening : IsOpening home
   pub far-opening : IsOpening far
   pub whole : All RecordBytes records
@@ -74,9 +74,9 @@ journalOf home far records = joined (numbered 0 (itemsOf home far records))
 -- ## What is read
 
 -- each block is right in turn: the first as number k after a block of `before` items, each next one after it
-unfoldable pub AllPass : ℕ → ℕ → List (List ℕ) → Type 0
-AllPass k before [] = Unit {0}
-AllPass k before (b ∷ bs) = (blockRefusal b k before ≡ 0) × AllPass (suc k) (statedCount b) bs
+unfoldable pub AllRecordsPass : ℕ → ℕ → List (List ℕ) → Type 0
+AllRecordsPass k before [] = Unit {0}
+AllRecordsPass k before (b ∷ bs) = (blockRefusal b k before ≡ 0) × AllRecordsPass (suc k) (statedCount b) bs
 
 -- the records of blocks, one block after the other
 unfoldable pub allRecords : List (List ℕ) → List (List ℕ)
@@ -90,7 +90,7 @@ pub record Reads (j home far : List ℕ) (records : List (List ℕ)) : Type 0 wh
   pub second : List ℕ
   pub others : List (List ℕ)
   pub whole : j ≡ joined (first ∷ second ∷ others)
-  pub right : AllPass 0 0 (first ∷ second ∷ others)
+  pub right : AllRecordsPass 0 0 (first ∷ second ∷ others)
   pub home-balances : balancesOf first ≡ home
   pub far-balances : balancesOf second ≡ far
   pub record-list : allRecords others ≡ records
@@ -102,12 +102,12 @@ pub record Reads (j home far : List ℕ) (records : List (List ℕ)) : Type 0 wh
 unfoldable pub ReadsBack : Type 0
 ReadsBack =
     (home far : List ℕ) (records : List (List ℕ)) (j : List ℕ) → Bytes j
-    → Reads j home far records ↔ (Within home far records × (j ≡ journalOf home far records))
+    → Reads j home far records ↔ (WithinLimits home far records × (j ≡ journalOf home far records))
 
 -- the journal written from openings and records within the limits reads as them
 unfoldable pub WrittenReads : Type 0
 WrittenReads =
-    (home far : List ℕ) (records : List (List ℕ)) → Within home far records → Reads (journalOf home far records) home far records
+    (home far : List ℕ) (records : List (List ℕ)) → WithinLimits home far records → Reads (journalOf home far records) home far records
 
 -- what reads does so in one way only
 unfoldable pub ReadsOnce : Type 0
@@ -141,5 +141,5 @@ AllAllowed k (items ∷ others) =
 -- call passes
 unfoldable pub BlocksWritten : Type 0
 BlocksWritten =
-    (home far : List ℕ) (records : List (List ℕ)) → Within home far records
-    → AllAllowed 0 (itemsOf home far records) × AllPass 0 0 (numbered 0 (itemsOf home far records))
+    (home far : List ℕ) (records : List (List ℕ)) → WithinLimits home far records
+    → AllAllowed 0 (itemsOf home far records) × AllRecordsPass 0 0 (numbered 0 (itemsOf home far records))

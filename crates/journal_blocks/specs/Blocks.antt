@@ -59,22 +59,22 @@ unfoldable pub recordPart : List ℕ → ℕ → List ℕ
 recordPart b place = take 32 (drop (32 + 32 * place) b)
 
 -- the first n records of a block
-unfoldable pub recordsIn : ℕ → List ℕ → List (List ℕ)
-recordsIn zero b = []
-recordsIn (suc n) b = recordsIn n b ++ recordPart b n ∷ []
+unfoldable pub firstRecords : ℕ → List ℕ → List (List ℕ)
+firstRecords zero b = []
+firstRecords (suc n) b = firstRecords n b ++ recordPart b n ∷ []
 
 -- all its records
 abbrev pub recordsOf : List ℕ → List (List ℕ)
-recordsOf b = recordsIn (statedCount b) b
+recordsOf b = firstRecords (statedCount b) b
 
 -- the first n opening balances of a block
-unfoldable pub balancesIn : ℕ → List ℕ → List ℕ
-balancesIn zero b = []
-balancesIn (suc n) b = balancesIn n b ++ field (32 + 8 * n) 8 b ∷ []
+unfoldable pub firstBalances : ℕ → List ℕ → List ℕ
+firstBalances zero b = []
+firstBalances (suc n) b = firstBalances n b ++ field (32 + 8 * n) 8 b ∷ []
 
 -- all its opening balances
 abbrev pub balancesOf : List ℕ → List ℕ
-balancesOf b = balancesIn (statedCount b) b
+balancesOf b = firstBalances (statedCount b) b
 
 -- the same, with zeros up to 56
 abbrev pub balanceTable : List ℕ → List ℕ

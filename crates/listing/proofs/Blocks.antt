@@ -6,7 +6,7 @@ use Rattle.journal_blocks.proofs.Checking.{right-facts}
 use Rattle.journal_blocks.specs.Blocks.{maxBlock}
 use Rattle.journal_blocks.specs.Checked.{blockRefusal}
 use Rattle.listing.specs.Chunks.{afterBlocks, ifGoing, stateFigures}
-use Rattle.listing.specs.Listing.{Standing, afterBlock, blockText, blocksText, recordLines, standingBy, stateListed, whileGoing}
+use Rattle.listing.specs.Listing.{Progress, afterBlock, blockText, blocksText, recordLines, progressBy, stateListed, whileGoing}
 use Rattle.pair_core.specs.Layout.{pairWordsChecker}
 use Rattle.rules.proofs.Lists.{never-both-tests}
 use Rattle.rules.specs.Calls.{Checker, callOne}
@@ -32,30 +32,30 @@ module _ {S : Type 0} (c : Checker S) where
 -- ## The program's listing, block by block
 
 -- the text of blocks, over the program's states
-abbrev pub textOf : Standing (List ℕ) → List (List ℕ) → List ℕ
+abbrev pub textOf : Progress (List ℕ) → List (List ℕ) → List ℕ
 textOf p bs = blocksText pairWordsChecker stateFigures p bs
 
 -- where it goes on, a block has its text, and then the others have theirs from where the listing stands after it
-pub blocks-next : (p : Standing (List ℕ)) (b : List ℕ) (bs : List (List ℕ)) → p .going ≡ true
+pub blocks-next : (p : Progress (List ℕ)) (b : List ℕ) (bs : List (List ℕ)) → p .going ≡ true
     → (textOf p (b ∷ bs) ≡ blockText pairWordsChecker stateFigures p b ++ textOf (afterBlock pairWordsChecker p b) bs)
     × (afterBlocks p (b ∷ bs) ≡ afterBlocks (afterBlock pairWordsChecker p b) bs)
 unfolding blocksText afterBlocks
 blocks-next p b bs g = rw g (refl, refl)
 
 -- where it does not go on, blocks have no text and leave it
-pub blocks-stopped : (p : Standing (List ℕ)) (bs : List (List ℕ)) → p .going ≡ false → (textOf p bs ≡ []) × (afterBlocks p bs ≡ p)
+pub blocks-stopped : (p : Progress (List ℕ)) (bs : List (List ℕ)) → p .going ≡ false → (textOf p bs ≡ []) × (afterBlocks p bs ≡ p)
 unfolding blocksText afterBlocks
 blocks-stopped p [] g = (refl, refl)
 blocks-stopped p (b ∷ bs) g = rw g (refl, refl)
 
 -- the text of blocks after others is theirs from where the listing stands after the others
-pub text-append : (p : Standing (List ℕ)) (xs ys : List (List ℕ)) → textOf p (xs ++ ys) ≡ textOf p xs ++ textOf (afterBlocks p xs) ys
+pub text-append : (p : Progress (List ℕ)) (xs ys : List (List ℕ)) → textOf p (xs ++ ys) ≡ textOf p xs ++ textOf (afterBlocks p xs) ys
 unfolding blocksText afterBlocks
 text-append p [] ys = refl
 text-append p (b ∷ bs) ys =
     go (p .going) (λ g. blocks-stopped p ys g .0) (text-append (afterBlock pairWordsChecker p b) bs ys)
   where
-    next : Standing (List ℕ)
+    next : Progress (List ℕ)
     next = afterBlock pairWordsChecker p b
 
     text : List ℕ
@@ -70,35 +70,35 @@ text-append p (b ∷ bs) ys =
 -- ## A listing that goes on
 
 -- a block after which the listing goes on is right and gives it the next number, and it went on before
-right-going : (p : Standing (List ℕ)) (b : List ℕ) → afterBlock pairWordsChecker p b .going ≡ true
+right-going : (p : Progress (List ℕ)) (b : List ℕ) → afterBlock pairWordsChecker p b .going ≡ true
     → (p .going ≡ true) × (blockRefusal b (p .block) (p .before) ≡ 0) × (afterBlock pairWordsChecker p b .block ≡ suc (p .block))
 unfolding afterBlock
 right-going p b g = go (blockRefusal b (p .block) (p .before)) g
   where
-    go : (n : ℕ) → standingBy pairWordsChecker n p b .going ≡ true
-        → (p .going ≡ true) × (n ≡ 0) × (standingBy pairWordsChecker n p b .block ≡ suc (p .block))
+    go : (n : ℕ) → progressBy pairWordsChecker n p b .going ≡ true
+        → (p .going ≡ true) × (n ≡ 0) × (progressBy pairWordsChecker n p b .block ≡ suc (p .block))
     go zero h = (h, refl, refl)
     go (suc n) h = absurd (never-both-tests (sym h))
 
 -- where the listing goes on after blocks it went on before them, each gave it the next number, and the last had a number in bounds
-pub record WentOn (p : Standing (List ℕ)) (bs : List (List ℕ)) : Type 0 where
+pub record WentOn (p : Progress (List ℕ)) (bs : List (List ℕ)) : Type 0 where
   pub went : p .going ≡ true
   pub number : afterBlocks p bs .block ≡ p .block + length bs
   pub low : length bs ≤ suc maxBlock - p .block
 
 -- so it is
-pub went-on : (p : Standing (List ℕ)) (bs : List (List ℕ)) → afterBlocks p bs .going ≡ true → WentOn p bs
+pub went-on : (p : Progress (List ℕ)) (bs : List (List ℕ)) → afterBlocks p bs .going ≡ true → WentOn p bs
 unfolding afterBlocks
 went-on p [] g = record { went = g; number = omega arith; low = omega arith }
 went-on p (b ∷ bs) g = go (p .going) refl g (went-on next bs)
   where
-    next : Standing (List ℕ)
+    next : Progress (List ℕ)
     next = afterBlock pairWordsChecker p b
 
     go : (t : Bool) → p .going ≡ t → ifGoing t p (afterBlocks next bs) .going ≡ true
         → (afterBlocks next bs .going ≡ true → WentOn next bs) → WentOn p (b ∷ bs)
     go true q h ih =
-        let e = ap (λ (x : Standing (List ℕ)). x .block) (blocks-next p b bs q .1) in
+        let e = ap (λ (x : Progress (List ℕ)). x .block) (blocks-next p b bs q .1) in
         let w = ih h in
         let r = right-going p b (w .went) in
         let f = right-facts b (p .block) (p .before) (r .1) .low in

@@ -8,8 +8,9 @@ use Rattle.journal_blocks.specs.Checked.{blockRefusal}
 use Rattle.ledgers.specs.Limits.{capacity}
 use Rattle.listing.proofs.Blocks.{blocks-stopped, text-append, textOf, went-on}
 use Rattle.listing.specs.Chunks.{ListedInChunks, afterChunk, chunkSize, chunkText, chunksText, mostChunks, openedBy, stateFigures}
-use Rattle.listing.specs.Listing.{Standing, afterBlock, blockText, blocksIn, blocksText, figuresLine, listing, opened, openingText}
-use Rattle.listing.specs.Listing.{recordLines, standingBy, stateListed, unlessFault, whileGoing}
+use Rattle.listing.specs.Listing.{Progress, afterBlock, blockText, blocksIn, blocksText, figuresLine, listing, openedProgress}
+use Rattle.listing.specs.Listing.{openingText}
+use Rattle.listing.specs.Listing.{recordLines, progressBy, stateListed, unlessFault, whileGoing}
 use Rattle.listing_lines.specs.Lines.{headerLine, openLine, recordLine}
 use Rattle.pair_core.proofs.Opened.{opened-ready, opened-view}
 use Rattle.pair_core.proofs.Passing.{next-of}
@@ -24,7 +25,7 @@ use Rattle.rules.specs.Rules.{Read, Reading, Unreadable, afterBytes}
 -- ## The program's states and the rules'
 
 -- where a listing over the program's states stands, over the rules' states
-abbrev viewed : Standing (List ℕ) → Standing PairView
+abbrev viewed : Progress (List ℕ) → Progress PairView
 viewed p = record { state = pairViewOf (p .state); index = p .index; block = p .block; before = p .before; going = p .going }
 
 -- a state of the program is accepted and is, seen as the rules' state, this one
@@ -75,19 +76,19 @@ lines-carried s i (b ∷ bs) z =
     rw (← c .view) (ap (λ (t : List ℕ). line ++ t) (lines-carried (callOne pairWordsChecker s b .state) (suc i) bs (c .sound)))
 
 -- after a block the state is still accepted, and the listing stands at the same place over both
-after-carried : (p : Standing (List ℕ)) (b : List ℕ) → acceptsPair (p .state) ≡ true
+after-carried : (p : Progress (List ℕ)) (b : List ℕ) → acceptsPair (p .state) ≡ true
     → (acceptsPair (afterBlock pairWordsChecker p b .state) ≡ true)
     × (viewed (afterBlock pairWordsChecker p b) ≡ afterBlock (pairValidator capacity) (viewed p) b)
 unfolding afterBlock
 after-carried p b z = go (blockRefusal b (p .block) (p .before))
   where
-    go : (n : ℕ) → (acceptsPair (standingBy pairWordsChecker n p b .state) ≡ true)
-        × (viewed (standingBy pairWordsChecker n p b) ≡ standingBy (pairValidator capacity) n (viewed p) b)
+    go : (n : ℕ) → (acceptsPair (progressBy pairWordsChecker n p b .state) ≡ true)
+        × (viewed (progressBy pairWordsChecker n p b) ≡ progressBy (pairValidator capacity) n (viewed p) b)
     go zero = let r = records-carried (p .state) (recordsOf b) z in (r .sound, rw (r .view))
     go (suc n) = (z, refl)
 
 -- the text of blocks is the same over both
-text-carried : (p : Standing (List ℕ)) (bs : List (List ℕ)) → acceptsPair (p .state) ≡ true
+text-carried : (p : Progress (List ℕ)) (bs : List (List ℕ)) → acceptsPair (p .state) ≡ true
     → textOf p bs ≡ blocksText (pairValidator capacity) figuresLine (viewed p) bs
 unfolding blockText blocksText
 text-carried p [] z = refl
@@ -111,7 +112,7 @@ opening-rest home far rest other e =
 
 -- after an accepted opening the text of blocks over the rules' states is the one over the program's
 opened-carried : (home far : List ℕ) (bs : List (List ℕ)) → pairOpeningRefusal (balancesOf home) (balancesOf far) ≡ 0
-    → blocksText (pairValidator capacity) figuresLine (opened (pairOpened (balancesOf home) (balancesOf far)) (statedCount far)) bs
+    → blocksText (pairValidator capacity) figuresLine (openedProgress (pairOpened (balancesOf home) (balancesOf far)) (statedCount far)) bs
     ≡ textOf (openedBy home far) bs
 opened-carried home far bs q =
     rw (← (opened-view (balancesOf home) (balancesOf far) q))
@@ -157,7 +158,7 @@ pub chunk-count : (chunk : List ℕ) → length chunk ≡ chunkSize → length (
 chunk-count chunk e = parts-count 64 511 chunk (omega arith)
 
 -- as many chunks as reach beyond the greatest block number have the text of all blocks
-chunks-all : (n : ℕ) (p : Standing (List ℕ)) (j : List ℕ) → p .block ≤ suc maxBlock → suc maxBlock < p .block + n * 64
+chunks-all : (n : ℕ) (p : Progress (List ℕ)) (j : List ℕ) → p .block ≤ suc maxBlock → suc maxBlock < p .block + n * 64
     → textOf p (blocksIn j) ≡ chunksText n p j
 unfolding blocksText chunksText cut
 chunks-all zero p j low beyond = absurd (omega arith)
@@ -167,7 +168,7 @@ chunks-all (suc n) p j low beyond =
     ∙ ap (λ (t : List ℕ). chunkText p (take chunkSize j) ++ t)
     (go (eqb (length (take chunkSize j)) chunkSize) (next .going) refl refl (chunks-all n next (drop chunkSize j)))
   where
-    next : Standing (List ℕ)
+    next : Progress (List ℕ)
     next = afterChunk p (take chunkSize j)
 
     -- after a full chunk that does not stop it the listing goes on; after any other nothing is left to list

@@ -7,7 +7,8 @@ use mathlib.Core.Path.{_≡_}
 use lib.Dec.{eqb}
 use lib.ListN.{length, take, drop}
 use Rattle.journal_blocks.specs.Blocks.{balancesOf, recordsPerBlock, statedCount}
-use Rattle.listing.specs.Listing.{Standing, afterBlock, blocksIn, blocksText, figuresLine, listing, opened, openingText, whileGoing}
+use Rattle.listing.specs.Listing.{Progress, afterBlock, blocksIn, blocksText, figuresLine, listing, openedProgress, openingText}
+use Rattle.listing.specs.Listing.{whileGoing}
 use Rattle.listing_lines.specs.Lines.{headerLine, lineRoom}
 use Rattle.pair_core.specs.Layout.{pairOpenedWords, pairViewOf, pairWordsChecker}
 
@@ -18,12 +19,12 @@ abbrev pub stateFigures : List ℕ → List ℕ
 stateFigures s = figuresLine (pairViewOf s)
 
 -- a standing, where the listing goes on
-abbrev pub ifGoing : Bool → Standing (List ℕ) → Standing (List ℕ) → Standing (List ℕ)
+abbrev pub ifGoing : Bool → Progress (List ℕ) → Progress (List ℕ) → Progress (List ℕ)
 ifGoing true p later = later
 ifGoing false p later = p
 
 -- where the listing stands after blocks, up to a bad one
-unfoldable pub afterBlocks : Standing (List ℕ) → List (List ℕ) → Standing (List ℕ)
+unfoldable pub afterBlocks : Progress (List ℕ) → List (List ℕ) → Progress (List ℕ)
 afterBlocks p [] = p
 afterBlocks p (b ∷ bs) = ifGoing (p .going) p (afterBlocks (afterBlock pairWordsChecker p b) bs)
 
@@ -46,15 +47,15 @@ abbrev pub mostChunks : ℕ
 mostChunks = 1024
 
 -- the text of a chunk
-abbrev pub chunkText : Standing (List ℕ) → List ℕ → List ℕ
+abbrev pub chunkText : Progress (List ℕ) → List ℕ → List ℕ
 chunkText p chunk = blocksText pairWordsChecker stateFigures p (blocksIn chunk)
 
 -- where the listing stands after it
-abbrev pub afterChunk : Standing (List ℕ) → List ℕ → Standing (List ℕ)
+abbrev pub afterChunk : Progress (List ℕ) → List ℕ → Progress (List ℕ)
 afterChunk p chunk = afterBlocks p (blocksIn chunk)
 
 -- the program's loop: at most n chunks of what is left, up to a bad block or to a chunk that is not full
-unfoldable pub chunksText : ℕ → Standing (List ℕ) → List ℕ → List ℕ
+unfoldable pub chunksText : ℕ → Progress (List ℕ) → List ℕ → List ℕ
 chunksText zero p j = []
 chunksText (suc n) p j =
     chunkText p (take chunkSize j)
@@ -65,8 +66,8 @@ chunksText (suc n) p j =
 -- ## The claim
 
 -- where the program's listing stands after an accepted opening of blocks 0 and 1
-abbrev pub openedBy : List ℕ → List ℕ → Standing (List ℕ)
-openedBy home far = opened (pairOpenedWords (balancesOf home) (balancesOf far)) (statedCount far)
+abbrev pub openedBy : List ℕ → List ℕ → Progress (List ℕ)
+openedBy home far = openedProgress (pairOpenedWords (balancesOf home) (balancesOf far)) (statedCount far)
 
 -- the listing of every journal is the header, the opening of its first 1,024 bytes, and the text of the program's chunks of the rest
 unfoldable pub ListedInChunks : Type 0

@@ -22,7 +22,7 @@ unlessFault (suc n) block text = faultLine (suc n) block
 
 -- where a listing stands: the state, the index of the next record, the number of the next block and the count of the one before
 -- it, and whether it goes on
-pub record Standing (S : Type 0) : Type 0 where
+pub record Progress (S : Type 0) : Type 0 where
   pub state : S
   pub index : ℕ
   pub block : ℕ
@@ -41,8 +41,8 @@ module _ {S : Type 0} (c : Checker S) where
   stateListed s (b ∷ bs) = stateListed (callOne c s b .state) bs
 
   -- where the listing stands after a block with a refusal, or 0: a bad one stops it
-  abbrev pub standingBy : ℕ → Standing S → List ℕ → Standing S
-  standingBy zero p b =
+  abbrev pub progressBy : ℕ → Progress S → List ℕ → Progress S
+  progressBy zero p b =
       record {
         state = stateListed (p .state) (recordsOf b);
         index = p .index + statedCount b;
@@ -50,12 +50,12 @@ module _ {S : Type 0} (c : Checker S) where
         before = statedCount b;
         going = p .going;
       }
-  standingBy (suc n) p b =
+  progressBy (suc n) p b =
       record { state = p .state; index = p .index; block = p .block; before = p .before; going = false }
 
   -- the same, by the block's own refusal
-  unfoldable pub afterBlock : Standing S → List ℕ → Standing S
-  afterBlock p b = standingBy (blockRefusal b (p .block) (p .before)) p b
+  unfoldable pub afterBlock : Progress S → List ℕ → Progress S
+  afterBlock p b = progressBy (blockRefusal b (p .block) (p .before)) p b
 
   module _ (figures : S → List ℕ) where
     -- a line for each record, from an index on, with the figures after it (the calls' answers: ListedAsRun)
@@ -65,11 +65,11 @@ module _ {S : Type 0} (c : Checker S) where
         recordLine i b (c .judge s b) (figures (callOne c s b .state)) ++ recordLines (callOne c s b .state) (suc i) bs
 
     -- the lines of a block of records, or its fault
-    unfoldable pub blockText : Standing S → List ℕ → List ℕ
+    unfoldable pub blockText : Progress S → List ℕ → List ℕ
     blockText p b = unlessFault (blockRefusal b (p .block) (p .before)) (p .block) (recordLines (p .state) (p .index) (recordsOf b))
 
     -- block by block, up to a bad one (Cases: the lines of the blocks before a bad one stand above its fault)
-    unfoldable pub blocksText : Standing S → List (List ℕ) → List ℕ
+    unfoldable pub blocksText : Progress S → List (List ℕ) → List ℕ
     blocksText p [] = []
     blocksText p (b ∷ bs) = whileGoing (p .going) (blockText p b ++ blocksText (afterBlock p b) bs)
 
@@ -84,8 +84,8 @@ abbrev pub blocksIn : List ℕ → List (List ℕ)
 blocksIn j = cut (length j) 512 j
 
 -- after an accepted opening, before block 2, for which the count before is not looked at
-abbrev pub opened : {S : Type 0} → S → ℕ → Standing S
-opened s before = record { state = s; index = 0; block = 2; before = before; going = true }
+abbrev pub openedProgress : {S : Type 0} → S → ℕ → Progress S
+openedProgress s before = record { state = s; index = 0; block = 2; before = before; going = true }
 
 -- the line of the opening, or the fault of block 0 or 1; the opening's own refusal is told at block 1 (Cases: refusal 2); then the rest
 unfoldable pub openingText : List ℕ → List ℕ → List ℕ → List ℕ
@@ -101,5 +101,5 @@ listing j =
     headerLine
     ++ openingText (take 512 j) (take 512 (drop 512 j))
     (blocksText (pairValidator capacity) figuresLine
-    (opened (pairOpened (balancesOf (take 512 j)) (balancesOf (take 512 (drop 512 j)))) (statedCount (take 512 (drop 512 j))))
+    (openedProgress (pairOpened (balancesOf (take 512 j)) (balancesOf (take 512 (drop 512 j)))) (statedCount (take 512 (drop 512 j))))
     (blocksIn (drop 1024 j)))

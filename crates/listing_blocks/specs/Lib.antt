@@ -1,3 +1,3 @@
 -- A listing's text, chunk by chunk. Assumes nothing.
 
-pub mod Runs
+pub mod Cursors

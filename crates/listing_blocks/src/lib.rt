@@ -3,12 +3,12 @@
 ghost use Prim.Native.Nat.{_+_, _*_, _≤_};
 ghost use mathlib.Core.Path.{_≡_};
 ghost use lib.ListN.{length, take};
-ghost use Rattle.journal_blocks.specs.Blocks.{maxBlock, recordsIn, recordsPerBlock};
+ghost use Rattle.journal_blocks.specs.Blocks.{maxBlock, firstRecords, recordsPerBlock};
 ghost use Rattle.listing.specs.Chunks.{afterChunk, chunkRoom, chunkSize, chunkText, stateFigures};
 ghost use Rattle.listing.specs.Listing.{afterBlock, blockText, recordLines, stateListed};
-ghost use Rattle.listing_blocks.specs.Runs.{Bounded, standing, standingAfter};
+ghost use Rattle.listing_blocks.specs.Cursors.{CursorBounds, progressOf, progressAfter};
 ghost use Rattle.listing_lines.specs.Hex.{pairTable};
-ghost use Rattle.listing_lines.specs.Lines.{Put, figuresRoom, figuresText, lineRoom};
+ghost use Rattle.listing_lines.specs.Lines.{TextPut, figuresRoom, figuresText, lineRoom};
 ghost use Rattle.pair_core.specs.Layout.{pairWordsChecker};
 ghost use Rattle.pair_rows.specs.Rows.{RowReady};
 use answers::Answer;
@@ -28,7 +28,7 @@ use wire::part_end;
 
 // Where a listing stands: the index of the next record, the number of the next block and the count of the one before it, the end
 // of the text in the buffer, whether the listing goes on, and the last row.
-pub struct Run {
+pub struct Cursor {
     pub index: u64,
     pub block: u64,
     pub before: u64,
@@ -54,29 +54,30 @@ fn put_figures_if(text: &mut [u8], n: usize, row: Row) -> usize
 
 // The lines of a block's first records.
 fn list_records<'a, 'b, 'c, 'd>(
-    run: Run,
+    cursor: Cursor,
     block: &'a [u8],
     count: u64,
     pairs: &'a [u8; 512],
     out: &'b mut [u8],
     state: &'c mut [u64; WORDS],
     index: &'d mut [u16; INDEXES],
-) -> Run
-    requires { ⌜ Bounded run × (run .block ≤ maxBlock) × (length (now block) ≡ 512) × (count ≤ recordsPerBlock)
-        × (run .end + recordsPerBlock * lineRoom ≤ length (now out)) × (now pairs ≡ pairTable)
-        × RowReady (now state) (now index) (run .row) ⌝ }
-    ensures puts { λ r. ⌜ Put (now (out .entry)) (run .end) (recordLines pairWordsChecker stateFigures (now (state .entry)) (run .index)
-        (recordsIn count (now (block .entry)))) (now (out .exit)) (r .end) ⌝ }
-    ensures stands { λ r. ⌜ standing r (now (state .exit)) ≡ standingAfter run count (stateListed pairWordsChecker (now (state .entry))
-        (recordsIn count (now (block .entry)))) ⌝ }
-    ensures keeps { λ r. ⌜ RowReady (now (state .exit)) (now (index .exit)) (r .row) × Bounded r
-        × (r .end ≤ run .end + recordsPerBlock * lineRoom) ⌝ }
+) -> Cursor
+    requires { ⌜ CursorBounds cursor × (cursor .block ≤ maxBlock) × (length (now block) ≡ 512) × (count ≤ recordsPerBlock)
+        × (cursor .end + recordsPerBlock * lineRoom ≤ length (now out)) × (now pairs ≡ pairTable)
+        × RowReady (now state) (now index) (cursor .row) ⌝ }
+    ensures puts { λ r. ⌜ TextPut (now (out .entry)) (cursor .end) (recordLines pairWordsChecker stateFigures (now (state .entry)) (cursor
+        .index)
+        (firstRecords count (now (block .entry)))) (now (out .exit)) (r .end) ⌝ }
+    ensures stands { λ r. ⌜ progressOf r (now (state .exit)) ≡ progressAfter cursor count (stateListed pairWordsChecker (now (state .entry))
+        (firstRecords count (now (block .entry)))) ⌝ }
+    ensures keeps { λ r. ⌜ RowReady (now (state .exit)) (now (index .exit)) (r .row) × CursorBounds r
+        × (r .end ≤ cursor .end + recordsPerBlock * lineRoom) ⌝ }
 {
     let mut text = [0u8; FIGURES];
-    let mut row = run.row;
+    let mut row = cursor.row;
     let mut n = put_figures(&mut text, 0, row.home, row.far, row.flight);
     let mut i = 0;
-    let mut p = run.end;
+    let mut p = cursor.end;
     while i < count {
         let bytes = judged_part(block, i);
         row = next_row(state, index, row, bytes);
@@ -85,86 +86,87 @@ fn list_records<'a, 'b, 'c, 'd>(
             out,
             p,
             pairs,
-            run.index + i,
+            cursor.index + i,
             bytes,
             row.refusal as u64,
             &text[..n],
         );
         i += 1;
     }
-    Run {
-        index: run.index + count,
-        block: run.block + 1,
+    Cursor {
+        index: cursor.index + count,
+        block: cursor.block + 1,
         before: count,
         end: p,
-        going: run.going,
+        going: cursor.going,
         row,
     }
 }
 
 // A block: its lines, or its fault.
 fn list_block<'a, 'b, 'c, 'd>(
-    run: Run,
+    cursor: Cursor,
     block: &'a [u8],
     pairs: &'a [u8; 512],
     out: &'b mut [u8],
     state: &'c mut [u64; WORDS],
     index: &'d mut [u16; INDEXES],
-) -> Run
-    requires { ⌜ Bounded run × (run .end + recordsPerBlock * lineRoom ≤ length (now out)) × (now pairs ≡ pairTable)
-        × RowReady (now state) (now index) (run .row) ⌝ }
-    ensures puts { λ r. ⌜ Put (now (out .entry)) (run .end) (blockText pairWordsChecker stateFigures (standing run (now (state .entry)))
+) -> Cursor
+    requires { ⌜ CursorBounds cursor × (cursor .end + recordsPerBlock * lineRoom ≤ length (now out)) × (now pairs ≡ pairTable)
+        × RowReady (now state) (now index) (cursor .row) ⌝ }
+    ensures puts { λ r. ⌜ TextPut (now (out .entry)) (cursor .end) (blockText pairWordsChecker stateFigures (progressOf cursor (now (state
+        .entry)))
         (now (block .entry))) (now (out .exit)) (r .end) ⌝ }
-    ensures stands { λ r. ⌜ standing r (now (state .exit)) ≡ afterBlock pairWordsChecker (standing run (now (state .entry)))
+    ensures stands { λ r. ⌜ progressOf r (now (state .exit)) ≡ afterBlock pairWordsChecker (progressOf cursor (now (state .entry)))
         (now (block .entry)) ⌝ }
-    ensures keeps { λ r. ⌜ RowReady (now (state .exit)) (now (index .exit)) (r .row) × Bounded r
-        × (r .end ≤ run .end + recordsPerBlock * lineRoom) ⌝ }
+    ensures keeps { λ r. ⌜ RowReady (now (state .exit)) (now (index .exit)) (r .row) × CursorBounds r
+        × (r .end ≤ cursor .end + recordsPerBlock * lineRoom) ⌝ }
 {
-    let answer = judge(block, run.block, run.before);
+    let answer = judge(block, cursor.block, cursor.before);
     let Answer::Passed = answer else {
-        let end = put_fault(out, run.end, answer.number() as u64, run.block);
-        let row = run.row;
-        return Run {
-            index: run.index,
-            block: run.block,
-            before: run.before,
+        let end = put_fault(out, cursor.end, answer.number() as u64, cursor.block);
+        let row = cursor.row;
+        return Cursor {
+            index: cursor.index,
+            block: cursor.block,
+            before: cursor.before,
             end,
             going: false,
             row,
         };
     };
     let count = stated_count(block);
-    list_records(run, block, count, pairs, out, state, index)
+    list_records(cursor, block, count, pairs, out, state, index)
 }
 
 // ## A chunk
 
 // The text of a chunk of at most 64 blocks, up to a bad one.
 pub fn list_chunk<'a, 'b, 'c, 'd>(
-    start: Run,
+    start: Cursor,
     chunk: &'a [u8],
     pairs: &'a [u8; 512],
     out: &'b mut [u8],
     state: &'c mut [u64; WORDS],
     index: &'d mut [u16; INDEXES],
-) -> Run
-    requires { ⌜ Bounded start × (start .end ≡ 0) × (length (now chunk) ≤ chunkSize) × (chunkRoom ≤ length (now out))
+) -> Cursor
+    requires { ⌜ CursorBounds start × (start .end ≡ 0) × (length (now chunk) ≤ chunkSize) × (chunkRoom ≤ length (now out))
         × (now pairs ≡ pairTable) × RowReady (now state) (now index) (start .row) ⌝ }
-    ensures puts { λ r. ⌜ take (r .end) (now (out .exit)) ≡ chunkText (standing start (now (state .entry))) (now (chunk .entry)) ⌝ }
-    ensures stands { λ r. ⌜ standing r (now (state .exit)) ≡ afterChunk (standing start (now (state .entry))) (now (chunk .entry)) ⌝ }
-    ensures keeps { λ r. ⌜ RowReady (now (state .exit)) (now (index .exit)) (r .row) × Bounded r
+    ensures puts { λ r. ⌜ take (r .end) (now (out .exit)) ≡ chunkText (progressOf start (now (state .entry))) (now (chunk .entry)) ⌝ }
+    ensures stands { λ r. ⌜ progressOf r (now (state .exit)) ≡ afterChunk (progressOf start (now (state .entry))) (now (chunk .entry)) ⌝ }
+    ensures keeps { λ r. ⌜ RowReady (now (state .exit)) (now (index .exit)) (r .row) × CursorBounds r
         × (r .end ≤ length (now (out .exit))) ⌝ }
 {
     let n = chunk.len();
-    let mut run = start;
+    let mut cursor = start;
     let mut at = 0;
     while at < n {
-        if !run.going {
-            return run;
+        if !cursor.going {
+            return cursor;
         }
         let end = part_end(BLOCK_SIZE, at, n);
-        run = list_block(run, &chunk[at..end], pairs, out, state, index);
+        cursor = list_block(cursor, &chunk[at..end], pairs, out, state, index);
         at = end;
     }
-    run
+    cursor
 }

@@ -2,14 +2,14 @@
 use Rattle.wire.proofs.Prelude.{Bool, List, [], _++_, _∙_, _∷_, _≡_, ap, arith, drop, drop-at, drop-drop, length, length-append, refl, suc}
 use Rattle.wire.proofs.Prelude.{sym, take, take-at, true, zero-add, ℕ}
 use Rattle.journal.proofs.ReadBack.{written-reads}
-use Rattle.journal.specs.Journal.{AllPass, Reads, WrittenReads, allRecords, joined, journalOf}
+use Rattle.journal.specs.Journal.{AllRecordsPass, Reads, WrittenReads, allRecords, joined, journalOf}
 use Rattle.journal_blocks.proofs.Checking.{right-facts}
 use Rattle.journal_blocks.proofs.Items.{length-records}
 use Rattle.journal_blocks.specs.Blocks.{balancesOf, recordsOf, statedCount}
 use Rattle.ledgers.specs.Limits.{capacity}
 use Rattle.listing.proofs.Blocks.{lines-append, state-last}
-use Rattle.listing.specs.Listing.{Standing, afterBlock, blockText, blocksIn, blocksText, figuresLine, listing, opened, openingText}
-use Rattle.listing.specs.Listing.{recordLines, standingBy, unlessFault, whileGoing}
+use Rattle.listing.specs.Listing.{Progress, afterBlock, blockText, blocksIn, blocksText, figuresLine, listing, openedProgress, openingText}
+use Rattle.listing.specs.Listing.{recordLines, progressBy, unlessFault, whileGoing}
 use Rattle.listing_claims.specs.Whole.{LinesOfRecords, ListedRefused, ListedWhole, ListedWritten}
 use Rattle.listing_lines.specs.Lines.{headerLine, openLine}
 use Rattle.rules.proofs.ListCalls.{cut-first}
@@ -20,14 +20,14 @@ use Rattle.rules.specs.PairValidator.{pairOpened, pairOpeningRefusal, pairValid
 -- ## The lines of records
 
 -- the lines of blocks that are right in turn are those of all their records
-lines-of-blocks : {S : Type 0} (c : Checker S) (f : S → List ℕ) (p : Standing S) (bs : List (List ℕ)) → p .going ≡ true
-    → AllPass (p .block) (p .before) bs → blocksText c f p bs ≡ recordLines c f (p .state) (p .index) (allRecords bs)
-unfolding AllPass afterBlock allRecords blockText blocksText recordLines
+lines-of-blocks : {S : Type 0} (c : Checker S) (f : S → List ℕ) (p : Progress S) (bs : List (List ℕ)) → p .going ≡ true
+    → AllRecordsPass (p .block) (p .before) bs → blocksText c f p bs ≡ recordLines c f (p .state) (p .index) (allRecords bs)
+unfolding AllRecordsPass afterBlock allRecords blockText blocksText recordLines
 lines-of-blocks c f p [] g h = refl
 lines-of-blocks c f p (b ∷ bs) g h =
     rw (lines-append c f (p .state) (p .index) (recordsOf b) (allRecords bs), length-records (statedCount b) b)
     (go (p .going) g ∙ rw (h .0) (ap (λ (t : List ℕ). recordLines c f (p .state) (p .index) (recordsOf b) ++ t)
-    (lines-of-blocks c f (standingBy c 0 p b) bs g (h .1))))
+    (lines-of-blocks c f (progressBy c 0 p b) bs g (h .1))))
   where
     go : {t : List ℕ} (w : Bool) → w ≡ true → whileGoing w t ≡ t
     go w e = rw e
@@ -40,8 +40,8 @@ lines-of-records S c f s bs b cs = rw (state-last c s bs b, lines-append c f s 0
 -- ## The blocks of a journal
 
 -- blocks that are right in turn are what their bytes in a row are cut into
-blocks-back : (k before : ℕ) (bs : List (List ℕ)) → AllPass k before bs → blocksIn (joined bs) ≡ bs
-unfolding AllPass cut joined
+blocks-back : (k before : ℕ) (bs : List (List ℕ)) → AllRecordsPass k before bs → blocksIn (joined bs) ≡ bs
+unfolding AllRecordsPass cut joined
 blocks-back k before [] h = refl
 blocks-back k before (b ∷ bs) h =
     let l = right-facts b k before (h .0) .long in
@@ -58,7 +58,7 @@ listedBy n home far records =
 -- a journal that reads is listed by what it holds
 listed-by : (j home far : List ℕ) (records : List (List ℕ)) → Reads j home far records
     → listing j ≡ listedBy (pairOpeningRefusal home far) home far records
-unfolding AllPass joined listing openingText
+unfolding AllRecordsPass joined listing openingText
 listed-by j home far records r =
     let rest = joined (r .second ∷ r .others) in
     let later = joined (r .others) in
@@ -71,7 +71,8 @@ listed-by j home far records r =
     rw (← (drop-drop 512 512 j), left, drop-at (r .second) later 512 l1)
     (blocks-back 2 (statedCount (r .second)) (r .others) (r .right .1 .1)) in
     let lines = lines-of-blocks (pairValidator capacity) figuresLine
-    (opened (pairOpened (balancesOf (r .first)) (balancesOf (r .second))) (statedCount (r .second))) (r .others) refl (r .right .1 .1) in
+    (openedProgress (pairOpened (balancesOf (r .first)) (balancesOf (r .second))) (statedCount (r .second))) (r .others) refl (r .right .1
+    .1) in
     rw (first, second, others, r .right .0, r .right .1 .0, lines, r .home-balances, r .far-balances, r .record-list)
 
 -- ## The claims

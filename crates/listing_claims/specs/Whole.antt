@@ -4,7 +4,7 @@ use Prim.Native.Nat.{ℕ, suc}
 use mathlib.Core.List.{List, [], _∷_, _++_}
 use mathlib.Core.Path.{_≡_}
 use lib.ListN.{length}
-use Rattle.journal.specs.Journal.{Reads, Within, journalOf}
+use Rattle.journal.specs.Journal.{Reads, WithinLimits, journalOf}
 use Rattle.ledgers.specs.Limits.{capacity}
 use Rattle.listing.specs.Listing.{figuresLine, listing, recordLines, stateListed}
 use Rattle.listing_lines.specs.Lines.{faultLine, headerLine, openLine, recordLine}
@@ -33,7 +33,7 @@ ListedRefused =
 -- the journal written from an accepted opening and records within the limits is listed as them
 unfoldable pub ListedWritten : Type 0
 ListedWritten =
-    (home far : List ℕ) (records : List (List ℕ)) → Within home far records → pairOpeningRefusal home far ≡ 0
+    (home far : List ℕ) (records : List (List ℕ)) → WithinLimits home far records → pairOpeningRefusal home far ≡ 0
     → listing (journalOf home far records) ≡ wholeText home far records
 
 -- the line of each record has its index, the answer in the state after the records before it, and the figures after it

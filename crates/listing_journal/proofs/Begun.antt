@@ -3,15 +3,15 @@ use Rattle.wire.proofs.Prelude.{Bool, List, [], _*_, _++_, _∙_, _≡_, _≤_,
 use Rattle.wire.proofs.Prelude.{subst, sym, take, true, ℕ}
 use Rattle.journal_blocks.specs.Blocks.{balancesOf}
 use Rattle.listing.specs.Chunks.{openedBy}
-use Rattle.listing.specs.Listing.{Standing, opened}
-use Rattle.listing_journal.specs.Turns.{Listed, SomeEnd, noRow, noTurn, openingAlone, startText}
+use Rattle.listing.specs.Listing.{Progress, openedProgress}
+use Rattle.listing_journal.specs.Turns.{JournalListed, SomeLastTurn, noRow, noTurn, openingAlone, startText}
 use Rattle.listing_journal.specs.declared.ListResult.{ListResult}
 use Rattle.listing_journal.specs.declared.TurnResult.{TurnResult}
 use Rattle.listing_lines.specs.Lines.{headerLine}
 use Rattle.listing_opening.specs.Opened.{OpenedIn}
 use Rattle.listing_opening.specs.declared.Start.{Start}
 use Rattle.pair_core.proofs.Opened.{opened-ready, opened-view}
-use Rattle.pair_core.specs.Layout.{indexLength, pairViewOf}
+use Rattle.pair_core.specs.Layout.{pairIndexLength, pairViewOf}
 use Rattle.pair_rows.specs.Rows.{RowReady, rowOf}
 use Rattle.pair_rows.specs.declared.Row.{Row}
 use Rattle.rules.proofs.Lists.{never-both-tests}
@@ -26,7 +26,7 @@ long-as n xs q = q ∙ length-replicate {A = ℕ} n 0
 
 -- the state of an accepted opening, with nothing held yet, is ready for the first record
 pub started : (home far : List ℕ) (start : Start) (state : List ℕ) → OpenedIn home far start state
-    → RowReady state (replicate (2 * indexLength) 0) (start .row)
+    → RowReady state (replicate (2 * pairIndexLength) 0) (start .row)
 started home far start state o =
     let n = ap (λ (x : Row). x .refusal) (o .row-is) in
     let v = opened-view (balancesOf home) (balancesOf far) (o .unrefused) in
@@ -48,8 +48,8 @@ module _ {first : ℕ} {bytes out state : List ℕ} {start : Start}
     (b : Begun first bytes out start state) (printed : Bool) where
   -- with a last turn, or with none where the opening stands alone
   listed-with : (last : TurnResult) → (printed ≡ false → last ≡ noTurn 0 noRow) → (start .going ≡ false → last ≡ noTurn 0 noRow)
-      → (printed ≡ true → start .going ≡ true → SomeEnd (openedBy (take 512 bytes) (take 512 (drop 512 bytes))) last)
-      → Listed (record { first = first; end = start .end; printed = printed; opened = start .going; last = last })
+      → (printed ≡ true → start .going ≡ true → SomeLastTurn (openedBy (take 512 bytes) (take 512 (drop 512 bytes))) last)
+      → JournalListed (record { first = first; end = start .end; printed = printed; openedProgress = start .going; last = last })
   listed-with last u v w =
       record {
         bytes = bytes;
@@ -66,13 +66,13 @@ module _ {first : ℕ} {bytes out state : List ℕ} {start : Start}
 
   -- the opening alone, where its text was not written or it was refused
   pub listed-alone : {r : ListResult} → r ≡ openingAlone first (start .end) printed (start .going)
-      → (printed ≡ true → start .going ≡ true → ⊥) → Listed r
+      → (printed ≡ true → start .going ≡ true → ⊥) → JournalListed r
   listed-alone e k = rw e (listed-with (noTurn 0 noRow) (λ u. refl) (λ v. refl) (λ w g. absurd (k w g)))
 
   -- all of it, where the opening was written and accepted
-  pub listed-all : {last : TurnResult} → printed ≡ true → start .going ≡ true → SomeEnd (opened state (start .before)) last
-      → Listed (record { first = first; end = start .end; printed = printed; opened = start .going; last = last })
+  pub listed-all : {last : TurnResult} → printed ≡ true → start .going ≡ true → SomeLastTurn (openedProgress state (start .before)) last
+      → JournalListed (record { first = first; end = start .end; printed = printed; openedProgress = start .going; last = last })
   listed-all {last} w g e =
-      let o = ap₂ opened (b .opens g .state-is) (b .opens g .before-is) in
+      let o = ap₂ openedProgress (b .opens g .state-is) (b .opens g .before-is) in
       listed-with last (λ u. absurd (never-both-tests (sym w ∙ u))) (λ v. absurd (never-both-tests (sym g ∙ v)))
-      (λ w' g'. subst (λ (p : Standing (List ℕ)). SomeEnd p last) o e)
+      (λ w' g'. subst (λ (p : Progress (List ℕ)). SomeLastTurn p last) o e)

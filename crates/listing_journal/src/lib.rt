@@ -5,15 +5,16 @@ ghost use Prim.Native.Nat.{_*_};
 ghost use mathlib.Core.Path.{_≡_};
 ghost use lib.ListN.{length, replicate};
 ghost use Rattle.listing.specs.Chunks.{chunkRoom, chunkSize};
-ghost use Rattle.listing.specs.Listing.{opened};
-ghost use Rattle.listing_blocks.specs.Runs.{Bounded, standing};
-ghost use Rattle.listing_journal.specs.Turns.{Ended, Listed, SomeEnd, Turned, firstRun, goesOn, noTurn, openingAlone, resumedRun};
+ghost use Rattle.listing.specs.Listing.{openedProgress};
+ghost use Rattle.listing_blocks.specs.Cursors.{CursorBounds, progressOf};
+ghost use Rattle.listing_journal.specs.Turns.{LastTurnFrom, JournalListed, SomeLastTurn, TurnFrom, firstCursor, goesOn, noTurn};
+ghost use Rattle.listing_journal.specs.Turns.{openingAlone, resumedCursor};
 ghost use Rattle.listing_lines.specs.Hex.{pairTable};
-ghost use Rattle.pair_core.specs.Layout.{indexLength};
+ghost use Rattle.pair_core.specs.Layout.{pairIndexLength};
 ghost use Rattle.pair_rows.specs.Rows.{RowReady};
 use journal_blocks::BLOCK_SIZE;
 use journal_blocks::RECORDS;
-use listing_blocks::Run;
+use listing_blocks::Cursor;
 use listing_blocks::list_chunk;
 use listing_lines::LINE;
 use listing_lines::pairs;
@@ -37,7 +38,7 @@ const CHUNKS: u64 = 1024;
 // What a turn leaves: where the listing stands, the bytes that it read, the length of the text that it handed on, and whether that was
 // written.
 pub struct TurnResult {
-    pub run: Run,
+    pub cursor: Cursor,
     pub read: usize,
     pub text: usize,
     pub written: bool,
@@ -49,15 +50,15 @@ pub struct ListResult {
     pub first: usize,
     pub end: usize,
     pub printed: bool,
-    pub opened: bool,
+    pub openedProgress: bool,
     pub last: TurnResult,
 }
 
 // The run of an accepted opening, with the count of block 1 and the opening's row.
-fn first_run(before: u64, row: Row) -> Run
-    ensures { λ r. ⌜ r ≡ firstRun before row ⌝ }
+fn first_cursor(before: u64, row: Row) -> Cursor
+    ensures { λ r. ⌜ r ≡ firstCursor before row ⌝ }
 {
-    Run {
+    Cursor {
         index: 0,
         block: 2,
         before,
@@ -72,7 +73,7 @@ fn no_turn(before: u64, row: Row) -> TurnResult
     ensures { λ r. ⌜ r ≡ noTurn before row ⌝ }
 {
     TurnResult {
-        run: first_run(before, row),
+        cursor: first_cursor(before, row),
         read: 0,
         text: 0,
         written: true,
@@ -80,14 +81,14 @@ fn no_turn(before: u64, row: Row) -> TurnResult
 }
 
 // A run that has the buffer to itself again.
-fn resumed(run: Run, going: bool) -> Run
-    ensures { λ r. ⌜ r ≡ resumedRun run going ⌝ }
+fn resumed(cursor: Cursor, going: bool) -> Cursor
+    ensures { λ r. ⌜ r ≡ resumedCursor cursor going ⌝ }
 {
-    let row = run.row;
-    Run {
-        index: run.index,
-        block: run.block,
-        before: run.before,
+    let row = cursor.row;
+    Cursor {
+        index: cursor.index,
+        block: cursor.block,
+        before: cursor.before,
         end: 0,
         going,
         row,
@@ -111,25 +112,26 @@ fn goes_on(written: bool, n: usize, going: bool) -> bool
 fn turn<'a, 'b, 'c, 'd>(
     source: i32,
     target: i32,
-    run: Run,
+    cursor: Cursor,
     input: &'a mut [u8],
     digits: &'a [u8; 512],
     out: &'b mut [u8],
     state: &'c mut [u64; WORDS],
     index: &'d mut [u16; INDEXES],
 ) -> TurnResult
-    requires { ⌜ Bounded run × (run .end ≡ 0) × (length (now input) ≡ chunkSize) × (length (now out) ≡ chunkRoom)
-        × (now digits ≡ pairTable) × RowReady (now state) (now index) (run .row) ⌝ }
-    ensures keeps { λ r. ⌜ Bounded (r .run) × (r .run .end ≡ 0) × RowReady (now (state .exit)) (now (index .exit)) (r .run .row) ⌝ }
-    ensures turns { λ r. ⌜ Turned (standing run (now (state .entry))) (now (input .exit)) (now (out .exit)) r (now (state .exit)) ⌝ }
+    requires { ⌜ CursorBounds cursor × (cursor .end ≡ 0) × (length (now input) ≡ chunkSize) × (length (now out) ≡ chunkRoom)
+        × (now digits ≡ pairTable) × RowReady (now state) (now index) (cursor .row) ⌝ }
+    ensures keeps { λ r. ⌜ CursorBounds (r .cursor) × (r .cursor .end ≡ 0) × RowReady (now (state .exit)) (now (index .exit)) (r .cursor
+        .row) ⌝ }
+    ensures turns { λ r. ⌜ TurnFrom (progressOf cursor (now (state .entry))) (now (input .exit)) (now (out .exit)) r (now (state .exit)) ⌝ }
 {
     let read = io::read_full(source, input);
-    let next = list_chunk(run, &input[..read], digits, out, state, index);
+    let next = list_chunk(cursor, &input[..read], digits, out, state, index);
     let text = next.end;
     let written = io::write_all(target, &out[..text]);
     let going = goes_on(written, read, next.going);
     TurnResult {
-        run: resumed(next, going),
+        cursor: resumed(next, going),
         read,
         text,
         written,
@@ -150,17 +152,18 @@ fn list_rest<'a, 'b, 'c, 'd>(
 ) -> TurnResult
     requires { ⌜ (length (now input) ≡ chunkSize) × (length (now out) ≡ chunkRoom) × (now digits ≡ pairTable)
         × RowReady (now state) (now index) (start .row) ⌝ }
-    ensures { λ r. ⌜ Ended (opened (now (state .entry)) (start .before)) (now (input .exit)) (now (out .exit)) r (now (state .exit)) ⌝ }
+    ensures { λ r. ⌜ LastTurnFrom (openedProgress (now (state .entry)) (start .before)) (now (input .exit)) (now (out .exit)) r (now (state
+        .exit)) ⌝ }
 {
     let row = start.row;
     let mut last = no_turn(start.before, row);
     let mut turns = CHUNKS;
     while 0 < turns {
-        let run = last.run;
-        if !run.going {
+        let cursor = last.cursor;
+        if !cursor.going {
             return last;
         }
-        last = turn(source, target, run, input, digits, out, state, index);
+        last = turn(source, target, cursor, input, digits, out, state, index);
         turns -= 1;
     }
     last
@@ -174,8 +177,8 @@ fn list_opened<'a, 'b>(
     out: &'a mut [u8],
     state: &'b mut [u64; WORDS],
 ) -> TurnResult
-    requires { ⌜ (length (now out) ≡ chunkRoom) × RowReady (now state) (replicate (2 * indexLength) 0) (start .row) ⌝ }
-    ensures { λ r. ⌜ SomeEnd (opened (now (state .entry)) (start .before)) r ⌝ }
+    requires { ⌜ (length (now out) ≡ chunkRoom) × RowReady (now state) (replicate (2 * pairIndexLength) 0) (start .row) ⌝ }
+    ensures { λ r. ⌜ SomeLastTurn (openedProgress (now (state .entry)) (start .before)) r ⌝ }
 {
     let digits = pairs();
     let mut input = [0u8; CHUNK];
@@ -193,8 +196,8 @@ fn list_opened<'a, 'b>(
 }
 
 // A listing of the opening alone: no turn was made after it.
-fn opening_alone(first: usize, end: usize, printed: bool, opened: bool) -> ListResult
-    ensures { λ r. ⌜ r ≡ openingAlone first end printed opened ⌝ }
+fn opening_alone(first: usize, end: usize, printed: bool, openedProgress: bool) -> ListResult
+    ensures { λ r. ⌜ r ≡ openingAlone first end printed openedProgress ⌝ }
 {
     let none = Row {
         refusal: 0,
@@ -206,7 +209,7 @@ fn opening_alone(first: usize, end: usize, printed: bool, opened: bool) -> ListR
         first,
         end,
         printed,
-        opened,
+        openedProgress,
         last: no_turn(0, none),
     }
 }
@@ -214,7 +217,7 @@ fn opening_alone(first: usize, end: usize, printed: bool, opened: bool) -> ListR
 // The listing of the journal in the file `source`, to the file `target` (descriptors): the opening, and where it was written and accepted
 // the rest. Not published: a contract cannot say what is read or written (docs/DECISIONS.md, 47).
 pub fn list(source: i32, target: i32) -> ListResult
-    ensures { λ r. ⌜ Listed r ⌝ }
+    ensures { λ r. ⌜ JournalListed r ⌝ }
 {
     let mut out = [0u8; TEXT];
     let mut state = [0u64; WORDS];
@@ -223,12 +226,12 @@ pub fn list(source: i32, target: i32) -> ListResult
     let start = list_start(&opening[..first], &mut out, &mut state);
     let end = start.end;
     let printed = io::write_all(target, &out[..end]);
-    let opened = start.going;
-    let alone = opening_alone(first, end, printed, opened);
+    let openedProgress = start.going;
+    let alone = opening_alone(first, end, printed, openedProgress);
     if !printed {
         return alone;
     }
-    if !opened {
+    if !openedProgress {
         return alone;
     }
     let last = list_opened(source, target, start, &mut out, &mut state);
@@ -236,7 +239,7 @@ pub fn list(source: i32, target: i32) -> ListResult
         first,
         end,
         printed,
-        opened,
+        openedProgress,
         last,
     }
 }

@@ -5,13 +5,13 @@ use Rattle.wire.proofs.Prelude.{length-set, length-take, lt-ltb, ltb, ltb-false
 use Rattle.wire.proofs.Prelude.{take-suc, take-suc-set, true, zero, ℕ}
 use Rattle.io.specs.Digits.{Fewest, digits}
 use Rattle.listing_lines.specs.Hex.{highDigit, lowDigit}
-use Rattle.listing_lines.specs.Lines.{Put, decimal, decimalIn, hexadecimal, numberText}
+use Rattle.listing_lines.specs.Lines.{TextPut, decimal, decimalIn, hexadecimal, numberText}
 use Rattle.listing_lines.specs.Lines.{faultLine, figuresText, headerLine, openLine, recordLine}
 
 -- ## Texts one after the other
 
 -- a text put after another is one text with it
-pub put-put : {d e f x y : List ℕ} {o r s : ℕ} → Put d o x e r → Put e r y f s → Put d o (x ++ y) f s
+pub put-put : {d e f x y : List ℕ} {o r s : ℕ} → TextPut d o x e r → TextPut e r y f s → TextPut d o (x ++ y) f s
 put-put {d} {e} {f} {x} {y} {o} {r} {s} p q =
     record {
       next = omega (arith, p .next, q .next, length-append x y);
@@ -20,16 +20,16 @@ put-put {d} {e} {f} {x} {y} {o} {r} {s} p q =
     }
 
 -- no text changes nothing
-pub put-none : (d : List ℕ) (o : ℕ) → Put d o [] d o
+pub put-none : (d : List ℕ) (o : ℕ) → TextPut d o [] d o
 put-none d o = record { next = omega arith; size = refl; text = sym (append-nil (take o d)) }
 
 -- one character
-pub put-one : (d : List ℕ) (o v : ℕ) → o < length d → Put d o (v ∷ []) (set d o v) (o + 1)
+pub put-one : (d : List ℕ) (o v : ℕ) → o < length d → TextPut d o (v ∷ []) (set d o v) (o + 1)
 put-one d o v h = record { next = omega arith; size = length-set d o v; text = rw (add-one o) (take-suc-set d o v h) }
 
 -- one more of the bytes s
-pub put-next : {d e : List ℕ} {o : ℕ} (s : List ℕ) (i : ℕ) → o + i < length d → i < length s → Put d o (take i s) e (o + i)
-    → Put d o (take (i + 1) s) (set e (o + i) (getD s i 0)) (o + (i + 1))
+pub put-next : {d e : List ℕ} {o : ℕ} (s : List ℕ) (i : ℕ) → o + i < length d → i < length s → TextPut d o (take i s) e (o + i)
+    → TextPut d o (take (i + 1) s) (set e (o + i) (getD s i 0)) (o + (i + 1))
 put-next {d} {e} {o} s i h l p =
     let z : o + (i + 1) ≡ o + i + 1 = omega arith in
     rw (z, add-one i, take-suc s i 0 l) (put-put p (put-one e (o + i) (getD s i 0) (omega (arith, p .size))))
@@ -49,14 +49,15 @@ hexadecimal-length [] = refl
 hexadecimal-length (x ∷ xs) = omega (arith, hexadecimal-length xs)
 
 -- the two digits of one more byte of a transfer number have room
-pub number-room : {d e : List ℕ} {o p : ℕ} (l : List ℕ) (i : ℕ) → i < 16 → Put d o (hexadecimal (take (i - 8) (drop 8 l))) e p
+pub number-room : {d e : List ℕ} {o p : ℕ} (l : List ℕ) (i : ℕ) → i < 16 → TextPut d o (hexadecimal (take (i - 8) (drop 8 l))) e p
     → o + 16 ≤ length d → p + 2 ≤ length e
 number-room l i h q r = omega (arith, q, hexadecimal-length (take (i - 8) (drop 8 l)), length-take (i - 8) (drop 8 l))
 
 -- the two digits of one more byte
 pub number-next : {d e f g : List ℕ} {o p q r x y : ℕ} (l : List ℕ) (i : ℕ) → 8 ≤ i → i < length l → x ≡ highDigit (getD l i 0)
-    → y ≡ lowDigit (getD l i 0) → Put d o (hexadecimal (take (i - 8) (drop 8 l))) e p → Put e p (x ∷ []) f q → Put f q (y ∷ []) g r
-    → Put d o (hexadecimal (take (i + 1 - 8) (drop 8 l))) g r
+    → y ≡ lowDigit (getD l i 0) → TextPut d o (hexadecimal (take (i - 8) (drop 8 l))) e p → TextPut e p (x ∷ []) f q → TextPut f q (y ∷ [])
+    g r
+    → TextPut d o (hexadecimal (take (i + 1 - 8) (drop 8 l))) g r
 unfolding hexadecimal
 number-next l i h m ex ey a b c =
     let s : i + 1 - 8 ≡ suc (i - 8) = omega arith in
@@ -94,7 +95,7 @@ few-digits n k h w = by-test (ltb 20 k) refl
 
 -- what `io::decimal` left at the start of l is put as the decimal digits
 pub decimal-whole : {d e : List ℕ} {o r : ℕ} (n k : ℕ) (l : List ℕ) → k ≤ 20 → Fewest 10 1 n k → take k l ≡ digits 10 k n
-    → Put d o (take k l) e r → Put d o (decimal n) e r
+    → TextPut d o (take k l) e r → TextPut d o (decimal n) e r
 unfolding decimal
 decimal-whole n k l h w x p = rw (x ∙ digits-decimal 20 k n h w) at p
 
@@ -122,11 +123,11 @@ unfolding numberText
 number-short r = omega (arith, hexadecimal-length (take 8 (drop 8 r)), length-take 8 (drop 8 r))
 
 -- so a number ends no more than 20 places on
-pub decimal-ends : {d e : List ℕ} {o r : ℕ} (n : ℕ) → Put d o (decimal n) e r → r ≤ o + 20
+pub decimal-ends : {d e : List ℕ} {o r : ℕ} (n : ℕ) → TextPut d o (decimal n) e r → r ≤ o + 20
 decimal-ends n p = omega (arith, p .next, decimal-short n)
 
 -- and a transfer number no more than 16
-pub number-ends : {d e : List ℕ} {o p : ℕ} (r : List ℕ) → Put d o (numberText r) e p → p ≤ o + 16
+pub number-ends : {d e : List ℕ} {o p : ℕ} (r : List ℕ) → TextPut d o (numberText r) e p → p ≤ o + 16
 number-ends r p = omega (arith, p .next, number-short r)
 
 -- no more than 64 characters of figures

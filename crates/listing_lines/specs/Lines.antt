@@ -67,7 +67,7 @@ figuresRoom = 64
 
 -- in the bytes d the text x was put at o, which gave the bytes e, and r is the place after it; what stands before o
 -- stays, and of what stands after r nothing is said
-pub record Put (d : List ℕ) (o : ℕ) (x e : List ℕ) (r : ℕ) : Type 0 where
+pub record TextPut (d : List ℕ) (o : ℕ) (x e : List ℕ) (r : ℕ) : Type 0 where
   pub next : r ≡ o + length x
   pub size : length e ≡ length d
   pub text : take r e ≡ take o d ++ x

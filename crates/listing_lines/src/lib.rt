@@ -7,7 +7,7 @@ ghost use mathlib.Core.List.{[], _∷_};
 ghost use mathlib.Core.Path.{_≡_};
 ghost use lib.ListN.{length};
 ghost use Rattle.listing_lines.specs.Hex.{pairTable};
-ghost use Rattle.listing_lines.specs.Lines.{Put, decimal, faultLine, figuresRoom, figuresText, headerLine, lineRoom, numberText};
+ghost use Rattle.listing_lines.specs.Lines.{TextPut, decimal, faultLine, figuresRoom, figuresText, headerLine, lineRoom, numberText};
 ghost use Rattle.listing_lines.specs.Lines.{openLine, recordLine};
 use hex::high;
 use hex::low;
@@ -22,7 +22,7 @@ pub const FIGURES: usize = 64;
 
 fn put_byte(out: &mut [u8], o: usize, v: u8) -> usize
     requires { ⌜ o < length (now out) ⌝ }
-    ensures { λ r. ⌜ Put (now (out .entry)) o (v ∷ []) (now (out .exit)) r ⌝ }
+    ensures { λ r. ⌜ TextPut (now (out .entry)) o (v ∷ []) (now (out .exit)) r ⌝ }
 {
     out[o] = v;
     o + 1
@@ -30,7 +30,7 @@ fn put_byte(out: &mut [u8], o: usize, v: u8) -> usize
 
 fn put_bytes(out: &mut [u8], o: usize, text: &[u8]) -> usize
     requires { ⌜ o + length (now text) ≤ length (now out) ⌝ }
-    ensures { λ r. ⌜ Put (now (out .entry)) o (now (text .entry)) (now (out .exit)) r ⌝ }
+    ensures { λ r. ⌜ TextPut (now (out .entry)) o (now (text .entry)) (now (out .exit)) r ⌝ }
 {
     let n = text.len();
     let mut i = 0;
@@ -43,7 +43,7 @@ fn put_bytes(out: &mut [u8], o: usize, text: &[u8]) -> usize
 
 fn put_decimal(out: &mut [u8], o: usize, x: u64) -> usize
     requires { ⌜ o + 20 ≤ length (now out) ⌝ }
-    ensures { λ r. ⌜ Put (now (out .entry)) o (decimal x) (now (out .exit)) r ⌝ }
+    ensures { λ r. ⌜ TextPut (now (out .entry)) o (decimal x) (now (out .exit)) r ⌝ }
 {
     let mut text = [0u8; 20];
     let n = io::decimal(x, &mut text);
@@ -52,7 +52,7 @@ fn put_decimal(out: &mut [u8], o: usize, x: u64) -> usize
 
 fn put_number(out: &mut [u8], o: usize, pairs: &[u8; 512], bytes: &[u8]) -> usize
     requires { ⌜ (o + 16 ≤ length (now out)) × (now pairs ≡ pairTable) × (length (now bytes) ≡ 32) ⌝ }
-    ensures { λ r. ⌜ Put (now (out .entry)) o (numberText (now (bytes .entry))) (now (out .exit)) r ⌝ }
+    ensures { λ r. ⌜ TextPut (now (out .entry)) o (numberText (now (bytes .entry))) (now (out .exit)) r ⌝ }
 {
     let mut i = 8;
     let mut p = o;
@@ -67,7 +67,7 @@ fn put_number(out: &mut [u8], o: usize, pairs: &[u8; 512], bytes: &[u8]) -> usiz
 // The figures: home total, far total and in flight.
 pub fn put_figures(out: &mut [u8], o: usize, home: u64, far: u64, flight: u64) -> usize
     requires { ⌜ o + figuresRoom ≤ length (now out) ⌝ }
-    ensures { λ r. ⌜ Put (now (out .entry)) o (figuresText home far flight) (now (out .exit)) r ⌝ }
+    ensures { λ r. ⌜ TextPut (now (out .entry)) o (figuresText home far flight) (now (out .exit)) r ⌝ }
 {
     let a = put_byte(out, o, b' ');
     let b = put_decimal(out, a, home);
@@ -83,7 +83,7 @@ pub fn put_figures(out: &mut [u8], o: usize, home: u64, far: u64, flight: u64) -
 // The first line.
 pub fn put_header(out: &mut [u8], o: usize) -> usize
     requires { ⌜ o + lineRoom ≤ length (now out) ⌝ }
-    ensures { λ r. ⌜ Put (now (out .entry)) o headerLine (now (out .exit)) r ⌝ }
+    ensures { λ r. ⌜ TextPut (now (out .entry)) o headerLine (now (out .exit)) r ⌝ }
 {
     put_bytes(out, o, b"record number answer home far flight\n")
 }
@@ -91,7 +91,7 @@ pub fn put_header(out: &mut [u8], o: usize) -> usize
 // The line of an accepted opening.
 pub fn put_open(out: &mut [u8], o: usize, home: u64, far: u64) -> usize
     requires { ⌜ o + lineRoom ≤ length (now out) ⌝ }
-    ensures { λ r. ⌜ Put (now (out .entry)) o (openLine (figuresText home far 0)) (now (out .exit)) r ⌝ }
+    ensures { λ r. ⌜ TextPut (now (out .entry)) o (openLine (figuresText home far 0)) (now (out .exit)) r ⌝ }
 {
     let a = put_bytes(out, o, b"open - 0");
     put_figures(out, a, home, far, 0)
@@ -109,7 +109,7 @@ pub fn put_record(
 ) -> usize
     requires { ⌜ (o + lineRoom ≤ length (now out)) × (now pairs ≡ pairTable) × (length (now bytes) ≡ 32)
         × (length (now figures) ≤ figuresRoom) ⌝ }
-    ensures { λ r. ⌜ Put (now (out .entry)) o (recordLine index (now (bytes .entry)) answer (now (figures .entry)))
+    ensures { λ r. ⌜ TextPut (now (out .entry)) o (recordLine index (now (bytes .entry)) answer (now (figures .entry)))
         (now (out .exit)) r ⌝ }
 {
     let a = put_decimal(out, o, index);
@@ -123,7 +123,7 @@ pub fn put_record(
 // The line of a bad block.
 pub fn put_fault(out: &mut [u8], o: usize, refusal: u64, block: u64) -> usize
     requires { ⌜ o + lineRoom ≤ length (now out) ⌝ }
-    ensures { λ r. ⌜ Put (now (out .entry)) o (faultLine refusal block) (now (out .exit)) r ⌝ }
+    ensures { λ r. ⌜ TextPut (now (out .entry)) o (faultLine refusal block) (now (out .exit)) r ⌝ }
 {
     let a = put_bytes(out, o, b"fault ");
     let b = put_decimal(out, a, refusal);

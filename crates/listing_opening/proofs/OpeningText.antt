@@ -12,7 +12,7 @@ use Rattle.journal_reader.specs.Judged.{balancesRefusal, openingOf}
 use Rattle.journal_reader.specs.declared.Balances.{Balances}
 use Rattle.listing.specs.Listing.{openingText, unlessFault}
 use Rattle.listing_lines.proofs.Puts.{fault-short, header-short, open-short, put-put}
-use Rattle.listing_lines.specs.Lines.{Put, faultLine, figuresText, headerLine, openLine}
+use Rattle.listing_lines.specs.Lines.{TextPut, faultLine, figuresText, headerLine, openLine}
 use Rattle.listing_opening.specs.Opened.{OpenedIn}
 use Rattle.listing_opening.specs.declared.Start.{Start}
 use Rattle.pair_core.specs.Layout.{pairOpenedWords}
@@ -71,11 +71,11 @@ module _ (home far : List ℕ) where
 -- what a listing leaves that stops at a fault
 pub fault-leaves : {P : Type 0} (home far : List ℕ) (start : Start) (n block : ℕ) {d e f : List ℕ} {o r : ℕ}
     → ((rest : List ℕ) → openingText home far rest ≡ faultLine n block)
-    → Put d 0 headerLine e o
-    → Put e o (faultLine n block) f r
+    → TextPut d 0 headerLine e o
+    → TextPut e o (faultLine n block) f r
     → start .end ≡ r
     → start .going ≡ false
-    → Put d 0 (headerLine ++ openingText home far []) f (start .end)
+    → TextPut d 0 (headerLine ++ openingText home far []) f (start .end)
     × ((start .going ≡ true → P)
     × ((start .going ≡ false → (rest : List ℕ) → openingText home far rest ≡ openingText home far [])
     × (start .end ≤ 256)))
@@ -89,12 +89,12 @@ pub open-leaves : (home far : List ℕ) (row : Row) {d e f state : List ℕ} {o 
     → blockRefusal home 0 0 ≡ 0
     → blockRefusal far 1 (statedCount home) ≡ 0
     → pairOpeningRefusal (balancesOf home) (balancesOf far) ≡ 0
-    → Put d 0 headerLine e o
-    → Put e o (openLine (figuresText (row .home) (row .far) 0)) f end
+    → TextPut d 0 headerLine e o
+    → TextPut e o (openLine (figuresText (row .home) (row .far) 0)) f end
     → row ≡ rowOf 0 (pairOpened (balancesOf home) (balancesOf far))
     → before ≡ statedCount far
     → state ≡ pairOpenedWords (balancesOf home) (balancesOf far)
-    → Put d 0 (headerLine ++ openingText home far []) f end
+    → TextPut d 0 (headerLine ++ openingText home far []) f end
     × ((true ≡ true → OpenedIn home far (record { row = row; before = before; end = end; going = true }) state)
     × ((true ≡ false → (rest : List ℕ) → openingText home far rest ≡ openingText home far [])
     × (end ≤ 256)))

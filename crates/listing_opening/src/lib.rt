@@ -5,7 +5,7 @@ ghost use mathlib.Core.List.{List, [], _++_};
 ghost use mathlib.Core.Path.{_≡_};
 ghost use lib.ListN.{drop, length, replicate, take};
 ghost use Rattle.listing.specs.Listing.{openingText};
-ghost use Rattle.listing_lines.specs.Lines.{Put, headerLine};
+ghost use Rattle.listing_lines.specs.Lines.{TextPut, headerLine};
 ghost use Rattle.listing_opening.specs.Opened.{OpenedIn};
 ghost use Rattle.pair_core.specs.Layout.{pairWords};
 use answers::Answer;
@@ -52,7 +52,7 @@ fn list_opening<'a, 'b, 'c>(
     state: &'c mut [u64; WORDS],
 ) -> Start
     requires { ⌜ (256 ≤ length (now out)) × (now state ≡ replicate pairWords 0) ⌝ }
-    ensures puts { λ r. ⌜ Put (now (out .entry)) 0 (headerLine ++ openingText (now (home .entry)) (now (far .entry)) [])
+    ensures puts { λ r. ⌜ TextPut (now (out .entry)) 0 (headerLine ++ openingText (now (home .entry)) (now (far .entry)) [])
         (now (out .exit)) (r .end) ⌝ }
     ensures opens { λ r. ⌜ (r .going ≡ true → OpenedIn (now (home .entry)) (now (far .entry)) r (now (state .exit))) ⌝ }
     ensures stops { λ r. ⌜ (r .going ≡ false → (rest : List ℕ)
@@ -94,7 +94,7 @@ pub fn list_start<'a, 'b, 'c>(
     state: &'c mut [u64; WORDS],
 ) -> Start
     requires { ⌜ (256 ≤ length (now out)) × (now state ≡ replicate pairWords 0) ⌝ }
-    ensures puts { λ r. ⌜ Put (now (out .entry)) 0 (headerLine ++ openingText (take 512 (now (bytes .entry)))
+    ensures puts { λ r. ⌜ TextPut (now (out .entry)) 0 (headerLine ++ openingText (take 512 (now (bytes .entry)))
         (take 512 (drop 512 (now (bytes .entry)))) []) (now (out .exit)) (r .end) ⌝ }
     ensures opens { λ r. ⌜ (r .going ≡ true → OpenedIn (take 512 (now (bytes .entry))) (take 512 (drop 512 (now (bytes .entry)))) r
         (now (state .exit))) ⌝ }

@@ -11,9 +11,9 @@ ghost use Rattle.home_validator.specs.State.{homeChecker, homeOpenedState, home
 ghost use Rattle.journal_blocks.specs.Checked.{blockRefusal};
 ghost use Rattle.journal_reader.specs.Judged.{recordRefusal, partOf, countOf, openingOf};
 ghost use Rattle.journal_writer.specs.Written.{writeRefusal, written};
-ghost use Rattle.moatbetony.specs.Told.{libraryVersion, stateVersion, told, pairTold, pairFiguresTold, homeTold};
-ghost use Rattle.moatbetony.specs.Told.{homeFiguresTold, balanceTold, recordTold, encodedTold, partTold};
-ghost use Rattle.moatbetony.specs.Told.{countTold, balancesTold, pairPlacesTold, homePlacesTold};
+ghost use Rattle.moatbetony.specs.Plain.{libraryVersion, stateVersion, plainAnswer, pairOutcome, plainPairFigures, homeOutcome};
+ghost use Rattle.moatbetony.specs.Plain.{plainHomeFigures, plainBalance, plainRecord, plainEncoded, plainPart};
+ghost use Rattle.moatbetony.specs.Plain.{plainCount, plainBalances, plainPairPlaces, plainHomePlaces};
 ghost use Rattle.pair_core.specs.Layout.{acceptsPair, pairWordsChecker};
 ghost use Rattle.pair_validator.specs.Figures.{pairBalanceOf, pairFiguresOf, pairPlacesOf};
 ghost use Rattle.pair_validator.specs.State.{pairChecker, pairOpenedState, pairZeroState};
@@ -55,23 +55,23 @@ pub extern "C" fn moatbetony_state_version() -> u32
 
 // An answer: 0 for passed or a refusal's number; 1 for passed, which a struct of zeros does not have, and 0 for a refusal; its place.
 #[repr(C)]
-pub struct Told {
+pub struct PlainAnswer {
     pub number: u32,
     pub passed: u32,
     pub place: u64,
 }
 
 // An answer as it crosses.
-fn tell(a: Answer) -> Told
-    ensures { λ r. ⌜ r ≡ told a ⌝ }
+fn plain(a: Answer) -> PlainAnswer
+    ensures { λ r. ⌜ r ≡ plainAnswer a ⌝ }
 {
     match a {
-        Answer::Passed => Told {
+        Answer::Passed => PlainAnswer {
             number: 0,
             passed: 1,
             place: 0,
         },
-        Answer::Refused { number, place } => Told {
+        Answer::Refused { number, place } => PlainAnswer {
             number,
             passed: 0,
             place,
@@ -83,15 +83,15 @@ fn tell(a: Answer) -> Told
 
 // An answer, and the state to go on with.
 #[repr(C)]
-pub struct PairTold {
-    pub answer: Told,
+pub struct PairOutcome {
+    pub answer: PlainAnswer,
     pub state: PairValidator,
 }
 
 // An answer, the totals of both ledgers and what is in flight.
 #[repr(C)]
-pub struct PairFiguresTold {
-    pub answer: Told,
+pub struct PlainPairFigures {
+    pub answer: PlainAnswer,
     pub home: u64,
     pub far: u64,
     pub flight: u64,
@@ -99,16 +99,16 @@ pub struct PairFiguresTold {
 
 // An answer, and the places left on both ledgers.
 #[repr(C)]
-pub struct PairPlacesTold {
-    pub answer: Told,
+pub struct PlainPairPlaces {
+    pub answer: PlainAnswer,
     pub home: u64,
     pub far: u64,
 }
 
 // An answer, and the balance of an account.
 #[repr(C)]
-pub struct BalanceTold {
-    pub answer: Told,
+pub struct PlainBalance {
+    pub answer: PlainAnswer,
     pub balance: u64,
 }
 
@@ -117,8 +117,8 @@ pub struct BalanceTold {
 pub extern "C" fn moatbetony_pair_open<'a>(
     home_balances: &'a [u64],
     far_balances: &'a [u64],
-) -> PairTold
-    ensures { λ r. ⌜ r ≡ pairTold (answer (pairOpeningRefusal (now («home_balances» .entry)) (now («far_balances» .entry))) 0)
+) -> PairOutcome
+    ensures { λ r. ⌜ r ≡ pairOutcome (answer (pairOpeningRefusal (now («home_balances» .entry)) (now («far_balances» .entry))) 0)
         (unlessRefused (pairOpeningRefusal (now («home_balances» .entry)) (now («far_balances» .entry)))
         (pairOpenedState (now («home_balances» .entry)) (now («far_balances» .entry)))
         pairZeroState) ⌝ }
@@ -126,45 +126,51 @@ pub extern "C" fn moatbetony_pair_open<'a>(
     let o = PairValidator::open(home_balances, far_balances);
     let a = o.answer;
     let state = o.state;
-    PairTold {
-        answer: tell(a),
+    PairOutcome {
+        answer: plain(a),
         state,
     }
 }
 
 // A call with one record.
 #[no_mangle]
-pub extern "C" fn moatbetony_pair_check_record(mut state: PairValidator, bytes: &[u8]) -> PairTold
-    ensures { λ r. ⌜ r ≡ pairTold (call pairChecker state (one (now (bytes .entry))) .answer)
+pub extern "C" fn moatbetony_pair_check_record(
+    mut state: PairValidator,
+    bytes: &[u8],
+) -> PairOutcome
+    ensures { λ r. ⌜ r ≡ pairOutcome (call pairChecker state (one (now (bytes .entry))) .answer)
         (call pairChecker state (one (now (bytes .entry))) .state) ⌝ }
 {
     let answer = pair_core::take(&mut state.words, bytes);
-    PairTold {
-        answer: tell(answer),
+    PairOutcome {
+        answer: plain(answer),
         state, // after the record of the pair validator
     }
 }
 
 // A call with a list.
 #[no_mangle]
-pub extern "C" fn moatbetony_pair_check_list(mut state: PairValidator, bytes: &[u8]) -> PairTold
-    ensures { λ r. ⌜ r ≡ pairTold (call pairChecker state (list (now (bytes .entry))) .answer)
+pub extern "C" fn moatbetony_pair_check_list(mut state: PairValidator, bytes: &[u8]) -> PairOutcome
+    ensures { λ r. ⌜ r ≡ pairOutcome (call pairChecker state (list (now (bytes .entry))) .answer)
         (call pairChecker state (list (now (bytes .entry))) .state) ⌝ }
 {
     let answer = pair_core::take_list(&mut state.words, bytes);
-    PairTold {
-        answer: tell(answer),
+    PairOutcome {
+        answer: plain(answer),
         state, // after the list of the pair validator
     }
 }
 
 // A call with one record, on a state lent. A refusal leaves every word as it was.
 #[no_mangle]
-pub extern "C" fn moatbetony_pair_take(state: &mut [u64; pair_core::WORDS], bytes: &[u8]) -> Told
-    ensures answers { λ r. ⌜ r ≡ told (call pairWordsChecker (now (state .entry)) (one (now (bytes .entry))) .answer) ⌝ }
+pub extern "C" fn moatbetony_pair_take(
+    state: &mut [u64; pair_core::WORDS],
+    bytes: &[u8],
+) -> PlainAnswer
+    ensures answers { λ r. ⌜ r ≡ plainAnswer (call pairWordsChecker (now (state .entry)) (one (now (bytes .entry))) .answer) ⌝ }
     ensures leaves { λ _. ⌜ now (state .exit) ≡ call pairWordsChecker (now (state .entry)) (one (now (bytes .entry))) .state ⌝ }
 {
-    tell(pair_core::take(state, bytes))
+    plain(pair_core::take(state, bytes))
 }
 
 // A call with a list, on a state lent. A refusal leaves every word as it was.
@@ -172,22 +178,22 @@ pub extern "C" fn moatbetony_pair_take(state: &mut [u64; pair_core::WORDS], byte
 pub extern "C" fn moatbetony_pair_take_list(
     state: &mut [u64; pair_core::WORDS],
     bytes: &[u8],
-) -> Told
-    ensures answers { λ r. ⌜ r ≡ told (call pairWordsChecker (now (state .entry)) (list (now (bytes .entry))) .answer) ⌝ }
+) -> PlainAnswer
+    ensures answers { λ r. ⌜ r ≡ plainAnswer (call pairWordsChecker (now (state .entry)) (list (now (bytes .entry))) .answer) ⌝ }
     ensures leaves { λ _. ⌜ now (state .exit) ≡ call pairWordsChecker (now (state .entry)) (list (now (bytes .entry))) .state ⌝ }
 {
-    tell(pair_core::take_list(state, bytes))
+    plain(pair_core::take_list(state, bytes))
 }
 
 // The figures of a state.
 #[no_mangle]
-pub extern "C" fn moatbetony_pair_figures(state: PairValidator) -> PairFiguresTold
-    ensures { λ r. ⌜ r ≡ pairFiguresTold (pairFiguresOf (acceptsPair (state .words)) (state .words)) ⌝ }
+pub extern "C" fn moatbetony_pair_figures(state: PairValidator) -> PlainPairFigures
+    ensures { λ r. ⌜ r ≡ plainPairFigures (pairFiguresOf (acceptsPair (state .words)) (state .words)) ⌝ }
 {
     let f = pair_validator::figures(state);
     let a = f.answer;
-    PairFiguresTold {
-        answer: tell(a),
+    PlainPairFigures {
+        answer: plain(a),
         home: f.home,
         far: f.far,
         flight: f.flight,
@@ -200,26 +206,26 @@ pub extern "C" fn moatbetony_pair_balance(
     state: PairValidator,
     ledger: u8,
     account: u16,
-) -> BalanceTold
-    ensures { λ r. ⌜ r ≡ balanceTold (pairBalanceOf (acceptsPair (state .words)) (state .words) ledger account) ⌝ }
+) -> PlainBalance
+    ensures { λ r. ⌜ r ≡ plainBalance (pairBalanceOf (acceptsPair (state .words)) (state .words) ledger account) ⌝ }
 {
     let b = pair_validator::balance(state, ledger, account);
     let a = b.answer;
-    BalanceTold {
-        answer: tell(a),
+    PlainBalance {
+        answer: plain(a),
         balance: b.balance,
     }
 }
 
 // The places left on both ledgers.
 #[no_mangle]
-pub extern "C" fn moatbetony_pair_places_left(state: PairValidator) -> PairPlacesTold
-    ensures { λ r. ⌜ r ≡ pairPlacesTold (pairPlacesOf (acceptsPair (state .words)) (state .words)) ⌝ }
+pub extern "C" fn moatbetony_pair_places_left(state: PairValidator) -> PlainPairPlaces
+    ensures { λ r. ⌜ r ≡ plainPairPlaces (pairPlacesOf (acceptsPair (state .words)) (state .words)) ⌝ }
 {
     let both = pair_validator::places_left(state);
     let a = both.answer;
-    PairPlacesTold {
-        answer: tell(a),
+    PlainPairPlaces {
+        answer: plain(a),
         home: both.home,
         far: both.far,
     }
@@ -229,23 +235,23 @@ pub extern "C" fn moatbetony_pair_places_left(state: PairValidator) -> PairPlace
 
 // An answer, and the state to go on with.
 #[repr(C)]
-pub struct HomeTold {
-    pub answer: Told,
+pub struct HomeOutcome {
+    pub answer: PlainAnswer,
     pub state: HomeValidator,
 }
 
 // An answer, the home total and the far pool.
 #[repr(C)]
-pub struct HomeFiguresTold {
-    pub answer: Told,
+pub struct PlainHomeFigures {
+    pub answer: PlainAnswer,
     pub home: u64,
     pub pool: u64,
 }
 
 // An answer, and the places left on the home ledger.
 #[repr(C)]
-pub struct HomePlacesTold {
-    pub answer: Told,
+pub struct PlainHomePlaces {
+    pub answer: PlainAnswer,
     pub home: u64,
 }
 
@@ -255,53 +261,59 @@ pub extern "C" fn moatbetony_home_open(
     home_balances: &[u64],
     far_accounts: usize,
     far_total: u64,
-) -> HomeTold
-    ensures { λ r. ⌜ r ≡ homeTold (answer (homeOpeningRefusal (now («home_balances» .entry)) «far_accounts» «far_total») 0)
+) -> HomeOutcome
+    ensures { λ r. ⌜ r ≡ homeOutcome (answer (homeOpeningRefusal (now («home_balances» .entry)) «far_accounts» «far_total») 0)
         (unlessRefused (homeOpeningRefusal (now («home_balances» .entry)) «far_accounts» «far_total»)
         (homeOpenedState (now («home_balances» .entry)) «far_accounts» «far_total») homeZeroState) ⌝ }
 {
     let o = HomeValidator::open(home_balances, far_accounts, far_total);
     let a = o.answer;
     let state = o.state;
-    HomeTold {
-        answer: tell(a),
+    HomeOutcome {
+        answer: plain(a),
         state,
     }
 }
 
 // A call with one record.
 #[no_mangle]
-pub extern "C" fn moatbetony_home_check_record(mut state: HomeValidator, bytes: &[u8]) -> HomeTold
-    ensures { λ r. ⌜ r ≡ homeTold (call homeChecker state (one (now (bytes .entry))) .answer)
+pub extern "C" fn moatbetony_home_check_record(
+    mut state: HomeValidator,
+    bytes: &[u8],
+) -> HomeOutcome
+    ensures { λ r. ⌜ r ≡ homeOutcome (call homeChecker state (one (now (bytes .entry))) .answer)
         (call homeChecker state (one (now (bytes .entry))) .state) ⌝ }
 {
     let answer = home_core::take(&mut state.words, bytes);
-    HomeTold {
-        answer: tell(answer),
+    HomeOutcome {
+        answer: plain(answer),
         state, // after the record of the home validator
     }
 }
 
 // A call with a list.
 #[no_mangle]
-pub extern "C" fn moatbetony_home_check_list(mut state: HomeValidator, bytes: &[u8]) -> HomeTold
-    ensures { λ r. ⌜ r ≡ homeTold (call homeChecker state (list (now (bytes .entry))) .answer)
+pub extern "C" fn moatbetony_home_check_list(mut state: HomeValidator, bytes: &[u8]) -> HomeOutcome
+    ensures { λ r. ⌜ r ≡ homeOutcome (call homeChecker state (list (now (bytes .entry))) .answer)
         (call homeChecker state (list (now (bytes .entry))) .state) ⌝ }
 {
     let answer = home_core::take_list(&mut state.words, bytes);
-    HomeTold {
-        answer: tell(answer),
+    HomeOutcome {
+        answer: plain(answer),
         state, // after the list of the home validator
     }
 }
 
 // A call with one record, on a state lent. A refusal leaves every word as it was.
 #[no_mangle]
-pub extern "C" fn moatbetony_home_take(state: &mut [u64; home_core::WORDS], bytes: &[u8]) -> Told
-    ensures answers { λ r. ⌜ r ≡ told (call homeWordsChecker (now (state .entry)) (one (now (bytes .entry))) .answer) ⌝ }
+pub extern "C" fn moatbetony_home_take(
+    state: &mut [u64; home_core::WORDS],
+    bytes: &[u8],
+) -> PlainAnswer
+    ensures answers { λ r. ⌜ r ≡ plainAnswer (call homeWordsChecker (now (state .entry)) (one (now (bytes .entry))) .answer) ⌝ }
     ensures leaves { λ _. ⌜ now (state .exit) ≡ call homeWordsChecker (now (state .entry)) (one (now (bytes .entry))) .state ⌝ }
 {
-    tell(home_core::take(state, bytes))
+    plain(home_core::take(state, bytes))
 }
 
 // A call with a list, on a state lent. A refusal leaves every word as it was.
@@ -309,22 +321,22 @@ pub extern "C" fn moatbetony_home_take(state: &mut [u64; home_core::WORDS], byte
 pub extern "C" fn moatbetony_home_take_list(
     state: &mut [u64; home_core::WORDS],
     bytes: &[u8],
-) -> Told
-    ensures answers { λ r. ⌜ r ≡ told (call homeWordsChecker (now (state .entry)) (list (now (bytes .entry))) .answer) ⌝ }
+) -> PlainAnswer
+    ensures answers { λ r. ⌜ r ≡ plainAnswer (call homeWordsChecker (now (state .entry)) (list (now (bytes .entry))) .answer) ⌝ }
     ensures leaves { λ _. ⌜ now (state .exit) ≡ call homeWordsChecker (now (state .entry)) (list (now (bytes .entry))) .state ⌝ }
 {
-    tell(home_core::take_list(state, bytes))
+    plain(home_core::take_list(state, bytes))
 }
 
 // The figures of a state.
 #[no_mangle]
-pub extern "C" fn moatbetony_home_figures(state: HomeValidator) -> HomeFiguresTold
-    ensures { λ r. ⌜ r ≡ homeFiguresTold (homeFiguresOf (acceptsHome (state .words)) (state .words)) ⌝ }
+pub extern "C" fn moatbetony_home_figures(state: HomeValidator) -> PlainHomeFigures
+    ensures { λ r. ⌜ r ≡ plainHomeFigures (homeFiguresOf (acceptsHome (state .words)) (state .words)) ⌝ }
 {
     let h = home_validator::figures(state);
     let a = h.answer;
-    HomeFiguresTold {
-        answer: tell(a),
+    PlainHomeFigures {
+        answer: plain(a),
         home: h.home,
         pool: h.pool,
     }
@@ -332,26 +344,26 @@ pub extern "C" fn moatbetony_home_figures(state: HomeValidator) -> HomeFiguresTo
 
 // The balance of a home account.
 #[no_mangle]
-pub extern "C" fn moatbetony_home_balance(state: HomeValidator, account: u16) -> BalanceTold
-    ensures { λ r. ⌜ r ≡ balanceTold (homeBalanceOf (acceptsHome (state .words)) (state .words) account) ⌝ }
+pub extern "C" fn moatbetony_home_balance(state: HomeValidator, account: u16) -> PlainBalance
+    ensures { λ r. ⌜ r ≡ plainBalance (homeBalanceOf (acceptsHome (state .words)) (state .words) account) ⌝ }
 {
     let held = home_validator::balance(state, account);
     let a = held.answer;
-    BalanceTold {
-        answer: tell(a),
+    PlainBalance {
+        answer: plain(a),
         balance: held.balance,
     }
 }
 
 // The places left on the home ledger.
 #[no_mangle]
-pub extern "C" fn moatbetony_home_places_left(state: HomeValidator) -> HomePlacesTold
-    ensures { λ r. ⌜ r ≡ homePlacesTold (homePlacesOf (acceptsHome (state .words)) (state .words)) ⌝ }
+pub extern "C" fn moatbetony_home_places_left(state: HomeValidator) -> PlainHomePlaces
+    ensures { λ r. ⌜ r ≡ plainHomePlaces (homePlacesOf (acceptsHome (state .words)) (state .words)) ⌝ }
 {
     let left = home_validator::places_left(state);
     let a = left.answer;
-    HomePlacesTold {
-        answer: tell(a),
+    PlainHomePlaces {
+        answer: plain(a),
         home: left.home,
     }
 }
@@ -360,8 +372,8 @@ pub extern "C" fn moatbetony_home_places_left(state: HomeValidator) -> HomePlace
 
 // The fields of a record that was read, as numbers; zeros where it does not read.
 #[repr(C)]
-pub struct RecordTold {
-    pub answer: Told,
+pub struct PlainRecord {
+    pub answer: PlainAnswer,
     pub kind: u8,
     pub ledger: u8,
     pub sender: u16,
@@ -373,18 +385,18 @@ pub struct RecordTold {
 
 // The 32 bytes of a record; zeros where they would not read.
 #[repr(C)]
-pub struct EncodedTold {
-    pub answer: Told,
+pub struct PlainEncoded {
+    pub answer: PlainAnswer,
     pub bytes: [u8; 32],
 }
 
 // The fields of a record that was read.
-fn tell_record(r: Record) -> RecordTold
-    ensures { λ t. ⌜ t ≡ recordTold (Read r) ⌝ }
+fn tell_record(r: Record) -> PlainRecord
+    ensures { λ t. ⌜ t ≡ plainRecord (Read r) ⌝ }
 {
     let k = r.kind;
-    RecordTold {
-        answer: tell(Answer::Passed),
+    PlainRecord {
+        answer: plain(Answer::Passed),
         kind: k.byte(),
         ledger: k.ledger().byte(),
         sender: r.sender,
@@ -397,12 +409,12 @@ fn tell_record(r: Record) -> RecordTold
 
 // The fields of a record: 21 where the bytes do not read.
 #[no_mangle]
-pub extern "C" fn moatbetony_record_read(bytes: &[u8]) -> RecordTold
-    ensures { λ r. ⌜ r ≡ recordTold (reading (now (bytes .entry))) ⌝ }
+pub extern "C" fn moatbetony_record_read(bytes: &[u8]) -> PlainRecord
+    ensures { λ r. ⌜ r ≡ plainRecord (reading (now (bytes .entry))) ⌝ }
 {
     let Reading::Read(r) = Record::read(bytes) else {
-        return RecordTold {
-            answer: tell(Answer::new(21, 0)),
+        return PlainRecord {
+            answer: plain(Answer::new(21, 0)),
             kind: 0,
             ledger: 0,
             sender: 0,
@@ -425,19 +437,19 @@ pub extern "C" fn moatbetony_record_encode(
     number: u64,
     amount: u64,
     verdict: u8,
-) -> EncodedTold
-    ensures { λ r. ⌜ r ≡ encodedTold (reading (fieldBytes kind ledger sender receiver number amount verdict))
+) -> PlainEncoded
+    ensures { λ r. ⌜ r ≡ plainEncoded (reading (fieldBytes kind ledger sender receiver number amount verdict))
         (fieldBytes kind ledger sender receiver number amount verdict) ⌝ }
 {
     let bytes = field_bytes(kind, ledger, sender, receiver, number, amount, verdict);
     let Reading::Read(_) = Record::read(&bytes) else {
-        return EncodedTold {
-            answer: tell(Answer::new(21, 0)),
+        return PlainEncoded {
+            answer: plain(Answer::new(21, 0)),
             bytes: [0; 32],
         };
     };
-    EncodedTold {
-        answer: tell(Answer::Passed),
+    PlainEncoded {
+        answer: plain(Answer::Passed),
         bytes,
     }
 }
@@ -446,33 +458,33 @@ pub extern "C" fn moatbetony_record_encode(
 
 // Where a record stands in its block.
 #[repr(C)]
-pub struct PartTold {
-    pub answer: Told,
+pub struct PlainPart {
+    pub answer: PlainAnswer,
     pub start: usize,
     pub length: usize,
 }
 
 // The count of a block's items.
 #[repr(C)]
-pub struct CountTold {
-    pub answer: Told,
+pub struct PlainCount {
+    pub answer: PlainAnswer,
     pub count: u64,
 }
 
 // The opening balances of a block, zeros after them.
 #[repr(C)]
-pub struct BalancesTold {
-    pub answer: Told,
+pub struct PlainBalances {
+    pub answer: PlainAnswer,
     pub count: u64,
     pub balances: [u64; Ledger::ACCOUNTS],
 }
 
 // Judges a block.
 #[no_mangle]
-pub extern "C" fn moatbetony_block_judge(block: &[u8], number: u64, before: u64) -> Told
-    ensures { λ r. ⌜ r ≡ told (answer (blockRefusal (now (block .entry)) number before) number) ⌝ }
+pub extern "C" fn moatbetony_block_judge(block: &[u8], number: u64, before: u64) -> PlainAnswer
+    ensures { λ r. ⌜ r ≡ plainAnswer (answer (blockRefusal (now (block .entry)) number before) number) ⌝ }
 {
-    tell(journal_reader::judge(block, number, before))
+    plain(journal_reader::judge(block, number, before))
 }
 
 // Judges a block and a place.
@@ -482,10 +494,10 @@ pub extern "C" fn moatbetony_block_judge_record(
     number: u64,
     before: u64,
     place: u64,
-) -> Told
-    ensures { λ r. ⌜ r ≡ told (answer (recordRefusal (now (block .entry)) number before place) number) ⌝ }
+) -> PlainAnswer
+    ensures { λ r. ⌜ r ≡ plainAnswer (answer (recordRefusal (now (block .entry)) number before place) number) ⌝ }
 {
-    tell(journal_reader::judge_record(block, number, before, place))
+    plain(journal_reader::judge_record(block, number, before, place))
 }
 
 // Where the record at a place stands in its block: the bytes there are the part that is handed out within the language.
@@ -495,20 +507,20 @@ pub extern "C" fn moatbetony_block_record(
     number: u64,
     before: u64,
     place: u64,
-) -> PartTold
-    ensures stands { λ r. ⌜ r ≡ partTold (recordRefusal (now (block .entry)) number before place) number place ⌝ }
+) -> PlainPart
+    ensures stands { λ r. ⌜ r ≡ plainPart (recordRefusal (now (block .entry)) number before place) number place ⌝ }
     ensures holds { λ r. ⌜ take (r .length) (drop (r .start) (now (block .entry))) ≡ partOf (now (block .entry)) number before place ⌝ }
 {
     let answer = journal_reader::judge_record(block, number, before, place);
     let Answer::Passed = answer else {
-        return PartTold {
-            answer: tell(answer),
+        return PlainPart {
+            answer: plain(answer),
             start: 0,
             length: 0,
         };
     };
-    PartTold {
-        answer: tell(answer),
+    PlainPart {
+        answer: plain(answer),
         start: 32 + 32 * (place as usize),
         length: 32,
     }
@@ -516,27 +528,27 @@ pub extern "C" fn moatbetony_block_record(
 
 // The count of a block's items.
 #[no_mangle]
-pub extern "C" fn moatbetony_block_count(block: &[u8], number: u64, before: u64) -> CountTold
-    ensures { λ r. ⌜ r ≡ countTold (countOf (now (block .entry)) number before) ⌝ }
+pub extern "C" fn moatbetony_block_count(block: &[u8], number: u64, before: u64) -> PlainCount
+    ensures { λ r. ⌜ r ≡ plainCount (countOf (now (block .entry)) number before) ⌝ }
 {
     let c = journal_reader::item_count(block, number, before);
     let a = c.answer;
-    CountTold {
-        answer: tell(a),
+    PlainCount {
+        answer: plain(a),
         count: c.count,
     }
 }
 
 // The opening balances of a block.
 #[no_mangle]
-pub extern "C" fn moatbetony_block_balances(block: &[u8], number: u64, before: u64) -> BalancesTold
-    ensures { λ r. ⌜ r ≡ balancesTold (openingOf (now (block .entry)) number before) ⌝ }
+pub extern "C" fn moatbetony_block_balances(block: &[u8], number: u64, before: u64) -> PlainBalances
+    ensures { λ r. ⌜ r ≡ plainBalances (openingOf (now (block .entry)) number before) ⌝ }
 {
     let o = journal_reader::opening_balances(block, number, before);
     let a = o.answer;
     let balances = o.balances;
-    BalancesTold {
-        answer: tell(a),
+    PlainBalances {
+        answer: plain(a),
         count: o.count,
         balances,
     }
@@ -549,12 +561,12 @@ pub extern "C" fn moatbetony_block_write(
     number: u64,
     kind: u8,
     items: &[u8],
-) -> Told
-    ensures answers { λ r. ⌜ r ≡ told (answer (writeRefusal (length (now (out .entry))) number kind
+) -> PlainAnswer
+    ensures answers { λ r. ⌜ r ≡ plainAnswer (answer (writeRefusal (length (now (out .entry))) number kind
         (length (now (items .entry)))) number) ⌝ }
     ensures leaves { λ _. ⌜ now (out .exit) ≡ written (now (out .entry)) number kind (now (items .entry)) ⌝ }
 {
-    tell(journal_writer::write(out, number, kind, items))
+    plain(journal_writer::write(out, number, kind, items))
 }
 
 // ## SHA-256

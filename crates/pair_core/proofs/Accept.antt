@@ -3,10 +3,11 @@ use Rattle.wire.proofs.Prelude.{Bool, List, _&&_, _+_, _<_, _^_, _∙_, _≡_, 
 use Rattle.wire.proofs.Prelude.{sym, true, ℕ}
 use Rattle.ledgers.specs.Ledgers.{counterpart, ledgerByte}
 use Rattle.ledgers.specs.Limits.{capacity}
-use Rattle.pair_core.proofs.Ledgers.{Bounds, accounts-same, balances-within, bounds-of, by-byte, by-ledger, byte-below}
+use Rattle.pair_core.proofs.Ledgers.{PairBounds, accounts-same, balances-within, bounds-of, by-byte, by-ledger, byte-below}
 use Rattle.pair_core.proofs.Ledgers.{length-balances, length-held, of-bounds, state-on}
-use Rattle.pair_core.specs.Layout.{PairReady, acceptsPair, accountsOn, balancesOn, countOn, formedOn, indexLength, indexOn, ledgerOn}
-use Rattle.pair_core.specs.Layout.{pairBounds, pairViewOf, pairWords, recordsOn, supplyOf, zeroBeyond}
+use Rattle.pair_core.specs.Layout.{PairReady, acceptsPair, accountsOn, balancesStart, countOn, formedOn, pairIndexLength, indexOn}
+use Rattle.pair_core.specs.Layout.{ledgerOn}
+use Rattle.pair_core.specs.Layout.{pairBounds, pairViewOf, pairWords, recordsStart, pairSupplyOf, zeroBeyond}
 use Rattle.pair_core.specs.Testing.{backedOn, balanceSum, flowSum, heldOn, sumsAgree, testsOf}
 use Rattle.places.proofs.BalanceTotals.{balances-sum}
 use Rattle.places.proofs.OverPlaces.{all-each, all-list}
@@ -38,7 +39,7 @@ pub record Tested (s : List ℕ) : Type 0 where
   pub zeros : (L : Ledger) → zeroBeyond s (ledgerByte L) ≡ true
   pub holds : (L : Ledger) → heldOn s (ledgerByte L) ≡ true
   pub backed : (L : Ledger) → backedOn s (ledgerByte L) ≡ true
-  pub adds : balanceSum s 0 + balanceSum s 1 + (flowSum 2 s 0 + flowSum 2 s 1) ≡ supplyOf s + (flowSum 3 s 0 + flowSum 3 s 1)
+  pub adds : balanceSum s 0 + balanceSum s 1 + (flowSum 2 s 0 + flowSum 2 s 1) ≡ pairSupplyOf s + (flowSum 3 s 0 + flowSum 3 s 1)
 
 -- the tests give the facts
 tests-facts : (s : List ℕ) → testsOf s ≡ true → (length s ≡ pairWords) × ((pairBounds s ≡ true) × Tested s)
@@ -79,17 +80,17 @@ facts-tests s z b t =
 
 -- ## Both ledgers as the rules see them
 
-module _ (s : List ℕ) (z : length s ≡ pairWords) (b : Bounds s) (small : (i : ℕ) → getD s i 0 < 2 ^ 64) where
+module _ (s : List ℕ) (z : length s ≡ pairWords) (b : PairBounds s) (small : (i : ℕ) → getD s i 0 < 2 ^ 64) where
   -- a ledger's records, read and under it
   standing-of : (L : Ledger) → formedOn s (ledgerByte L) ≡ true → all (standsUnder L) (ledgerOn s (ledgerByte L) .passed) ≡ true
-      → Standing s (recordsOn (ledgerByte L)) (countOn s (ledgerByte L)) L
+      → Standing s (recordsStart (ledgerByte L)) (countOn s (ledgerByte L)) L
   unfolding ledgerIn recordsFrom formedOn
   standing-of L f h =
       let l = ledgerByte L in
-      let g = sym (all-list (recordAt s (recordsOn l)) (standsUnder L) 0 (countOn s l)) ∙ h in
+      let g = sym (all-list (recordAt s (recordsStart l)) (standsUnder L) 0 (countOn s l)) ∙ h in
       record {
-        read = λ i a. all-each (λ (j : ℕ). formed (wordsAt s (recordsOn l) j)) 0 (countOn s l) f i (omega arith) (omega arith);
-        stands = λ i a. all-each (λ (j : ℕ). standsUnder L (recordAt s (recordsOn l) j)) 0 (countOn s l) g i (omega arith) (omega arith);
+        read = λ i a. all-each (λ (j : ℕ). formed (wordsAt s (recordsStart l) j)) 0 (countOn s l) f i (omega arith) (omega arith);
+        stands = λ i a. all-each (λ (j : ℕ). standsUnder L (recordAt s (recordsStart l) j)) 0 (countOn s l) g i (omega arith) (omega arith);
         small = small;
       }
 
@@ -97,7 +98,7 @@ module _ (s : List ℕ) (z : length s ≡ pairWords) (b : Bounds s) (small : (i 
   total-on : (L : Ledger) → total (ledgerOn s (ledgerByte L) .balances) ≡ balanceSum s (ledgerByte L)
   unfolding ledgerIn
   total-on L =
-      balances-sum s (balancesOn (ledgerByte L)) (accountsOn s (ledgerByte L)) (balances-within s z b (ledgerByte L) (byte-below L))
+      balances-sum s (balancesStart (ledgerByte L)) (accountsOn s (ledgerByte L)) (balances-within s z b (ledgerByte L) (byte-below L))
 
   -- balances and in flight, with what arrived, are balances and what was sent
   figures : ((L : Ledger) → formedOn s (ledgerByte L) ≡ true)
@@ -113,39 +114,39 @@ module _ (s : List ℕ) (z : length s ≡ pairWords) (b : Bounds s) (small : (i 
         total-on Far,
         crossing (ledgerOn s 0) (ledgerOn s 1) (c Home) (c Far),
         crossing (ledgerOn s 1) (ledgerOn s 0) (c Far) (c Home),
-        sent-sum s (recordsOn 0) (countOn s 0),
-        sent-sum s (recordsOn 1) (countOn s 1),
-        received-sum s (recordsOn 0) (countOn s 0) (standing-of Home (f Home) (h Home) .read),
-        received-sum s (recordsOn 1) (countOn s 1) (standing-of Far (f Far) (h Far) .read),
+        sent-sum s (recordsStart 0) (countOn s 0),
+        sent-sum s (recordsStart 1) (countOn s 1),
+        received-sum s (recordsStart 0) (countOn s 0) (standing-of Home (f Home) (h Home) .read),
+        received-sum s (recordsStart 1) (countOn s 1) (standing-of Far (f Far) (h Far) .read),
       )
 
   -- what is tested of a ledger's records, with the other's accounts
   abbrev heldBy : Ledger → Bool
   heldBy L =
       allAt
-      (mayHoldAt s (recordsOn (ledgerByte L)) L
+      (mayHoldAt s (recordsStart (ledgerByte L)) L
       (accountsBy L (accountsOn s (ledgerByte L)) (accountsOn s (ledgerByte (counterpart L)))))
       0 (countOn s (ledgerByte L))
 
   -- a ledger's records that are held, and their numbers apart
   record HeldOn (L : Ledger) : Type 0 where
-    records : AllHeld s (recordsOn (ledgerByte L)) (countOn s (ledgerByte L)) L (accountsOf (pairViewOf s .pair))
-    apart : apartAt (numberAt s (recordsOn (ledgerByte L))) 0 (countOn s (ledgerByte L)) ≡ true
+    records : AllHeld s (recordsStart (ledgerByte L)) (countOn s (ledgerByte L)) L (accountsOf (pairViewOf s .pair))
+    apart : apartAt (numberAt s (recordsStart (ledgerByte L))) 0 (countOn s (ledgerByte L)) ≡ true
 
   -- from the test
-  held-by : (L : Ledger) → (heldBy L && apartAt (numberAt s (recordsOn (ledgerByte L))) 0 (countOn s (ledgerByte L))) ≡ true → HeldOn L
+  held-by : (L : Ledger) → (heldBy L && apartAt (numberAt s (recordsStart (ledgerByte L))) 0 (countOn s (ledgerByte L))) ≡ true → HeldOn L
   held-by L h =
       let a = and-both _ _ h in
       record {
-        records = rw (accounts-same s z b L) at (all-held s (recordsOn (ledgerByte L)) (countOn s (ledgerByte L)) L _ (a .0));
+        records = rw (accounts-same s z b L) at (all-held s (recordsStart (ledgerByte L)) (countOn s (ledgerByte L)) L _ (a .0));
         apart = a .1;
       }
 
   -- and back
-  by-held : (L : Ledger) → HeldOn L → (heldBy L && apartAt (numberAt s (recordsOn (ledgerByte L))) 0 (countOn s (ledgerByte L))) ≡ true
+  by-held : (L : Ledger) → HeldOn L → (heldBy L && apartAt (numberAt s (recordsStart (ledgerByte L))) 0 (countOn s (ledgerByte L))) ≡ true
   by-held L h =
       both-tests _ _
-      (held-all s (recordsOn (ledgerByte L)) (countOn s (ledgerByte L)) L _ (rw (accounts-same s z b L) (h .records)))
+      (held-all s (recordsStart (ledgerByte L)) (countOn s (ledgerByte L)) L _ (rw (accounts-same s z b L) (h .records)))
       (h .apart)
 
   -- the same by the ledger's byte
@@ -159,12 +160,12 @@ module _ (s : List ℕ) (z : length s ≡ pairWords) (b : Bounds s) (small : (i 
   on-held Far h = by-held Far h
 
   -- the arrivals of a ledger
-  backed-on : (L : Ledger) → Standing s (recordsOn (ledgerByte (counterpart L))) (countOn s (ledgerByte (counterpart L))) (counterpart L)
-      → ((i : ℕ) → i < countOn s (ledgerByte L) → formed (wordsAt s (recordsOn (ledgerByte L)) i) ≡ true)
+  backed-on : (L : Ledger) → Standing s (recordsStart (ledgerByte (counterpart L))) (countOn s (ledgerByte (counterpart L))) (counterpart L)
+      → ((i : ℕ) → i < countOn s (ledgerByte L) → formed (wordsAt s (recordsStart (ledgerByte L)) i) ≡ true)
       → all (matched (ledgerOn s (ledgerByte (counterpart L)) .passed)) (ledgerOn s (ledgerByte L) .passed) ≡ backedOn s (ledgerByte L)
   unfolding ledgerIn
-  backed-on Home h f = all-backed-is s (recordsOn 1) (countOn s 1) Far h (recordsOn 0) (countOn s 0) f
-  backed-on Far h f = all-backed-is s (recordsOn 0) (countOn s 0) Home h (recordsOn 1) (countOn s 1) f
+  backed-on Home h f = all-backed-is s (recordsStart 1) (countOn s 1) Far h (recordsStart 0) (countOn s 0) f
+  backed-on Far h f = all-backed-is s (recordsStart 0) (countOn s 0) Home h (recordsStart 1) (countOn s 1) f
 
   -- the facts of an accepted state, and records that read
   tested-facts : Tested s → Accepted capacity (pairViewOf s) × ((L : Ledger) → formedOn s (ledgerByte L) ≡ true)
@@ -180,13 +181,14 @@ module _ (s : List ℕ) (z : length s ≡ pairWords) (b : Bounds s) (small : (i 
       under : (L : Ledger) → all (standsUnder L) (ledgerOn s (ledgerByte L) .passed) ≡ true
       under L = right L .records .stand
 
-      standing : (L : Ledger) → Standing s (recordsOn (ledgerByte L)) (countOn s (ledgerByte L)) L
+      standing : (L : Ledger) → Standing s (recordsStart (ledgerByte L)) (countOn s (ledgerByte L)) L
       standing L = standing-of L (formed-on L) (under L)
 
       clean : (L : Ledger) → Clean (ledgerOn s (ledgerByte L)) (ledgerOn s (ledgerByte (counterpart L)))
       clean L =
           record {
-            distinct = unshared-distinct _ (sym (apart-records s (recordsOn (ledgerByte L)) (countOn s (ledgerByte L))) ∙ right L .apart);
+            distinct = unshared-distinct _ (sym (apart-records s (recordsStart (ledgerByte L)) (countOn s (ledgerByte L))) ∙ right L
+                .apart);
             receivings = backed-on L (standing (counterpart L)) (standing L .read) ∙ t .backed L;
           }
 
@@ -219,7 +221,8 @@ module _ (s : List ℕ) (z : length s ≡ pairWords) (b : Bounds s) (small : (i 
         holds = λ L. on-held L
             (record {
               records = record { read = formed-on L; stand = own L .stand; allowed = own L .allowed };
-              apart = apart-records s (recordsOn (ledgerByte L)) (countOn s (ledgerByte L)) ∙ distinct-unshared _ (own L .clean .distinct);
+              apart = apart-records s (recordsStart (ledgerByte L)) (countOn s (ledgerByte L)) ∙ distinct-unshared _ (own L .clean
+                  .distinct);
             });
         backed = λ L. sym (backed-on L (standing (counterpart L)) (standing L .read)) ∙ own L .clean .receivings;
         adds = omega (arith, a .sums, figures formed-on (λ L. own L .stand) (λ L. own L .clean));
@@ -230,7 +233,7 @@ module _ (s : List ℕ) (z : length s ≡ pairWords) (b : Bounds s) (small : (i 
       own Home = a .ledgers Home
       own Far = a .ledgers Far
 
-      standing : (L : Ledger) → Standing s (recordsOn (ledgerByte L)) (countOn s (ledgerByte L)) L
+      standing : (L : Ledger) → Standing s (recordsStart (ledgerByte L)) (countOn s (ledgerByte L)) L
       standing L = standing-of L (formed-on L) (own L .stand)
 
 -- ## The whole test
@@ -276,24 +279,24 @@ tests-refused s small h e = (sym h ∙ accepts-is s small, (λ q. absurd (never-
 -- ## The indexes, made one after the other
 
 -- the index of far is empty still where that of home is made
-pub second-empty : (s : List ℕ) {i j : List ℕ} → Kept (indexOn 0) (indexOn 0 + indexLength) i j
-    → IndexOf s (recordsOn 1) i (indexOn 1) 0 → IndexOf s (recordsOn 1) j (indexOn 1) 0
-second-empty s k h = index-beside s s (recordsOn 1) (indexOn 1) 0 k (inr (omega arith)) (λ n p. refl) h
+pub second-empty : (s : List ℕ) {i j : List ℕ} → Kept (indexOn 0) (indexOn 0 + pairIndexLength) i j
+    → IndexOf s (recordsStart 1) i (indexOn 1) 0 → IndexOf s (recordsStart 1) j (indexOn 1) 0
+second-empty s k h = index-beside s s (recordsStart 1) (indexOn 1) 0 k (inr (omega arith)) (λ n p. refl) h
 
 -- both are made where that of far is made beside that of home
-pub both-indexed : (s : List ℕ) → Bounds s → {i j : List ℕ} → Kept (indexOn 1) (indexOn 1 + indexLength) i j
-    → IndexOf s (recordsOn 0) i (indexOn 0) (countOn s 0) → IndexOf s (recordsOn 1) j (indexOn 1) (countOn s 1)
-    → (l : ℕ) → l < 2 → IndexOf s (recordsOn l) j (indexOn l) (countOn s l)
+pub both-indexed : (s : List ℕ) → PairBounds s → {i j : List ℕ} → Kept (indexOn 1) (indexOn 1 + pairIndexLength) i j
+    → IndexOf s (recordsStart 0) i (indexOn 0) (countOn s 0) → IndexOf s (recordsStart 1) j (indexOn 1) (countOn s 1)
+    → (l : ℕ) → l < 2 → IndexOf s (recordsStart l) j (indexOn l) (countOn s l)
 both-indexed s b {i} {j} k g h =
-    by-byte (λ (l : ℕ). IndexOf s (recordsOn l) j (indexOn l) (countOn s l))
-    (index-beside s s (recordsOn 0) (indexOn 0) (countOn s 0) k (inl (omega (arith, b .room 0 (omega arith)))) (λ n p. refl) g) h
+    by-byte (λ (l : ℕ). IndexOf s (recordsStart l) j (indexOn l) (countOn s l))
+    (index-beside s s (recordsStart 0) (indexOn 0) (countOn s 0) k (inl (omega (arith, b .room 0 (omega arith)))) (λ n p. refl) g) h
 
 -- ## What accepted words have
 
 -- what refusal 3 asks, one by one
 pub record PairSound (s : List ℕ) : Type 0 where
   pub long : length s ≡ pairWords
-  pub bounds : Bounds s
+  pub bounds : PairBounds s
   pub zeros : (l : ℕ) → l < 2 → zeroBeyond s l ≡ true
   pub reads : (l : ℕ) → l < 2 → formedOn s l ≡ true
   pub accepted : pairAccepts capacity (pairViewOf s) ≡ true
@@ -332,7 +335,7 @@ sound-accepts s o =
 
 -- a ledger's records read and stand under it
 pub standing-on : (s : List ℕ) → PairSound s → ((i : ℕ) → getD s i 0 < 2 ^ 64) → (L : Ledger)
-    → Standing s (recordsOn (ledgerByte L)) (countOn s (ledgerByte L)) L
+    → Standing s (recordsStart (ledgerByte L)) (countOn s (ledgerByte L)) L
 standing-on s o small L =
     standing-of s (o .long) (o .bounds) small L (o .reads (ledgerByte L) (byte-below L))
     (rw (state-on s L) at (accepts-facts capacity (pairViewOf s) (o .accepted) .ledgers L .stand))

@@ -5,7 +5,7 @@ use Rattle.ledgers.specs.Ledgers.{counterpart, ledgerByte, ledgerOf, receiverLe
 use Rattle.ledgers.specs.Limits.{capacity}
 use Rattle.pair_core.proofs.Accept.{PairSound, standing-on}
 use Rattle.pair_core.proofs.Ledgers.{length-held, other-byte, state-on}
-use Rattle.pair_core.specs.Layout.{accountsOn, balancesOn, countOn, ledgerOn, pairViewOf, recordsOn}
+use Rattle.pair_core.specs.Layout.{accountsOn, balancesStart, countOn, ledgerOn, pairViewOf, recordsStart}
 use Rattle.places.proofs.Refusals.{funds-at, judged-by}
 use Rattle.places.specs.LedgerBalances.{firstBy, fundsAt}
 use Rattle.places.specs.OverPlaces.{anyAt}
@@ -23,28 +23,29 @@ use Rattle.table.specs.Table.{backedBy, ledgerIn, numberedAt}
 module _ (s : List ℕ) (r : Record) where
   -- a local or sending is paid
   pub last-paid : (k : Kind) → isReceiving k ≡ false
-      → fundsAt s (balancesOn (ledgerByte (ledgerOf k))) (accountsOn s (ledgerByte (ledgerOf k))) r ≡ lastRefusal (pairViewOf s .pair) r k
+      → fundsAt s (balancesStart (ledgerByte (ledgerOf k))) (accountsOn s (ledgerByte (ledgerOf k))) r ≡ lastRefusal (pairViewOf s .pair) r
+      k
   unfolding ledgerIn
   last-paid (Local l) h =
       sym
       (ap (λ (x : LedgerState). fundsRefusal (x .balances) r) (state-on s l)
-      ∙ funds-at s (balancesOn (ledgerByte l)) (accountsOn s (ledgerByte l)) r)
+      ∙ funds-at s (balancesStart (ledgerByte l)) (accountsOn s (ledgerByte l)) r)
   last-paid (Sending l) h =
       sym
       (ap (λ (x : LedgerState). fundsRefusal (x .balances) r) (state-on s l)
-      ∙ funds-at s (balancesOn (ledgerByte l)) (accountsOn s (ledgerByte l)) r)
+      ∙ funds-at s (balancesStart (ledgerByte l)) (accountsOn s (ledgerByte l)) r)
   last-paid (Receiving l) h = absurd (never-both-tests h)
 
   -- an arrival is matched
   pub last-matched : PairSound s → ((i : ℕ) → getD s i 0 < 2 ^ 64) → (w : Words) → formed w ≡ true → recordIn w ≡ r
       → (k : Kind) → r .kind ≡ k → isReceiving k ≡ true → (o : ℕ) → o ≡ 1 - ledgerByte (ledgerOf k)
-      → refuse (not (backedBy s o (recordsOn o) (countOn s o) w)) 31 0 ≡ lastRefusal (pairViewOf s .pair) r k
+      → refuse (not (backedBy s o (recordsStart o) (countOn s o) w)) 31 0 ≡ lastRefusal (pairViewOf s .pair) r k
   unfolding ledgerIn matched matchRefusal
   last-matched d small w f e (Local l) q h o p = absurd (never-both-tests (sym h))
   last-matched d small w f e (Sending l) q h o p = absurd (never-both-tests (sym h))
   last-matched d small w f e (Receiving l) q h o p =
       let c = ledgerByte (counterpart l) in
-      let b = backed-is s (recordsOn c) (countOn s c) (counterpart l) (standing-on s d small (counterpart l)) w f in
+      let b = backed-is s (recordsStart c) (countOn s c) (counterpart l) (standing-on s d small (counterpart l)) w f in
       let a = asked (isReceiving (r .kind)) (any (matches r) (ledgerOn s c .passed)) (rw q h) in
       rw (p ∙ other-byte l, ← b, e, a, state-on s (counterpart l))
 
@@ -53,11 +54,11 @@ module _ (s : List ℕ) (r : Record) where
       → senders ≡ accountsOf (pairViewOf s .pair) (senderLedger (r .kind))
       → receivers ≡ accountsOf (pairViewOf s .pair) (receiverLedger (r .kind))
       → last ≡ lastRefusal (pairViewOf s .pair) r (r .kind) → full ≡ refuse (leb capacity (countOn s l)) 41 0 → later ≡ orElse last full
-      → taken ≡ anyAt (numberedAt (r .number) s (recordsOn l)) 0 (countOn s l) → n ≡ firstBy senders receivers r taken later
+      → taken ≡ anyAt (numberedAt (r .number) s (recordsStart l)) 0 (countOn s l) → n ≡ firstBy senders receivers r taken later
       → n ≡ pairJudge capacity (pairViewOf s .pair) (Read r)
   unfolding judge roomRefusal ledgerIn
   judge-by {l} eb es ev el eu ea et h =
       let p = pairViewOf s .pair in
       judged-by (accountsOf p) (ledgerOn s l .passed) r (lastRefusal p r (r .kind)) es ev el (rw (length-held s l) eu) ea
-      (rw (clash-records s (recordsOn l) r (countOn s l)) et) h
+      (rw (clash-records s (recordsStart l) r (countOn s l)) et) h
       ∙ rw (eb, state-on s (ledgerOf (r .kind)))

@@ -3,8 +3,9 @@ use Rattle.wire.proofs.Prelude.{List, _*_, _+_, _-_, _<_, _∙_, _≡_, _≤_, 
 use Rattle.wire.proofs.Prelude.{refl, suc, sym, true, zero, ℕ}
 use Rattle.ledgers.specs.Ledgers.{counterpart, ledgerByte}
 use Rattle.ledgers.specs.Limits.{accountLimit, capacity}
-use Rattle.pair_core.specs.Layout.{accountsOn, balancesOn, countOn, indexLength, indexOn, ledgerOn, pairBounds, pairViewOf, pairWords}
-use Rattle.pair_core.specs.Layout.{recordsOn, supplyOf}
+use Rattle.pair_core.specs.Layout.{accountsOn, balancesStart, countOn, pairIndexLength, indexOn, ledgerOn, pairBounds, pairViewOf}
+use Rattle.pair_core.specs.Layout.{pairWords}
+use Rattle.pair_core.specs.Layout.{recordsStart, pairSupplyOf}
 use Rattle.places.proofs.Openings.{count-facts}
 use Rattle.places.specs.NumberIndex.{chainCount}
 use Rattle.rules.specs.PairValidator.{countAllowed, supplyAllowed}
@@ -39,13 +40,13 @@ other-byte Far = refl
 -- ## Bounds
 
 -- the bounds of both ledgers and of the supply
-pub record Bounds (s : List ℕ) : Type 0 where
+pub record PairBounds (s : List ℕ) : Type 0 where
   pub count : (l : ℕ) → l < 2 → countAllowed (accountsOn s l) ≡ true
   pub room : (l : ℕ) → l < 2 → countOn s l ≤ capacity
-  pub supply-fits : supplyAllowed (supplyOf s) ≡ true
+  pub supply-fits : supplyAllowed (pairSupplyOf s) ≡ true
 
 -- the test gives the bounds
-pub bounds-of : (s : List ℕ) → pairBounds s ≡ true → Bounds s
+pub bounds-of : (s : List ℕ) → pairBounds s ≡ true → PairBounds s
 unfolding pairBounds
 bounds-of s h =
     let a = every-first _ _ h in
@@ -60,7 +61,7 @@ bounds-of s h =
     }
 
 -- and back
-pub of-bounds : (s : List ℕ) → Bounds s → pairBounds s ≡ true
+pub of-bounds : (s : List ℕ) → PairBounds s → pairBounds s ≡ true
 unfolding pairBounds
 of-bounds s b =
     every-both _ _ (b .count 0 (omega arith))
@@ -71,7 +72,7 @@ of-bounds s b =
     every-none))))
 
 -- a ledger has an account and at most as many as it can have
-pub accounts-fit : (s : List ℕ) → Bounds s → (l : ℕ) → l < 2 → (1 ≤ accountsOn s l) × (accountsOn s l ≤ accountLimit)
+pub accounts-fit : (s : List ℕ) → PairBounds s → (l : ℕ) → l < 2 → (1 ≤ accountsOn s l) × (accountsOn s l ≤ accountLimit)
 accounts-fit s b l h = count-facts (accountsOn s l) (b .count l h)
 
 -- ## As the rules see them
@@ -86,25 +87,25 @@ pub length-held : (s : List ℕ) (l : ℕ) → length (ledgerOn s l .passed) ≡
 unfolding ledgerIn
 length-held s l = length-records s _ (countOn s l)
 
-module _ (s : List ℕ) (z : length s ≡ pairWords) (b : Bounds s) where
+module _ (s : List ℕ) (z : length s ≡ pairWords) (b : PairBounds s) where
   -- its balances lie within the words
-  pub balances-within : (l : ℕ) → l < 2 → balancesOn l + accountsOn s l ≤ length s
-  balances-within = by-byte (λ (l : ℕ). balancesOn l + accountsOn s l ≤ length s) (omega (arith, z, accounts-fit s b 0 (omega arith) .1))
+  pub balances-within : (l : ℕ) → l < 2 → balancesStart l + accountsOn s l ≤ length s
+  balances-within = by-byte (λ (l : ℕ). balancesStart l + accountsOn s l ≤ length s) (omega (arith, z, accounts-fit s b 0 (omega arith) .1))
       (omega (arith, z, accounts-fit s b 1 (omega arith) .1))
 
   -- its records too
-  pub records-within : (l : ℕ) → l < 2 → recordsOn l + 4 * countOn s l ≤ length s
+  pub records-within : (l : ℕ) → l < 2 → recordsStart l + 4 * countOn s l ≤ length s
   records-within l h = omega (arith, z, b .room l h, h)
 
   -- its index lies within both
-  pub index-within : (l : ℕ) → l < 2 → indexOn l + chainCount + countOn s l ≤ 2 * indexLength
+  pub index-within : (l : ℕ) → l < 2 → indexOn l + chainCount + countOn s l ≤ 2 * pairIndexLength
   index-within l h = omega (arith, b .room l h, h)
 
   -- it has as many balances as accounts
   pub length-balances : (l : ℕ) → l < 2 → length (ledgerOn s l .balances) ≡ accountsOn s l
   unfolding ledgerIn
   length-balances l h =
-      length-take-le (accountsOn s l) (drop (balancesOn l) s) (omega (arith, length-drop (balancesOn l) s, balances-within l h))
+      length-take-le (accountsOn s l) (drop (balancesStart l) s) (omega (arith, length-drop (balancesStart l) s, balances-within l h))
 
   -- so the rules count them
   pub accounts-on : (L : Ledger) → accountsOf (pairViewOf s .pair) L ≡ accountsOn s (ledgerByte L)

@@ -5,10 +5,11 @@ use Rattle.wire.proofs.Prelude.{length-replicate, refl, replicate, replicate-ap
 use Rattle.ledgers.specs.Limits.{accountLimit, capacity}
 use Rattle.pair_core.proofs.Accept.{PairSound, sound-accepts}
 use Rattle.pair_core.proofs.Ledgers.{by-byte}
-use Rattle.pair_core.specs.Layout.{PairReady, acceptsPair, accountsOn, accountsWord, balancesOn, countOn, formedOn, indexLength, indexOn}
-use Rattle.pair_core.specs.Layout.{pairBounds, pairOpenedWords, pairViewOf, pairZeroWords, recordsOn, supplyWord, zeroBeyond}
+use Rattle.pair_core.specs.Layout.{PairReady, acceptsPair, accountsOn, accountsWord, balancesStart, countOn, formedOn}
+use Rattle.pair_core.specs.Layout.{pairIndexLength, indexOn}
+use Rattle.pair_core.specs.Layout.{pairBounds, pairOpenedWords, pairViewOf, pairZeroWords, recordsStart, pairSupplyWord, zeroBeyond}
 use Rattle.places.proofs.Openings.{Stands, copied, count-facts, front-long, stands, stored-behind}
-use Rattle.places.specs.LedgerBalances.{padded}
+use Rattle.places.specs.LedgerBalances.{zeroFilled}
 use Rattle.places.specs.OverPlaces.{allAt, listAt}
 use Rattle.rules.proofs.PairConserved.{opening-none, pair-opened-accepted}
 use Rattle.rules.specs.Lists.{total}
@@ -25,50 +26,51 @@ zeros-split : (a b c : ℕ)
 zeros-split a b c = simp replicate-append-replicate
 
 module _ (homes fars : List ℕ) (h : length homes ≤ accountLimit) (f : length fars ≤ accountLimit) where
-  module _ (z : List ℕ) (e : length z ≡ balancesOn 0) where
+  module _ (z : List ℕ) (e : length z ≡ balancesStart 0) where
     -- both ledgers' balances, behind other words
     both-stand : (rest : List ℕ)
-        → Stands (z ++ (padded homes ++ (padded fars ++ rest))) (balancesOn 0) homes (padded fars ++ rest)
-        × Stands (z ++ (padded homes ++ (padded fars ++ rest))) (balancesOn 1) fars rest
+        → Stands (z ++ (zeroFilled homes ++ (zeroFilled fars ++ rest))) (balancesStart 0) homes (zeroFilled fars ++ rest)
+        × Stands (z ++ (zeroFilled homes ++ (zeroFilled fars ++ rest))) (balancesStart 1) fars rest
     both-stand rest = (
-      stands z (balancesOn 0) e homes h (padded fars ++ rest),
-      rw (append-assoc z (padded homes) (padded fars ++ rest)) at
-          (stands (z ++ padded homes) (balancesOn 1) (front-long z (balancesOn 0) e homes h) fars f rest),
+      stands z (balancesStart 0) e homes h (zeroFilled fars ++ rest),
+      rw (append-assoc z (zeroFilled homes) (zeroFilled fars ++ rest)) at
+          (stands (z ++ zeroFilled homes) (balancesStart 1) (front-long z (balancesStart 0) e homes h) fars f rest),
     )
 
     -- what the stores leave behind them
     stores-leave : (s first second : List ℕ) (supply n m : ℕ)
         → s ≡ z ++ (replicate accountLimit 0 ++ (replicate accountLimit 0 ++ replicate 5 0))
-        → first ≡ take (balancesOn 0) s ++ (homes ++ drop (balancesOn 0 + length homes) s)
-        → second ≡ take (balancesOn 1) first ++ (fars ++ drop (balancesOn 1 + length fars) first)
-        → set (set (set second supplyWord supply) (accountsWord 0) n) (accountsWord 1) m
-        ≡ z ++ (padded homes ++ (padded fars ++ supply ∷ n ∷ m ∷ 0 ∷ 0 ∷ []))
+        → first ≡ take (balancesStart 0) s ++ (homes ++ drop (balancesStart 0 + length homes) s)
+        → second ≡ take (balancesStart 1) first ++ (fars ++ drop (balancesStart 1 + length fars) first)
+        → set (set (set second pairSupplyWord supply) (accountsWord 0) n) (accountsWord 1) m
+        ≡ z ++ (zeroFilled homes ++ (zeroFilled fars ++ supply ∷ n ∷ m ∷ 0 ∷ 0 ∷ []))
     stores-leave s first second supply n m q a b =
-        let l = front-long z (balancesOn 0) e homes h in
+        let l = front-long z (balancesStart 0) e homes h in
         rw (
           b,
           a,
           q,
-          copied z (balancesOn 0) e homes h (replicate accountLimit 0 ++ replicate 5 0),
-          ← append-assoc z (padded homes) (replicate accountLimit 0 ++ replicate 5 0),
-          copied (z ++ padded homes) (balancesOn 1) l fars f (replicate 5 0),
-          stored-behind (z ++ padded homes) (balancesOn 1) l fars f (0 ∷ 0 ∷ 0 ∷ 0 ∷ 0 ∷ []) 0 supply,
-          stored-behind (z ++ padded homes) (balancesOn 1) l fars f (supply ∷ 0 ∷ 0 ∷ 0 ∷ 0 ∷ []) 1 n,
-          stored-behind (z ++ padded homes) (balancesOn 1) l fars f (supply ∷ n ∷ 0 ∷ 0 ∷ 0 ∷ []) 2 m,
+          copied z (balancesStart 0) e homes h (replicate accountLimit 0 ++ replicate 5 0),
+          ← append-assoc z (zeroFilled homes) (replicate accountLimit 0 ++ replicate 5 0),
+          copied (z ++ zeroFilled homes) (balancesStart 1) l fars f (replicate 5 0),
+          stored-behind (z ++ zeroFilled homes) (balancesStart 1) l fars f (0 ∷ 0 ∷ 0 ∷ 0 ∷ 0 ∷ []) 0 supply,
+          stored-behind (z ++ zeroFilled homes) (balancesStart 1) l fars f (supply ∷ 0 ∷ 0 ∷ 0 ∷ 0 ∷ []) 1 n,
+          stored-behind (z ++ zeroFilled homes) (balancesStart 1) l fars f (supply ∷ n ∷ 0 ∷ 0 ∷ 0 ∷ []) 2 m,
         )
-        (append-assoc z (padded homes) (padded fars ++ supply ∷ n ∷ m ∷ 0 ∷ 0 ∷ []))
+        (append-assoc z (zeroFilled homes) (zeroFilled fars ++ supply ∷ n ∷ m ∷ 0 ∷ 0 ∷ []))
 
   -- the words of an opening are what the stores leave in words of zeros
   pub opened-by : (s first second : List ℕ) (supply : ℕ) → s ≡ pairZeroWords → supply ≡ total homes + total fars
-      → first ≡ take (balancesOn 0) s ++ (homes ++ drop (balancesOn 0 + length homes) s)
-      → second ≡ take (balancesOn 1) first ++ (fars ++ drop (balancesOn 1 + length fars) first)
-      → set (set (set second supplyWord supply) (accountsWord 0) (length homes)) (accountsWord 1) (length fars)
+      → first ≡ take (balancesStart 0) s ++ (homes ++ drop (balancesStart 0 + length homes) s)
+      → second ≡ take (balancesStart 1) first ++ (fars ++ drop (balancesStart 1 + length fars) first)
+      → set (set (set second pairSupplyWord supply) (accountsWord 0) (length homes)) (accountsWord 1) (length fars)
       ≡ pairOpenedWords homes fars
   unfolding pairOpenedWords pairZeroWords
   opened-by s first second supply q u a b =
       stores-leave (replicate (8 * capacity) 0) (length-replicate {A = ℕ} (8 * capacity) 0) s first second supply (length homes)
       (length fars) (q ∙ zeros-split (8 * capacity) accountLimit 5) a b
-      ∙ ap (λ (n : ℕ). replicate (8 * capacity) 0 ++ (padded homes ++ (padded fars ++ n ∷ length homes ∷ length fars ∷ 0 ∷ 0 ∷ []))) u
+      ∙ ap (λ (n : ℕ). replicate (8 * capacity) 0 ++ (zeroFilled homes ++ (zeroFilled fars ++ n ∷ length homes ∷ length fars ∷ 0 ∷ 0 ∷
+      []))) u
 
 -- ## An accepted opening
 
@@ -88,14 +90,14 @@ module _ (homes fars : List ℕ) (n : pairOpeningRefusal homes fars ≡ 0) where
   scalars = (total homes + total fars) ∷ length homes ∷ length fars ∷ 0 ∷ 0 ∷ []
 
   -- both ledgers' balances stand there
-  opened-stand : Stands opened (balancesOn 0) homes (padded fars ++ scalars) × Stands opened (balancesOn 1) fars scalars
+  opened-stand : Stands opened (balancesStart 0) homes (zeroFilled fars ++ scalars) × Stands opened (balancesStart 1) fars scalars
   unfolding pairOpenedWords
   opened-stand =
       both-stand homes fars (opened-counts .0) (opened-counts .1) (replicate (8 * capacity) 0)
       (length-replicate {A = ℕ} (8 * capacity) 0) scalars
 
   -- each of the last five
-  last : (k : ℕ) → getD opened (supplyWord + k) 0 ≡ getD scalars k 0
+  last : (k : ℕ) → getD opened (pairSupplyWord + k) 0 ≡ getD scalars k 0
   last = opened-stand .1 .behind
 
   -- they are, seen as the rules' state, the rules' opened state
@@ -121,19 +123,20 @@ module _ (homes fars : List ℕ) (n : pairOpeningRefusal homes fars ≡ 0) where
               room = λ l h. omega (arith, count-none l h);
               supply-fits = rw (last 0) (o .supply-fits);
             };
-        zeros = by-byte (λ (l : ℕ). zeroBeyond opened l ≡ true) (rw (last 1) (opened-stand .0 .zeros)) (rw (last 2) (opened-stand .1 .zeros));
+        zeros = by-byte (λ (l : ℕ). zeroBeyond opened l ≡ true) (rw (last 1) (opened-stand .0 .zeros)) (rw (last 2) (opened-stand .1
+            .zeros));
         reads = λ l h. rw (count-none l h);
         accepted = ap (pairAccepts capacity) opened-view ∙ pair-opened-accepted capacity homes fars n;
       }
 
   -- with indexes of zeros they are ready for a record
-  pub opened-ready : PairReady opened (replicate (2 * indexLength) 0)
+  pub opened-ready : PairReady opened (replicate (2 * pairIndexLength) 0)
   opened-ready =
       record {
         accepted = sound-accepts opened opened-sound;
-        index-long = length-replicate {A = ℕ} (2 * indexLength) 0;
-        indexed = λ l h. subst (IndexOf opened (recordsOn l) (replicate (2 * indexLength) 0) (indexOn l)) (sym (count-none l h))
-            (index-none opened (recordsOn l) (2 * indexLength) (indexOn l));
+        index-long = length-replicate {A = ℕ} (2 * pairIndexLength) 0;
+        indexed = λ l h. subst (IndexOf opened (recordsStart l) (replicate (2 * pairIndexLength) 0) (indexOn l)) (sym (count-none l h))
+            (index-none opened (recordsStart l) (2 * pairIndexLength) (indexOn l));
       }
 
 -- the all-zero words, beside a refused opening, are refused by every call

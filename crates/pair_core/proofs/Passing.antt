@@ -6,10 +6,10 @@ use Rattle.answers.proofs.Answers.{or-else-zero}
 use Rattle.ledgers.specs.Ledgers.{counterpart, ledgerByte, ledgerOf}
 use Rattle.ledgers.specs.Limits.{accountLimit, capacity, maxAmount}
 use Rattle.pair_core.proofs.Accept.{PairSound, sound-accepts, sound-of}
-use Rattle.pair_core.proofs.Ledgers.{Bounds, accounts-fit, balances-within, by-byte, byte-below, length-balances, length-held}
+use Rattle.pair_core.proofs.Ledgers.{PairBounds, accounts-fit, balances-within, by-byte, byte-below, length-balances, length-held}
 use Rattle.pair_core.proofs.Ledgers.{state-on}
-use Rattle.pair_core.specs.Layout.{PairReady, acceptsPair, accountsOn, accountsWord, balancesOn, countOn, countWord, formedOn}
-use Rattle.pair_core.specs.Layout.{indexOn, ledgerOn, pairViewOf, pairWith, recordsOn, supplyOf, supplyWord, zeroBeyond}
+use Rattle.pair_core.specs.Layout.{PairReady, acceptsPair, accountsOn, accountsWord, balancesStart, countOn, pairCountWord, formedOn}
+use Rattle.pair_core.specs.Layout.{indexOn, ledgerOn, pairViewOf, pairWith, recordsStart, pairSupplyOf, pairSupplyWord, zeroBeyond}
 use Rattle.places.proofs.PassedRecord.{Changes, ledger-other, zeros-kept}
 use Rattle.places.specs.Entries.{givenBy, takenBy}
 use Rattle.places.specs.NumberIndex.{chainCount}
@@ -55,7 +55,7 @@ pub record PairPasses (s : List ℕ) (r : Record) (k : Kind) (l : ℕ) : Type 0 
   pub changes : Changes (accountsOn s l) r k
   pub sender : r .sender < accountLimit
   pub receiver : r .receiver < accountLimit
-  pub pays : takenBy k (r .amount) ≤ getD s (balancesOn l + r .sender) 0
+  pub pays : takenBy k (r .amount) ≤ getD s (balancesStart l + r .sender) 0
 
 module _ (s : List ℕ) (d : PairSound s) where
   -- the balances of both ledgers are at most the greatest amount
@@ -65,22 +65,22 @@ module _ (s : List ℕ) (d : PairSound s) where
       omega (
         arith,
         accepts-facts capacity (pairViewOf s) (d .accepted) .sums,
-        leb-true (supplyOf s) maxAmount (d .bounds .supply-fits),
+        leb-true (pairSupplyOf s) maxAmount (d .bounds .supply-fits),
       )
 
   -- any balance is
-  balance-most : (l : ℕ) → l < 2 → (i : ℕ) → i < accountLimit → getD s (balancesOn l + i) 0 ≤ maxAmount
+  balance-most : (l : ℕ) → l < 2 → (i : ℕ) → i < accountLimit → getD s (balancesStart l + i) 0 ≤ maxAmount
   unfolding zeroBeyond
   balance-most l h i p =
-      balance-fits s (balancesOn l) (accountsOn s l) (recordsOn l) (countOn s l) accountLimit (d .zeros l h) maxAmount
+      balance-fits s (balancesStart l) (accountsOn s l) (recordsStart l) (countOn s l) accountLimit (d .zeros l h) maxAmount
       (by-byte (λ (m : ℕ). total (ledgerOn s m .balances) ≤ maxAmount) (omega (arith, totals-fit)) (omega (arith, totals-fit)) l h) i p
 
   -- what is given to an account stays in 64 bits
   pub paid-fits : (r : Record) (l : ℕ) → l < 2 → PairPasses s r (r .kind) l → r .amount ≤ maxAmount
-      → getD (lowered s (balancesOn l + r .sender) (takenBy (r .kind) (r .amount))) (balancesOn l + r .receiver) 0
+      → getD (lowered s (balancesStart l + r .sender) (takenBy (r .kind) (r .amount))) (balancesStart l + r .receiver) 0
       + givenBy (r .kind) (r .amount) < 2 ^ 64
   paid-fits r l h p m =
-      given-fits s (balancesOn l) r (omega (arith, d .long, p .sender)) (balance-most l h (r .sender) (p .sender))
+      given-fits s (balancesStart l) r (omega (arith, d .long, p .sender)) (balance-most l h (r .sender) (p .sender))
       (balance-most l h (r .receiver) (p .receiver)) m
 
 module _ (s : List ℕ) (d : PairSound s) (r : Record) (l o : ℕ) (hl : l < 2) (ho : o < 2) (space : countOn s l < capacity) where
@@ -97,8 +97,8 @@ module _ (s : List ℕ) (d : PairSound s) (r : Record) (l o : ℕ) (hl : l < 2) 
   fits m h = accounts-fit s (d .bounds) m h .1
 
   -- the sender's balance, as the rules have it
-  pays-by : r .sender < accountsOn s l → getD s (balancesOn l + r .sender) 0 ≡ getD (ledgerOn s l .balances) (r .sender) 0
-  pays-by x = balance-in s (balancesOn l) (accountsOn s l) (recordsOn l) (countOn s l) (r .sender) x
+  pays-by : r .sender < accountsOn s l → getD s (balancesStart l + r .sender) 0 ≡ getD (ledgerOn s l .balances) (r .sender) 0
+  pays-by x = balance-in s (balancesStart l) (accountsOn s l) (recordsStart l) (countOn s l) (r .sender) x
 
   -- from what the rules ask
   passes-by : (k : Kind) → Passable (ledgerOn s l) (ledgerOn s o) r k → PairPasses s r k l
@@ -128,9 +128,9 @@ passes-of s d r j =
 -- words t are those after a pass: both ledgers' by the store, the others by name
 pub record PairWritten (s t : List ℕ) (w : Words) (r : Record) (L : Ledger) : Type 0 where
   pub long : length t ≡ length s
-  pub below : (i : ℕ) → i < supplyWord
-      → getD t i 0 ≡ getD (stored s (balancesOn (ledgerByte L)) (recordsOn (ledgerByte L) + 4 * countOn s (ledgerByte L)) w r) i 0
-  pub supply : supplyOf t ≡ supplyOf s
+  pub below : (i : ℕ) → i < pairSupplyWord
+      → getD t i 0 ≡ getD (stored s (balancesStart (ledgerByte L)) (recordsStart (ledgerByte L) + 4 * countOn s (ledgerByte L)) w r) i 0
+  pub supply : pairSupplyOf t ≡ pairSupplyOf s
   pub accounts : (m : ℕ) → m < 2 → accountsOn t m ≡ accountsOn s m
   pub count : countOn t (ledgerByte L) ≡ countOn s (ledgerByte L) + 1
   pub others : countOn t (ledgerByte (counterpart L)) ≡ countOn s (ledgerByte (counterpart L))
@@ -146,23 +146,23 @@ module _ (s : List ℕ) (w : Words) (r : Record) (d : PairSound s) (L : Ledger) 
 
   -- the words after the store
   abbrev stores : List ℕ
-  stores = stored s (balancesOn l) (recordsOn l + 4 * countOn s l) w r
+  stores = stored s (balancesStart l) (recordsStart l + 4 * countOn s l) w r
 
   -- the ledger's accounts
   own-fits : accountsOn s l ≤ accountLimit
   own-fits = accounts-fit s (d .bounds) l (byte-below L) .1
 
   -- the store
-  is-stored : Stored s (balancesOn l) (accountsOn s l) (recordsOn l + 4 * countOn s l) w r
+  is-stored : Stored s (balancesStart l) (accountsOn s l) (recordsStart l + 4 * countOn s l) w r
   is-stored =
-      stored-of s (balancesOn l) (accountsOn s l) (recordsOn l + 4 * countOn s l) w r (p .changes)
+      stored-of s (balancesStart l) (accountsOn s l) (recordsStart l + 4 * countOn s l) w r (p .changes)
       (omega (arith, p .room, byte-below L)) (balances-within s (d .long) (d .bounds) l (byte-below L))
 
   -- a word above the balances that is not the ledger's count
-  above : (i : ℕ) → supplyWord ≤ i → (i ≡ countWord l → ⊥) → getD (pairWith s w r l) i 0 ≡ getD s i 0
+  above : (i : ℕ) → pairSupplyWord ≤ i → (i ≡ pairCountWord l → ⊥) → getD (pairWith s w r l) i 0 ≡ getD s i 0
   unfolding pairWith
   above i h a =
-      getD-set-other stores (countWord l) i (countOn s l + 1) 0 a
+      getD-set-other stores (pairCountWord l) i (countOn s l + 1) 0 a
       ∙ is-stored .others i (inr (omega (arith, h, own-fits, byte-below L))) (inr (omega (arith, h, p .room, byte-below L)))
 
   -- what was written
@@ -170,23 +170,23 @@ module _ (s : List ℕ) (w : Words) (r : Record) (d : PairSound s) (L : Ledger) 
   unfolding pairWith
   written =
       record {
-        long = length-set stores (countWord l) (countOn s l + 1) ∙ is-stored .long;
-        below = λ i h. getD-set-other stores (countWord l) i (countOn s l + 1) 0 (λ q. omega arith);
-        supply = above supplyWord (omega arith) (λ q. omega arith);
+        long = length-set stores (pairCountWord l) (countOn s l + 1) ∙ is-stored .long;
+        below = λ i h. getD-set-other stores (pairCountWord l) i (countOn s l + 1) 0 (λ q. omega arith);
+        supply = above pairSupplyWord (omega arith) (λ q. omega arith);
         accounts = λ m h. above (accountsWord m) (omega arith) (λ q. omega arith);
-        count = getD-set-same stores (countWord l) (countOn s l + 1) 0 (omega (arith, is-stored .long, d .long, byte-below L));
-        others = above (countWord o) (omega arith) (λ q. omega (arith, q, ledger-other L));
+        count = getD-set-same stores (pairCountWord l) (countOn s l + 1) 0 (omega (arith, is-stored .long, d .long, byte-below L));
+        others = above (pairCountWord o) (omega arith) (λ q. omega (arith, q, ledger-other L));
       }
 
   module _ (t : List ℕ) (c : PairWritten s t w r L) where
     -- the ledger
-    ledger-after : LedgerStored s t (balancesOn l) (accountsOn s l) (recordsOn l) (countOn s l) supplyWord w r
+    ledger-after : LedgerStored s t (balancesStart l) (accountsOn s l) (recordsStart l) (countOn s l) pairSupplyWord w r
     ledger-after =
-        ledger-stored-of s t (balancesOn l) (accountsOn s l) (recordsOn l) (countOn s l) supplyWord w r (p .changes)
+        ledger-stored-of s t (balancesStart l) (accountsOn s l) (recordsStart l) (countOn s l) pairSupplyWord w r (p .changes)
         (omega (arith, p .room, byte-below L)) (omega (arith, own-fits, byte-below L)) (omega (arith, d .long)) (c .long) (c .below)
 
     -- the other one's records
-    records-beside : Agree s t (recordsOn o) (4 * countOn s o)
+    records-beside : Agree s t (recordsStart o) (4 * countOn s o)
     records-beside i a b =
         let m = d .bounds .room o (byte-below (counterpart L)) in
         let h = byte-below (counterpart L) in
@@ -196,7 +196,7 @@ module _ (s : List ℕ) (w : Words) (r : Record) (d : PairSound s) (L : Ledger) 
         (beside L 0 (4 * capacity) (4 * countOn s l + 4) i (omega (arith, p .room)) (omega arith) (omega arith)))
 
     -- its balances, open or not
-    balances-beside : Agree s t (balancesOn o) accountLimit
+    balances-beside : Agree s t (balancesStart o) accountLimit
     balances-beside i a b =
         ledger-after .others i (omega (arith, byte-below (counterpart L)))
         (beside L (8 * capacity) accountLimit (accountsOn s l) i own-fits a b)
@@ -211,12 +211,12 @@ module _ (s : List ℕ) (w : Words) (r : Record) (d : PairSound s) (L : Ledger) 
     other-after =
         let h = byte-below (counterpart L) in
         rw (c .accounts o h, c .others)
-        (ledger-same s t (recordsOn o) (countOn s o) records-beside (balancesOn o) (accountsOn s o) (c .long)
+        (ledger-same s t (recordsStart o) (countOn s o) records-beside (balancesStart o) (accountsOn s o) (c .long)
         (balances-within s (d .long) (d .bounds) o h)
         (λ i a b. balances-beside i a (omega (arith, b, accounts-fit s (d .bounds) o h .1))))
 
     -- the bounds
-    bounds-after : Bounds t
+    bounds-after : PairBounds t
     bounds-after =
         let b = d .bounds in
         record {
@@ -233,12 +233,12 @@ module _ (s : List ℕ) (w : Words) (r : Record) (d : PairSound s) (L : Ledger) 
         let h = byte-below (counterpart L) in
         either (λ (m : ℕ). zeroBeyond t m ≡ true) L
         (rw (c .accounts l (byte-below L))
-        (zeros-kept s t (balancesOn l + accountsOn s l) (accountLimit - accountsOn s l)
+        (zeros-kept s t (balancesStart l + accountsOn s l) (accountLimit - accountsOn s l)
         (λ i a b. ledger-after .others i (omega (arith, b, own-fits, byte-below L)) (inr a)
         (inr (omega (arith, a, p .room, byte-below L))))
         ∙ d .zeros l (byte-below L)))
         (rw (c .accounts o h)
-        (zeros-kept s t (balancesOn o + accountsOn s o) (accountLimit - accountsOn s o)
+        (zeros-kept s t (balancesStart o + accountsOn s o) (accountLimit - accountsOn s o)
         (λ i a b. balances-beside i (omega arith) (omega (arith, a, b, accounts-fit s (d .bounds) o h .1)))
         ∙ d .zeros o h))
 
@@ -248,30 +248,30 @@ module _ (s : List ℕ) (w : Words) (r : Record) (d : PairSound s) (L : Ledger) 
     reads-after f =
         either (λ (m : ℕ). formedOn t m ≡ true) L (rw (c .count) (ledger-after .reads f (d .reads l (byte-below L))))
         (rw (c .others)
-        (formed-same s t (recordsOn o) (countOn s o) records-beside ∙ d .reads o (byte-below (counterpart L))))
+        (formed-same s t (recordsStart o) (countOn s o) records-beside ∙ d .reads o (byte-below (counterpart L))))
 
     -- the index of one number more, and the other ledger's
     indexed-after : recordIn w ≡ r → (index : List ℕ) → PairReady s index
-        → (m : ℕ) → m < 2 → IndexOf t (recordsOn m) (grown index (indexOn l) (countOn s l) (r .number)) (indexOn m) (countOn t m)
+        → (m : ℕ) → m < 2 → IndexOf t (recordsStart m) (grown index (indexOn l) (countOn s l) (r .number)) (indexOn m) (countOn t m)
     unfolding recordIn
     indexed-after e index a =
         let h = byte-below (counterpart L) in
         let q : r .number ≡ w .number = ap (λ (x : Record). x .number) (sym e) in
         either
-        (λ (m : ℕ). IndexOf t (recordsOn m) (grown index (indexOn l) (countOn s l) (r .number)) (indexOn m) (countOn t m)) L
+        (λ (m : ℕ). IndexOf t (recordsStart m) (grown index (indexOn l) (countOn s l) (r .number)) (indexOn m) (countOn t m)) L
         (rw (c .count)
-        (index-grown s t (recordsOn l) index (indexOn l) (countOn s l) (r .number) (a .indexed l (byte-below L))
+        (index-grown s t (recordsStart l) index (indexOn l) (countOn s l) (r .number) (a .indexed l (byte-below L))
         (omega (arith, a .index-long, p .room, byte-below L)) (ledger-after .numbers) (q ∙ ledger-after .number)))
         (rw (c .others)
-        (index-beside s t (recordsOn o) (indexOn o) (countOn s o)
+        (index-beside s t (recordsStart o) (indexOn o) (countOn s o)
         (grown-kept index (indexOn l) (countOn s l) capacity (r .number) (p .room))
-        (index-apart L (countOn s o) (d .bounds .room o h)) (number-same s t (recordsOn o) (countOn s o) records-beside)
+        (index-apart L (countOn s o) (d .bounds .room o h)) (number-same s t (recordsStart o) (countOn s o) records-beside)
         (a .indexed o h)))
 
 -- both ledgers, as the rules have them
 view-after : (s t : List ℕ) (w : Words) (r : Record) → PairSound s → (L : Ledger) → ledgerOf (r .kind) ≡ L
     → PairPasses s r (r .kind) (ledgerByte L) → PairWritten s t w r L → recordIn w ≡ r
-    → pairViewOf t ≡ record { pair = after (pairViewOf s .pair) r; supply = supplyOf s }
+    → pairViewOf t ≡ record { pair = after (pairViewOf s .pair) r; supply = pairSupplyOf s }
 unfolding after
 view-after s t w r d Home q p c e = rw (own-after s w r d Home p t c e, other-after s w r d Home p t c, c .supply, q)
 view-after s t w r d Far q p c e = rw (own-after s w r d Far p t c e, other-after s w r d Far p t c, c .supply, q)
@@ -279,7 +279,7 @@ view-after s t w r d Far q p c e = rw (own-after s w r d Far p t c e, other-afte
 -- the words after a pass on the ledger with byte l: accepted, seen as the rules' next state, and with the indexes kept
 pub record PairNext (s : List ℕ) (w : Words) (r : Record) (l : ℕ) : Type 0 where
   pub accepted : acceptsPair (pairWith s w r l) ≡ true
-  pub view : pairViewOf (pairWith s w r l) ≡ record { pair = after (pairViewOf s .pair) r; supply = supplyOf s }
+  pub view : pairViewOf (pairWith s w r l) ≡ record { pair = after (pairViewOf s .pair) r; supply = pairSupplyOf s }
   pub ready : (index : List ℕ) → PairReady s index → PairReady (pairWith s w r l) (grown index (indexOn l) (countOn s l) (r .number))
 
 -- bytes that pass
@@ -296,7 +296,7 @@ next-of s h b r q j =
     let c = written s w r d L p in
     let v = view-after s t w r d L refl p c (f .2) in
     let k : pairJudge capacity (pairViewOf s .pair) (reading b) ≡ 0 = rw q j in
-    let g : pairAccepts capacity (record { pair = after (pairViewOf s .pair) r; supply = supplyOf s }) ≡ true =
+    let g : pairAccepts capacity (record { pair = after (pairViewOf s .pair) r; supply = pairSupplyOf s }) ≡ true =
     rw q at (pair-step capacity (pairViewOf s) b (d .accepted) k) in
     let n : acceptsPair t ≡ true =
     sound-accepts t

@@ -10,7 +10,7 @@ use lib.Dec.{eqb, leb}
 use lib.ListN.{getD, length, replicate, set}
 use Rattle.ledgers.specs.Ledgers.{ledgerByte, ledgerOf}
 use Rattle.ledgers.specs.Limits.{accountLimit, capacity}
-use Rattle.places.specs.LedgerBalances.{padded, zerosAt}
+use Rattle.places.specs.LedgerBalances.{zeroFilled, zerosAt}
 use Rattle.places.specs.NumberIndex.{chainCount}
 use Rattle.places.specs.OverPlaces.{allAt}
 use Rattle.records.specs.Records.{formed, reading, wordsOf}
@@ -28,32 +28,32 @@ use Rattle.wire.specs.BigEndian.{every}
 -- ## The layout
 
 -- the first word of a ledger's records
-abbrev pub recordsOn : ℕ → ℕ
-recordsOn l = l * (4 * capacity)
+abbrev pub recordsStart : ℕ → ℕ
+recordsStart l = l * (4 * capacity)
 
 -- of its balances
-abbrev pub balancesOn : ℕ → ℕ
-balancesOn l = 8 * capacity + l * accountLimit
+abbrev pub balancesStart : ℕ → ℕ
+balancesStart l = 8 * capacity + l * accountLimit
 
 -- the words of the supply, of a ledger's number of accounts and of its number of held records
-abbrev pub supplyWord : ℕ
-supplyWord = 8 * capacity + 2 * accountLimit
+abbrev pub pairSupplyWord : ℕ
+pairSupplyWord = 8 * capacity + 2 * accountLimit
 
 abbrev pub accountsWord : ℕ → ℕ
-accountsWord l = supplyWord + 1 + l
+accountsWord l = pairSupplyWord + 1 + l
 
-abbrev pub countWord : ℕ → ℕ
-countWord l = supplyWord + 3 + l
+abbrev pub pairCountWord : ℕ → ℕ
+pairCountWord l = pairSupplyWord + 3 + l
 
 -- all words
 abbrev pub pairWords : ℕ
-pairWords = supplyWord + 5
+pairWords = pairSupplyWord + 5
 
 -- ## What the words say
 
 -- document 01: stake
-abbrev pub supplyOf : List ℕ → ℕ
-supplyOf s = getD s supplyWord 0
+abbrev pub pairSupplyOf : List ℕ → ℕ
+pairSupplyOf s = getD s pairSupplyWord 0
 
 -- the number of a ledger's accounts
 abbrev pub accountsOn : List ℕ → ℕ → ℕ
@@ -61,15 +61,15 @@ accountsOn s l = getD s (accountsWord l) 0
 
 -- of its held records
 abbrev pub countOn : List ℕ → ℕ → ℕ
-countOn s l = getD s (countWord l) 0
+countOn s l = getD s (pairCountWord l) 0
 
 -- a ledger
 abbrev pub ledgerOn : List ℕ → ℕ → LedgerState
-ledgerOn s l = ledgerIn s (balancesOn l) (accountsOn s l) (recordsOn l) (countOn s l)
+ledgerOn s l = ledgerIn s (balancesStart l) (accountsOn s l) (recordsStart l) (countOn s l)
 
 -- the state, seen as the rules' state
 abbrev pub pairViewOf : List ℕ → PairView
-pairViewOf s = record { pair = record { home = ledgerOn s 0; far = ledgerOn s 1 }; supply = supplyOf s }
+pairViewOf s = record { pair = record { home = ledgerOn s 0; far = ledgerOn s 1 }; supply = pairSupplyOf s }
 
 -- ## 3
 
@@ -81,17 +81,17 @@ pairBounds s =
     ∷ countAllowed (accountsOn s 1)
     ∷ leb (countOn s 0) capacity
     ∷ leb (countOn s 1) capacity
-    ∷ supplyAllowed (supplyOf s)
+    ∷ supplyAllowed (pairSupplyOf s)
     ∷ []
     )
 
 -- the balances of a ledger beyond its accounts are zero (Refusals: 3, a balance beyond the accounts)
 unfoldable pub zeroBeyond : List ℕ → ℕ → Bool
-zeroBeyond s l = zerosAt s (balancesOn l + accountsOn s l) (accountLimit - accountsOn s l)
+zeroBeyond s l = zerosAt s (balancesStart l + accountsOn s l) (accountLimit - accountsOn s l)
 
 -- the held records of a ledger are formed (Refusals: 3, a held record that 21 would refuse)
 unfoldable pub formedOn : List ℕ → ℕ → Bool
-formedOn s l = allAt (λ (i : ℕ). formed (wordsAt s (recordsOn l) i)) 0 (countOn s l)
+formedOn s l = allAt (λ (i : ℕ). formed (wordsAt s (recordsStart l) i)) 0 (countOn s l)
 
 -- refusal 3: what only the words can hold, and what the rules' state is asked
 unfoldable pub acceptsPair : List ℕ → Bool
@@ -111,7 +111,7 @@ acceptsPair s =
 
 -- the words once a record has passed on the ledger with byte l: its balances and its own words, the number of held records
 unfoldable pub pairWith : List ℕ → Words → Record → ℕ → List ℕ
-pairWith s w r l = set (stored s (balancesOn l) (recordsOn l + 4 * countOn s l) w r) (countWord l) (countOn s l + 1)
+pairWith s w r l = set (stored s (balancesStart l) (recordsStart l + 4 * countOn s l) w r) (pairCountWord l) (countOn s l + 1)
 
 -- the words once what was read has passed
 abbrev pub pairAfterRead : List ℕ → Words → Reading → List ℕ
@@ -133,8 +133,8 @@ pairWordsChecker =
 unfoldable pub pairOpenedWords : List ℕ → List ℕ → List ℕ
 pairOpenedWords homes fars =
     replicate (8 * capacity) 0
-    ++ (padded homes
-    ++ (padded fars ++ (total homes + total fars) ∷ length homes ∷ length fars ∷ 0 ∷ 0 ∷ []))
+    ++ (zeroFilled homes
+    ++ (zeroFilled fars ++ (total homes + total fars) ∷ length homes ∷ length fars ∷ 0 ∷ 0 ∷ []))
 
 -- all zero, which 3 refuses: what stands beside a refused opening
 unfoldable pub pairZeroWords : List ℕ
@@ -143,15 +143,15 @@ pairZeroWords = replicate pairWords 0
 -- ## For inner functions
 
 -- the elements of a ledger's index of numbers: the heads of the chains, then the places
-abbrev pub indexLength : ℕ
-indexLength = chainCount + capacity
+abbrev pub pairIndexLength : ℕ
+pairIndexLength = chainCount + capacity
 
 -- where a ledger's index starts
 abbrev pub indexOn : ℕ → ℕ
-indexOn l = l * indexLength
+indexOn l = l * pairIndexLength
 
 -- a state that is accepted, with the indexes of its numbers
 pub record PairReady (s index : List ℕ) : Type 0 where
   pub accepted : acceptsPair s ≡ true
-  pub index-long : length index ≡ 2 * indexLength
-  pub indexed : (l : ℕ) → l < 2 → IndexOf s (recordsOn l) index (indexOn l) (countOn s l)
+  pub index-long : length index ≡ 2 * pairIndexLength
+  pub indexed : (l : ℕ) → l < 2 → IndexOf s (recordsStart l) index (indexOn l) (countOn s l)

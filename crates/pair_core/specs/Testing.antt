@@ -6,7 +6,7 @@ use mathlib.Core.List.{List, [], _∷_}
 use lib.Dec.{eqb}
 use lib.ListN.{getD, length}
 use Rattle.ledgers.specs.Ledgers.{ledgerAt}
-use Rattle.pair_core.specs.Layout.{accountsOn, balancesOn, countOn, pairBounds, pairWords, recordsOn, supplyOf, zeroBeyond}
+use Rattle.pair_core.specs.Layout.{accountsOn, balancesStart, countOn, pairBounds, pairWords, recordsStart, pairSupplyOf, zeroBeyond}
 use Rattle.places.specs.OverPlaces.{allAt, apartAt, sumAt}
 use Rattle.table.specs.Table.{accountsBy, backedAt, flowAt, mayHoldAt, numberAt}
 use Rattle.wire.specs.BigEndian.{every}
@@ -14,25 +14,25 @@ use Rattle.wire.specs.BigEndian.{every}
 -- a ledger may hold each of its records, and their numbers are apart
 abbrev pub heldOn : List ℕ → ℕ → Bool
 heldOn s l =
-    allAt (mayHoldAt s (recordsOn l) (ledgerAt l) (accountsBy (ledgerAt l) (accountsOn s l) (accountsOn s (1 - l)))) 0 (countOn s l)
-    && apartAt (numberAt s (recordsOn l)) 0 (countOn s l)
+    allAt (mayHoldAt s (recordsStart l) (ledgerAt l) (accountsBy (ledgerAt l) (accountsOn s l) (accountsOn s (1 - l)))) 0 (countOn s l)
+    && apartAt (numberAt s (recordsStart l)) 0 (countOn s l)
 
 -- each of its arrivals has its sending on the other ledger
 abbrev pub backedOn : List ℕ → ℕ → Bool
-backedOn s l = allAt (backedAt s (recordsOn l) (1 - l) (recordsOn (1 - l)) (countOn s (1 - l))) 0 (countOn s l)
+backedOn s l = allAt (backedAt s (recordsStart l) (1 - l) (recordsStart (1 - l)) (countOn s (1 - l))) 0 (countOn s l)
 
 -- the sum of its balances
 abbrev pub balanceSum : List ℕ → ℕ → ℕ
-balanceSum s l = sumAt (λ (i : ℕ). getD s i 0) (balancesOn l) (accountsOn s l)
+balanceSum s l = sumAt (λ (i : ℕ). getD s i 0) (balancesStart l) (accountsOn s l)
 
 -- the sum of the amounts of its records of a kind
 abbrev pub flowSum : ℕ → List ℕ → ℕ → ℕ
-flowSum kind s l = sumAt (flowAt kind s (recordsOn l)) 0 (countOn s l)
+flowSum kind s l = sumAt (flowAt kind s (recordsStart l)) 0 (countOn s l)
 
 -- balances and what was sent are the supply and what arrived
 unfoldable pub sumsAgree : List ℕ → Bool
 sumsAgree s =
-    eqb (balanceSum s 0 + balanceSum s 1 + (flowSum 2 s 0 + flowSum 2 s 1)) (supplyOf s + (flowSum 3 s 0 + flowSum 3 s 1))
+    eqb (balanceSum s 0 + balanceSum s 1 + (flowSum 2 s 0 + flowSum 2 s 1)) (pairSupplyOf s + (flowSum 3 s 0 + flowSum 3 s 1))
 
 -- all of these, the length first
 unfoldable pub testsOf : List ℕ → Bool

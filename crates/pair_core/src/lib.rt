@@ -7,8 +7,8 @@ ghost use lib.ListN.{length};
 ghost use Rattle.answers.specs.Answers.{unlessRefused};
 ghost use Rattle.ledgers.specs.Ledgers.{ledgerByte, ledgerOf};
 ghost use Rattle.ledgers.specs.Limits.{capacity};
-ghost use Rattle.pair_core.specs.Layout.{PairReady, acceptsPair, countOn, indexLength, indexOn, pairBounds, pairViewOf};
-ghost use Rattle.pair_core.specs.Layout.{pairOpenedWords, pairWith, pairWords, pairWordsChecker, pairZeroWords, recordsOn};
+ghost use Rattle.pair_core.specs.Layout.{PairReady, acceptsPair, countOn, pairIndexLength, indexOn, pairBounds, pairViewOf};
+ghost use Rattle.pair_core.specs.Layout.{pairOpenedWords, pairWith, pairWords, pairWordsChecker, pairZeroWords, recordsStart};
 ghost use Rattle.pair_core.specs.Layout.{zeroBeyond};
 ghost use Rattle.pair_core.specs.Testing.{backedOn, heldOn, sumsAgree};
 ghost use Rattle.places.specs.NumberIndex.{Kept};
@@ -115,12 +115,12 @@ fn is_zero_beyond(s: &[u64], l: usize) -> bool
 
 // Each held record of a ledger by itself, and their numbers; where they hold, their index is made in place of an empty one.
 fn is_held<'a, 'b>(s: &'a [u64], index: &'b mut [u16], l: usize) -> bool
-    requires { ⌜ (length (now s) ≡ pairWords) × (pairBounds (now s) ≡ true) × (length (now index) ≡ 2 * indexLength) × (l < 2)
-        × IndexOf (now s) (recordsOn l) (now index) (indexOn l) 0 ⌝ }
+    requires { ⌜ (length (now s) ≡ pairWords) × (pairBounds (now s) ≡ true) × (length (now index) ≡ 2 * pairIndexLength) × (l < 2)
+        × IndexOf (now s) (recordsStart l) (now index) (indexOn l) 0 ⌝ }
     ensures holds { λ b. ⌜ b ≡ heldOn (now (s .entry)) l ⌝ }
-    ensures indexed { λ b. ⌜ (b ≡ true → IndexOf (now (s .entry)) (recordsOn l) (now (index .exit)) (indexOn l)
+    ensures indexed { λ b. ⌜ (b ≡ true → IndexOf (now (s .entry)) (recordsStart l) (now (index .exit)) (indexOn l)
         (countOn (now (s .entry)) l)) ⌝ }
-    ensures others { λ b. ⌜ Kept (indexOn l) (indexOn l + indexLength) (now (index .entry)) (now (index .exit)) ⌝ }
+    ensures others { λ b. ⌜ Kept (indexOn l) (indexOn l + pairIndexLength) (now (index .entry)) (now (index .exit)) ⌝ }
 {
     hold_indexed(
         s,
@@ -136,10 +136,10 @@ fn is_held<'a, 'b>(s: &'a [u64], index: &'b mut [u16], l: usize) -> bool
 
 // Whether the arrivals of a ledger have their sendings on the other one, and what its records sent and received.
 fn crossings_on<'a>(s: &'a [u64], index: &'a [u16], l: usize) -> Crossed
-    requires { ⌜ (length (now s) ≡ pairWords) × (pairBounds (now s) ≡ true) × (length (now index) ≡ 2 * indexLength) × (l < 2)
-        × ((m : ℕ) → m < 2 → IndexOf (now s) (recordsOn m) (now index) (indexOn m) (countOn (now s) m)) ⌝ }
+    requires { ⌜ (length (now s) ≡ pairWords) × (pairBounds (now s) ≡ true) × (length (now index) ≡ 2 * pairIndexLength) × (l < 2)
+        × ((m : ℕ) → m < 2 → IndexOf (now s) (recordsStart m) (now index) (indexOn m) (countOn (now s) m)) ⌝ }
     ensures backed { λ r. ⌜ r .backed ≡ backedOn (now (s .entry)) l ⌝ }
-    ensures sums { λ r. ⌜ (r .backed ≡ true → FlowsAt (now (s .entry)) (recordsOn l) (countOn (now (s .entry)) l) (r .flows)) ⌝ }
+    ensures sums { λ r. ⌜ (r .backed ≡ true → FlowsAt (now (s .entry)) (recordsStart l) (countOn (now (s .entry)) l) (r .flows)) ⌝ }
 {
     let o = 1 - l;
     add_crossings(
@@ -156,8 +156,8 @@ fn crossings_on<'a>(s: &'a [u64], index: &'a [u16], l: usize) -> Crossed
 
 // Balances and what was sent, against the supply and what arrived.
 fn adds_up(s: &[u64], home: Flows, far: Flows) -> bool
-    requires { ⌜ (length (now s) ≡ pairWords) × (pairBounds (now s) ≡ true) × FlowsAt (now s) (recordsOn 0) (countOn (now s) 0) home
-        × FlowsAt (now s) (recordsOn 1) (countOn (now s) 1) far ⌝ }
+    requires { ⌜ (length (now s) ≡ pairWords) × (pairBounds (now s) ≡ true) × FlowsAt (now s) (recordsStart 0) (countOn (now s) 0) home
+        × FlowsAt (now s) (recordsStart 1) (countOn (now s) 1) far ⌝ }
     ensures { λ b. ⌜ b ≡ sumsAgree (now (s .entry)) ⌝ }
 {
     let zero = Wide { high: 0, low: 0 };
@@ -181,8 +181,8 @@ fn adds_up(s: &[u64], home: Flows, far: Flows) -> bool
 
 // All that 3 asks of a state; where it holds, the indexes of its numbers are made in place of empty ones.
 pub fn is_accepted<'a, 'b>(s: &'a [u64], index: &'b mut [u16]) -> bool
-    requires { ⌜ (length (now index) ≡ 2 * indexLength)
-        × ((l : ℕ) → l < 2 → IndexOf (now s) (recordsOn l) (now index) (indexOn l) 0) ⌝ }
+    requires { ⌜ (length (now index) ≡ 2 * pairIndexLength)
+        × ((l : ℕ) → l < 2 → IndexOf (now s) (recordsStart l) (now index) (indexOn l) 0) ⌝ }
     ensures accepts { λ b. ⌜ b ≡ acceptsPair (now (s .entry)) ⌝ }
     ensures ready { λ b. ⌜ (b ≡ true → PairReady (now (s .entry)) (now (index .exit))) ⌝ }
     ensures long { λ b. ⌜ length (now (index .exit)) ≡ length (now (index .entry)) ⌝ }

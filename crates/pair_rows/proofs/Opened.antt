@@ -3,7 +3,7 @@ use Rattle.wire.proofs.Prelude.{List, _+_, _-_, _∙_, _≡_, _≤_, ap, arith,
 use Rattle.answers.specs.Answers.{unlessRefused}
 use Rattle.ledgers.specs.Limits.{maxAmount}
 use Rattle.pair_core.proofs.Opened.{opened-view}
-use Rattle.pair_core.specs.Layout.{pairOpenedWords, pairZeroWords, supplyOf}
+use Rattle.pair_core.specs.Layout.{pairOpenedWords, pairZeroWords, pairSupplyOf}
 use Rattle.pair_rows.specs.Rows.{rowOf}
 use Rattle.places.proofs.ExactSums.{added-value}
 use Rattle.places.proofs.Openings.{low-is-wide, total-sum}
@@ -18,8 +18,8 @@ use Rattle.rules.specs.Rules.{flight, inFlight}
 -- where the opening left words t and home's balances were summed, the low limb is home's total, and with the supply it gives the row
 pub record FirstRow (homes fars t : List ℕ) (low : ℕ) : Type 0 where
   pub words : t ≡ pairOpenedWords homes fars
-  pub fits : low ≤ supplyOf t
-  pub row : record { refusal = 0; home = low; far = supplyOf t - low; flight = 0 } ≡ rowOf 0 (pairOpened homes fars)
+  pub fits : low ≤ pairSupplyOf t
+  pub row : record { refusal = 0; home = low; far = pairSupplyOf t - low; flight = 0 } ≡ rowOf 0 (pairOpened homes fars)
 
 module _ (homes fars : List ℕ) (z : pairOpeningRefusal homes fars ≡ 0) where
   -- it does
@@ -33,7 +33,7 @@ module _ (homes fars : List ℕ) (z : pairOpeningRefusal homes fars ≡ 0) where
       let s = leb-true (total homes + total fars) maxAmount
       (opening-none (length homes) (length fars) (total homes + total fars) z .supply-fits) in
       let x : t ≡ pairOpenedWords homes fars = rw z at q in
-      let u : supplyOf t ≡ total homes + total fars = ap supplyOf x ∙ ap (λ (v : PairView). v .supply) (opened-view homes fars z) in
+      let u : pairSupplyOf t ≡ total homes + total fars = ap pairSupplyOf x ∙ ap (λ (v : PairView). v .supply) (opened-view homes fars z) in
       let l = low-is-wide w (omega (arith, added-value a, e, s)) ∙ added-value a ∙ sym e in
-      let d : supplyOf t - w .low ≡ total fars = omega (arith, l, u) in
+      let d : pairSupplyOf t - w .low ≡ total fars = omega (arith, l, u) in
       record { words = x; fits = omega (arith, l, u); row = rw (d, l) }

@@ -5,7 +5,7 @@ use Rattle.ledgers.specs.Ledgers.{ledgerByte, ledgerOf}
 use Rattle.ledgers.specs.Limits.{capacity}
 use Rattle.pair_core.proofs.Accept.{sound-of}
 use Rattle.pair_core.proofs.Passing.{next-of}
-use Rattle.pair_core.specs.Layout.{PairReady, pairViewOf, pairWith, pairWordsChecker, supplyOf}
+use Rattle.pair_core.specs.Layout.{PairReady, pairViewOf, pairWith, pairWordsChecker, pairSupplyOf}
 use Rattle.pair_rows.specs.Rows.{RowReady, movedRow, rowOf, totalIn}
 use Rattle.pair_rows.specs.declared.Row.{Row}
 use Rattle.places.specs.Entries.{givenBy, takenBy}
@@ -123,7 +123,7 @@ module _ (s index b : List ℕ) (last : Row) (h : RowReady s index last) where
 
   -- of a passed one
   pub row-passed : (r : Record) → reading b ≡ Read r → 0 ≡ pairWordsChecker .judge s b
-      → RowMoves (supplyOf s) last (ledgerOf (r .kind)) (takenBy (r .kind) (r .amount)) (givenBy (r .kind) (r .amount)) (rowAfter s b)
+      → RowMoves (pairSupplyOf s) last (ledgerOf (r .kind)) (takenBy (r .kind) (r .amount)) (givenBy (r .kind) (r .amount)) (rowAfter s b)
   unfolding callOne
   row-passed r q j =
       let k : pairJudge capacity (pairViewOf s .pair) (Read r) ≡ 0 = rw q at (sym j) in
@@ -131,9 +131,9 @@ module _ (s index b : List ℕ) (last : Row) (h : RowReady s index last) where
       let t : callOne pairWordsChecker s b .state ≡ pairWith s (wordsOf b) r (ledgerByte (ledgerOf (r .kind))) = rw (q, k) in
       let g = accepts-facts capacity _ (sound-of _ (x .accepted) .accepted) .sums in
       let v = x .view in
-      let m = row-after (pairViewOf s .pair) r (supplyOf s) (last .refusal) (or-else-zero (judge (pairViewOf s .pair) r) _ k .0)
+      let m = row-after (pairViewOf s .pair) r (pairSupplyOf s) (last .refusal) (or-else-zero (judge (pairViewOf s .pair) r) _ k .0)
       (subst (λ (y : PairView). total (y .pair .home .balances) + total (y .pair .far .balances) + inFlight (y .pair) ≡ y .supply) v g) in
-      let e : rowOf 0 (record { pair = after (pairViewOf s .pair) r; supply = supplyOf s }) ≡ rowAfter s b =
+      let e : rowOf 0 (record { pair = after (pairViewOf s .pair) r; supply = pairSupplyOf s }) ≡ rowAfter s b =
       ap₂ rowOf j (sym v ∙ ap pairViewOf (sym t)) in
       moves-same (sym (h .row-is)) e m
 

@@ -8,7 +8,7 @@ use Rattle.answers.specs.declared.Answer.the-variants.{Passed}
 use Rattle.ledgers.specs.Limits.{capacity, maxAmount}
 use Rattle.pair_core.proofs.Accept.{sound-of}
 use Rattle.pair_core.proofs.Ledgers.{accounts-fit, balances-within, by-byte, length-held}
-use Rattle.pair_core.specs.Layout.{acceptsPair, accountsOn, balancesOn, countOn, ledgerOn, pairViewOf, supplyOf}
+use Rattle.pair_core.specs.Layout.{acceptsPair, accountsOn, balancesStart, countOn, ledgerOn, pairViewOf, pairSupplyOf}
 use Rattle.pair_validator.specs.Figures.{balancesUnder, pairBalanceOf, pairFiguresOf, pairPlacesOf}
 use Rattle.pair_validator.specs.declared.asked.PairFigures.{PairFigures}
 use Rattle.pair_validator.specs.declared.asked.PairPlaces.{PairPlaces}
@@ -49,40 +49,40 @@ module _ (s : List ℕ) (h : acceptsPair s ≡ true) where
   -- ## The totals
 
   -- balances and in flight are the supply
-  pub pair-supply-shared : total (ledgerOn s 0 .balances) + total (ledgerOn s 1 .balances) + inFlight (pairViewOf s .pair) ≡ supplyOf s
+  pub pair-supply-shared : total (ledgerOn s 0 .balances) + total (ledgerOn s 1 .balances) + inFlight (pairViewOf s .pair) ≡ pairSupplyOf s
   pair-supply-shared = accepts-facts capacity (pairViewOf s) (sound-of s h .accepted) .sums
 
   -- which is at most an amount
-  supply-most : supplyOf s ≤ maxAmount
+  supply-most : pairSupplyOf s ≤ maxAmount
   unfolding supplyAllowed
   supply-most = leb-true _ _ (sound-of s h .bounds .supply-fits)
 
   -- the accounts of a ledger are within the words, and few
-  pub pair-on-ledger : (l : ℕ) → l < 2 → (balancesOn l + accountsOn s l ≤ length s) × (2 * accountsOn s l < 65535)
+  pub pair-on-ledger : (l : ℕ) → l < 2 → (balancesStart l + accountsOn s l ≤ length s) × (2 * accountsOn s l < 65535)
   pair-on-ledger l q =
       let o = sound-of s h in
       (balances-within s (o .long) (o .bounds) l q, omega (arith, accounts-fit s (o .bounds) l q .1))
 
   -- a ledger's total is at most the supply
-  total-most : (l : ℕ) → l < 2 → total (ledgerOn s l .balances) ≤ supplyOf s
-  total-most = by-byte (λ (l : ℕ). total (ledgerOn s l .balances) ≤ supplyOf s) (omega (arith, pair-supply-shared))
+  total-most : (l : ℕ) → l < 2 → total (ledgerOn s l .balances) ≤ pairSupplyOf s
+  total-most = by-byte (λ (l : ℕ). total (ledgerOn s l .balances) ≤ pairSupplyOf s) (omega (arith, pair-supply-shared))
       (omega (arith, pair-supply-shared))
 
   -- it is what the sum of its balances has in its low limb
   pub pair-total : (l : ℕ) → l < 2 → {w : Wide} {n : ℕ}
-      → Added (record { high = 0; low = 0 }) (sumAt (λ (i : ℕ). getD s i 0) (balancesOn l) (accountsOn s l)) n w
+      → Added (record { high = 0; low = 0 }) (sumAt (λ (i : ℕ). getD s i 0) (balancesStart l) (accountsOn s l)) n w
       → w .low ≡ total (ledgerOn s l .balances)
   unfolding ledgerIn
   pair-total l q {w} a =
-      let e = balances-sum s (balancesOn l) (accountsOn s l) (pair-on-ledger l q .0) in
+      let e = balances-sum s (balancesStart l) (accountsOn s l) (pair-on-ledger l q .0) in
       low-is-wide w (omega (arith, added-value a, e, total-most l q, supply-most)) ∙ added-value a ∙ sym e
 
   -- the figures of accepted words, by both totals
   pub pair-figures-passed : (home far : ℕ) → home ≡ total (ledgerOn s 0 .balances) → far ≡ total (ledgerOn s 1 .balances)
-      → _≡_ {A = PairFigures} (record { answer = Passed; home = home; far = far; flight = supplyOf s - home - far })
+      → _≡_ {A = PairFigures} (record { answer = Passed; home = home; far = far; flight = pairSupplyOf s - home - far })
       (pairFiguresOf (acceptsPair s) s)
   pair-figures-passed home far a b =
-      let e : supplyOf s - home - far ≡ inFlight (pairViewOf s .pair) = omega (arith, pair-supply-shared) in
+      let e : pairSupplyOf s - home - far ≡ inFlight (pairViewOf s .pair) = omega (arith, pair-supply-shared) in
       rw h (λ i. record { answer = Passed; home = a i; far = b i; flight = e i })
 
   -- ## The balance of one account
@@ -95,12 +95,12 @@ module _ (s : List ℕ) (h : acceptsPair s ≡ true) where
   no-such-ledger (suc (suc l)) a q = let f : ltb a 0 ≡ false = le-ltb a 0 (omega arith) in rw (h, f)
 
   -- the balances of a ledger by its byte
-  balances-under : (l : ℕ) → l < 2 → take (accountsOn s l) (drop (balancesOn l) s) ≡ balancesUnder (pairViewOf s .pair) l
+  balances-under : (l : ℕ) → l < 2 → take (accountsOn s l) (drop (balancesStart l) s) ≡ balancesUnder (pairViewOf s .pair) l
   unfolding ledgerIn
   balances-under =
-      by-byte (λ (l : ℕ). take (accountsOn s l) (drop (balancesOn l) s) ≡ balancesUnder (pairViewOf s .pair) l) refl refl
+      by-byte (λ (l : ℕ). take (accountsOn s l) (drop (balancesStart l) s) ≡ balancesUnder (pairViewOf s .pair) l) refl refl
 
   -- the balance among those of the ledger
   pub pair-balance-passed : (l a : ℕ) → l < 2
-      → balanceAmong (take (accountsOn s l) (drop (balancesOn l) s)) a ≡ pairBalanceOf (acceptsPair s) s l a
+      → balanceAmong (take (accountsOn s l) (drop (balancesStart l) s)) a ≡ pairBalanceOf (acceptsPair s) s l a
   pair-balance-passed l a q = rw (h, balances-under l q)

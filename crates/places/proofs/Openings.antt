@@ -9,7 +9,7 @@ use Rattle.places.proofs.BalanceTotals.{balances-sum}
 use Rattle.places.proofs.NumberIndex.{zero-at}
 use Rattle.places.proofs.OverPlaces.{all-of}
 use Rattle.places.specs.ExactSums.{wide}
-use Rattle.places.specs.LedgerBalances.{padded, zerosAt}
+use Rattle.places.specs.LedgerBalances.{zeroFilled, zerosAt}
 use Rattle.places.specs.OverPlaces.{sumAt}
 use Rattle.places.specs.declared.exact_sums.Wide.{Wide}
 use Rattle.rules.specs.Lists.{total}
@@ -93,7 +93,7 @@ fewer-zeros (suc n) zero = let e : 0 - suc n ≡ 0 = omega arith in rw e
 fewer-zeros (suc n) (suc m) = let e : suc m - suc n ≡ m - n = omega arith in rw e (fewer-zeros n m)
 
 -- balances with zeros up to the limit are as many as the limit
-padded-length : (b : List ℕ) → length b ≤ accountLimit → length (padded b) ≡ accountLimit
+padded-length : (b : List ℕ) → length b ≤ accountLimit → length (zeroFilled b) ≡ accountLimit
 padded-length b h =
     omega (
       arith,
@@ -117,14 +117,14 @@ pub record Stands (s : List ℕ) (p : ℕ) (xs rest : List ℕ) : Type 0 where
 
 module _ (front : List ℕ) (p : ℕ) (e : length front ≡ p) (xs : List ℕ) (fits : length xs ≤ accountLimit) where
   -- as many words
-  pub front-long : length (front ++ padded xs) ≡ p + accountLimit
-  front-long = omega (arith, length-append front (padded xs), e, padded-length xs fits)
+  pub front-long : length (front ++ zeroFilled xs) ≡ p + accountLimit
+  front-long = omega (arith, length-append front (zeroFilled xs), e, padded-length xs fits)
 
   module _ (rest : List ℕ) where
     -- the balances, copied to zeros
     pub copied : take p (front ++ (replicate accountLimit 0 ++ rest))
         ++ (xs ++ drop (p + length xs) (front ++ (replicate accountLimit 0 ++ rest)))
-        ≡ front ++ (padded xs ++ rest)
+        ≡ front ++ (zeroFilled xs ++ rest)
     copied =
         let z : length xs ≤ length (replicate {A = ℕ} accountLimit 0) = rw (length-replicate {A = ℕ} accountLimit 0) fits in
         rw (
@@ -137,26 +137,27 @@ module _ (front : List ℕ) (p : ℕ) (e : length front ≡ p) (xs : List ℕ) (
         )
 
     -- a word stored behind them
-    pub stored-behind : (k a : ℕ) → set (front ++ (padded xs ++ rest)) (p + accountLimit + k) a ≡ front ++ (padded xs ++ set rest k a)
+    pub stored-behind : (k a : ℕ) → set (front ++ (zeroFilled xs ++ rest)) (p + accountLimit + k) a ≡ front ++ (zeroFilled xs ++ set rest k
+        a)
     stored-behind k a =
-        rw (← append-assoc front (padded xs) rest, ← append-assoc front (padded xs) (set rest k a), ← front-long)
-        (set-behind (front ++ padded xs) rest k a)
+        rw (← append-assoc front (zeroFilled xs) rest, ← append-assoc front (zeroFilled xs) (set rest k a), ← front-long)
+        (set-behind (front ++ zeroFilled xs) rest k a)
 
     -- what stands there
-    pub stands : Stands (front ++ (padded xs ++ rest)) p xs rest
+    pub stands : Stands (front ++ (zeroFilled xs ++ rest)) p xs rest
     unfolding zerosAt
     stands =
         let q = replicate {A = ℕ} (accountLimit - length xs) 0 in
         record {
           long = simp (length-append, length-replicate) (omega arith);
-          balances = rw (drop-at front (padded xs ++ rest) p e, append-assoc xs q rest) (take-append-seam xs (q ++ rest));
-          zeros = all-of (λ (i : ℕ). eqb (getD (front ++ (padded xs ++ rest)) i 0) 0) (p + length xs) (accountLimit - length xs)
+          balances = rw (drop-at front (zeroFilled xs ++ rest) p e, append-assoc xs q rest) (take-append-seam xs (q ++ rest));
+          zeros = all-of (λ (i : ℕ). eqb (getD (front ++ (zeroFilled xs ++ rest)) i 0) 0) (p + length xs) (accountLimit - length xs)
               (λ i a b.
               let k : i ≡ length front + (i - p) = omega arith in
               eq-eqb _ 0
-              (ap (λ (j : ℕ). getD (front ++ (padded xs ++ rest)) j 0) k
-              ∙ getD-append-add front (padded xs ++ rest) (i - p) 0
-              ∙ List·getD-append (padded xs) rest 0 (i - p) (omega (arith, padded-length xs fits))
+              (ap (λ (j : ℕ). getD (front ++ (zeroFilled xs ++ rest)) j 0) k
+              ∙ getD-append-add front (zeroFilled xs ++ rest) (i - p) 0
+              ∙ List·getD-append (zeroFilled xs) rest 0 (i - p) (omega (arith, padded-length xs fits))
               ∙ zero-after xs (accountLimit - length xs) (i - p) (omega arith)));
-          behind = λ k. rw (← append-assoc front (padded xs) rest, ← front-long) (getD-append-add (front ++ padded xs) rest k 0);
+          behind = λ k. rw (← append-assoc front (zeroFilled xs) rest, ← front-long) (getD-append-add (front ++ zeroFilled xs) rest k 0);
         }

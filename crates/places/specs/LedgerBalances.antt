@@ -55,5 +55,5 @@ fundsAt balances from n r = refuse (ltb (balanceAt balances from n (r .sender)) 
 -- ## Openings
 
 -- balances, and zeros up to as many as a ledger can have
-abbrev pub padded : List ℕ → List ℕ
-padded balances = balances ++ replicate (accountLimit - length balances) 0
+abbrev pub zeroFilled : List ℕ → List ℕ
+zeroFilled balances = balances ++ replicate (accountLimit - length balances) 0

@@ -23,24 +23,24 @@ call-unaccepted c s d h = rw h
 
 module _ {S : Type 0} (c : Checker S) where
   -- an answer and a state are the call's
-  abbrev pub Told : S → Call → Answer → S → Type 0
-  Told s d a t = (a ≡ call c s d .answer) × (t ≡ call c s d .state)
+  abbrev pub Gives : S → Call → Answer → S → Type 0
+  Gives s d a t = (a ≡ call c s d .answer) × (t ≡ call c s d .state)
 
   -- so are those that it is equal to
-  told : (s : S) (d : Call) (x : Result S) → call c s d ≡ x → Told s d (x .answer) (x .state)
-  told s d x e = rw e (refl, refl)
+  gives : (s : S) (d : Call) (x : Result S) → call c s d ≡ x → Gives s d (x .answer) (x .state)
+  gives s d x e = rw e (refl, refl)
 
   -- where the state is not accepted
-  pub told-unaccepted : (s : S) (d : Call) {t : Bool} → t ≡ c .accepts s → not t ≡ true → Told s d (Refused 3 0) s
-  told-unaccepted s d q h = told s d (record { answer = Refused 3 0; state = s }) (call-unaccepted c s d (sym q ∙ not-true _ h))
+  pub gives-unaccepted : (s : S) (d : Call) {t : Bool} → t ≡ c .accepts s → not t ≡ true → Gives s d (Refused 3 0) s
+  gives-unaccepted s d q h = gives s d (record { answer = Refused 3 0; state = s }) (call-unaccepted c s d (sym q ∙ not-true _ h))
 
   -- ## A call with one record
 
   -- in an accepted state, by its refusal and the state left
-  pub told-one : (s : S) (b : List ℕ) {t : Bool} {n : ℕ} {a : Answer} {u : S} → t ≡ c .accepts s → not t ≡ false → n ≡ c .judge s b
-      → a ≡ answer n 0 → u ≡ callOne c s b .state → Told s (one b) a u
+  pub gives-one : (s : S) (b : List ℕ) {t : Bool} {n : ℕ} {a : Answer} {u : S} → t ≡ c .accepts s → not t ≡ false → n ≡ c .judge s b
+      → a ≡ answer n 0 → u ≡ callOne c s b .state → Gives s (one b) a u
   unfolding call callOne
-  told-one s b q h j e l = rw (sym q ∙ not-false _ h) (e ∙ ap (λ (n : ℕ). answer n 0) j, l)
+  gives-one s b q h j e l = rw (sym q ∙ not-false _ h) (e ∙ ap (λ (n : ℕ). answer n 0) j, l)
 
 -- ## Parts of bytes
 
@@ -163,14 +163,15 @@ module _ {c : Checker (List ℕ)} {Ready : List ℕ → List ℕ → Type 0} {st
 
   module _ {s index : List ℕ} {at i : ℕ} (h : Taking c Ready start b s index at i) where
     -- after the last
-    pub taking-end : length b ≤ at → Told c start (list b) Passed s
-    taking-end l = told c start (list b) (record { answer = Passed; state = s }) (h .left ∙ turn-end c start s i at b l)
+    pub taking-end : length b ≤ at → Gives c start (list b) Passed s
+    taking-end l = gives c start (list b) (record { answer = Passed; state = s }) (h .left ∙ turn-end c start s i at b l)
 
     module _ {end n : ℕ} (e : end ≡ min (length b) (at + 32)) (l : at < length b) (j : n ≡ c .judge s (take (end - at) (drop at b))) where
       -- after one that is refused
-      pub taking-refused : (n ≡ 0 → ⊥) → Told c start (list b) (Refused n i) start
+      pub taking-refused : (n ≡ 0 → ⊥) → Gives c start (list b) (Refused n i) start
       taking-refused z =
-          told c start (list b) (record { answer = Refused n i; state = start }) (h .left ∙ turn-refused c start s i at b end e l n (sym j) z)
+          gives c start (list b) (record { answer = Refused n i; state = start }) (h .left ∙ turn-refused c start s i at b end e l n (sym
+          j) z)
 
       -- after one that passes
       pub taking-next : n ≡ 0 → {t next : List ℕ} → t ≡ callOne c s (take (end - at) (drop at b)) .state → Ready t next

@@ -2,7 +2,7 @@
 use Rattle.wire.proofs.Prelude.{List, List·getD-append, [], _++_, _+_, _-_, _<_, _∙_, _∷_, _≡_, _≤_, ap, arith, eq-or-lt-of-le, getD}
 use Rattle.wire.proofs.Prelude.{getD-at, length, length-append, ltb, ltb-true, refl, suc, sym, true, zero, ℕ, ⊎-elim}
 use Rattle.sha256.specs.Sha256.{K, word, words, nextWord, schedule, round, rounds, sums, compressed}
-use Rattle.sha256.specs.Sixteen.{nextOf, wordsOf, Follows, wordsFrom, sixteenRounds}
+use Rattle.sha256.specs.Sixteen.{nextOf, sixteenWordsOf, Follows, wordsFrom, sixteenRounds}
 use Rattle.sha256.specs.declared.compression.Hash.{Hash}
 use Rattle.sha256.specs.declared.compression.Words.{Words}
 
@@ -105,7 +105,7 @@ module _ (m : List ℕ) where
       }
 
   -- the words of the block are the schedule's first
-  first-words : wordsOf m ≡ sixteenOf W
+  first-words : sixteenWordsOf m ≡ sixteenOf W
   first-words = search first-word
 
   -- what follows the schedule's words from index i on are its words from index i + 16 on
@@ -141,7 +141,7 @@ module _ (m : List ℕ) where
   -- four times sixteen rounds, each with the next words and constants, compress a block
   pub compressed-by-sixteen : (s : Hash) {k : List ℕ} {w0 w1 w2 w3 k0 k1 k2 k3 : Words} {s0 s1 s2 s3 : Hash}
       → k ≡ K → k0 ≡ wordsFrom k 0 → k1 ≡ wordsFrom k 16 → k2 ≡ wordsFrom k 32 → k3 ≡ wordsFrom k 48
-      → w0 ≡ wordsOf m → Follows w0 w1 → Follows w1 w2 → Follows w2 w3
+      → w0 ≡ sixteenWordsOf m → Follows w0 w1 → Follows w1 w2 → Follows w2 w3
       → s0 ≡ sixteenRounds s k0 w0 → s1 ≡ sixteenRounds s0 k1 w1 → s2 ≡ sixteenRounds s1 k2 w2 → s3 ≡ sixteenRounds s2 k3 w3
       → sums s s3 ≡ compressed s m
   unfolding compressed rounds sixteenRounds

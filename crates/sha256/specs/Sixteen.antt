@@ -12,8 +12,8 @@ unfoldable pub nextOf : ℕ → ℕ → ℕ → ℕ → ℕ
 nextOf x2 x7 x15 x16 = σ₁ x2 ⊞ x7 ⊞ σ₀ x15 ⊞ x16
 
 -- the words of a block
-abbrev pub wordsOf : List ℕ → Words
-wordsOf m =
+abbrev pub sixteenWordsOf : List ℕ → Words
+sixteenWordsOf m =
     record {
       w0 = word m 0;
       w1 = word m 1;

@@ -4,7 +4,7 @@ ghost use mathlib.Core.Path.{_≡_};
 ghost use Prim.Native.Nat.{_≤_};
 ghost use lib.ListN.{length};
 ghost use Rattle.sha256.specs.Sha256.{Ch, Maj, Σ₀, Σ₁, σ₀, σ₁, K, T₁, T₂, round, sums, compressed, initial};
-ghost use Rattle.sha256.specs.Sixteen.{nextOf, wordsOf, Follows, wordsFrom, sixteenRounds};
+ghost use Rattle.sha256.specs.Sixteen.{nextOf, sixteenWordsOf, Follows, wordsFrom, sixteenRounds};
 use std::num::wrapping_add_u32;
 use wire::u32_at;
 
@@ -176,7 +176,7 @@ fn small_sigma1(x: u32) -> u32
 // The words of a block of 64 bytes.
 fn load(block: &[u8]) -> Words
     requires { ⌜ length (now block) ≡ 64 ⌝ }
-    ensures { λ r. ⌜ r ≡ wordsOf (now (block .entry)) ⌝ }
+    ensures { λ r. ⌜ r ≡ sixteenWordsOf (now (block .entry)) ⌝ }
 {
     Words {
         w0: u32_at(block, 0),

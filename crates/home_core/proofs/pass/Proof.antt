@@ -2,7 +2,7 @@
 use Rattle.wire.proofs.Prelude.{List, _+_, _-_, _≡_, ap₂, arith, getD, needs, set, sym, ℕ}
 use Rattle.home_core.proofs.Accept.{HomeSound, sound-of}
 use Rattle.home_core.proofs.Passing.{HomePasses, paid-fits, passes-of, pool-moved}
-use Rattle.home_core.specs.Layout.{countOf, countWord, homeWith, poolOf, poolWord}
+use Rattle.home_core.specs.Layout.{homeCountOf, homeCountWord, homeWith, poolOf, poolWord}
 use Rattle.rules.specs.HomeValidator.{poolAfter}
 use Rattle.table.proofs.Records.{amount-fits}
 use Rattle.home_core.proofs.pass.Statement.{statement}
@@ -41,7 +41,7 @@ returns c =
     let s = a .state .now in
     let m : getD s poolWord 0 + c .before .taken-by .result - c .given-by .result ≡ poolAfter (poolOf s) (a .r) (a .r .kind) =
     rw (c .given-by .ensures, c .before .taken-by .ensures) (sym (pool-moved (poolOf s) (a .r) (a .r .kind))) in
-    ap₂ (λ (x : List ℕ) (y : ℕ). set (set x poolWord y) countWord (countOf s + 1)) (c .before .before .store .ensures) m
+    ap₂ (λ (x : List ℕ) (y : ℕ). set (set x poolWord y) homeCountWord (homeCountOf s + 1)) (c .before .before .store .ensures) m
 
 pub pass-spec : {M : Type 1} → statement M
 pass-spec = tie.close (tie.spec (λ c. search needs) (λ c. search needs)

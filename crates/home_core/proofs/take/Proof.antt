@@ -1,6 +1,6 @@
 -- `home_core::take` meets its contract. Assumes nothing.
-use Rattle.home_core.specs.Layout.{homeWordsChecker, indexLength}
-use Rattle.rules.proofs.Parts.{told-one, told-unaccepted}
+use Rattle.home_core.specs.Layout.{homeWordsChecker, homeIndexLength}
+use Rattle.rules.proofs.Parts.{gives-one, gives-unaccepted}
 use Rattle.rules.specs.Calls.{one}
 use Rattle.table.proofs.Numbers.{index-none}
 use Rattle.wire.proofs.Prelude.{needs, not-false, refl}
@@ -10,7 +10,7 @@ use Rattle.home_core.proofs.take.Tie as tie
 returns : tie.Need-returns
 returns c =
     let a = c .before .before .before .before .before .before .before .args in
-    told-unaccepted homeWordsChecker (a .state .now) (one (a .bytes .now)) (c .before .before .is-accepted .ensures .0) (c .if1 .taken)
+    gives-unaccepted homeWordsChecker (a .state .now) (one (a .bytes .now)) (c .before .before .is-accepted .ensures .0) (c .if1 .taken)
 
 step-requires : tie.Need-step-requires
 step-requires c κs = c .before .before .before .before .is-accepted .ensures .1 .0 (not-false _ (c .before .before .if1 .left))
@@ -20,10 +20,11 @@ returns-2 c =
     let d = c .before .before .before .before in
     let a = d .before .before .before .before .before .before .before .args in
     let e = c .before .step .ensures in
-    told-one homeWordsChecker (a .state .now) (a .bytes .now) (d .before .before .is-accepted .ensures .0) (d .if1 .left) (e .0) (c .new .ensures)
+    gives-one homeWordsChecker (a .state .now) (a .bytes .now) (d .before .before .is-accepted .ensures .0) (d .if1 .left) (e .0) (c .new
+    .ensures)
     (e .1 .0)
 
 pub take-spec : {M : Type 1} → statement M
 take-spec = tie.close (tie.spec (λ c. search needs)
-    (λ c κs. (refl, index-none (c .before .before .before .before .args .state .now) 0 indexLength 0)) returns step-requires
+    (λ c κs. (refl, index-none (c .before .before .before .before .args .state .now) 0 homeIndexLength 0)) returns step-requires
     (λ c κs. search needs) returns-2)

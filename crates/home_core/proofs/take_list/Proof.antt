@@ -1,7 +1,7 @@
 -- `home_core::take_list` meets its contract. Assumes nothing.
 use Rattle.wire.proofs.Prelude.{_-_, arith, length, needs, refl}
-use Rattle.home_core.specs.Layout.{HomeReady, homeWordsChecker, indexLength}
-use Rattle.rules.proofs.Parts.{Taking, taking-end, taking-first, taking-next, taking-refused, told-unaccepted}
+use Rattle.home_core.specs.Layout.{HomeReady, homeWordsChecker, homeIndexLength}
+use Rattle.rules.proofs.Parts.{Taking, taking-end, taking-first, taking-next, taking-refused, gives-unaccepted}
 use Rattle.rules.specs.Calls.{list}
 use Rattle.table.proofs.Numbers.{index-none}
 use Rattle.home_core.proofs.take_list.Statement.{statement}
@@ -16,7 +16,7 @@ abbrev μ-loop : tie.MeasureT-loop
 returns : tie.Need-returns Inv-loop μ-loop
 returns c =
     let a = c .before .before .before .before .before .before .before .args in
-    told-unaccepted homeWordsChecker (a .state .now) (list (a .bytes .now)) (c .before .before .is-accepted .ensures .0) (c .if1 .taken)
+    gives-unaccepted homeWordsChecker (a .state .now) (list (a .bytes .now)) (c .before .before .is-accepted .ensures .0) (c .if1 .taken)
 
 loop-holds : tie.Need-loop-holds Inv-loop μ-loop
 loop-holds c =
@@ -49,7 +49,7 @@ loop-again c =
 
 pub take-list-spec : {M : Type 1} → statement M
 take-list-spec = tie.close (tie.spec Inv-loop μ-loop (λ c. search needs)
-    (λ c κs. (refl, index-none (c .before .before .before .before .args .state .now) 0 indexLength 0)) returns loop-holds
+    (λ c κs. (refl, index-none (c .before .before .before .before .args .state .now) 0 homeIndexLength 0)) returns loop-holds
     (λ c κs. search needs) (λ c. search needs) (λ c. search needs) (λ c. search needs)
     (λ c κs. c .before .before .before .before .before .loop .inv .ready) returns-2 add-i (λ c. search needs) loop-again
     (λ c. taking-end (c .before .loop .inv) (omega (arith, c .loop-test .left))))

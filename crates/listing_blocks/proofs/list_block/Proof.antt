@@ -8,7 +8,7 @@ use Rattle.listing_blocks.proofs.list_block.Tie as tie
 
 -- the block is right
 right-at : (c : tie.After-stated-count) → let o = c .before .before .before .before .before .before in
-    Right (o .args .run) (o .args .block .now)
+    Right (o .args .cursor) (o .args .block .now)
 right-at c = right-of _ _ (c .before .before .before .before .before .before .pre .0)
     (passed-zero _ _ (sym (c .before .before .before .judge .ensures) ∙ c .before .enum-told .given .1))
 
@@ -16,9 +16,10 @@ pub list-block-spec : {M : Type 1} → statement M
 list-block-spec = tie.close (tie.spec (λ c κs. search needs) (λ c. search needs) (λ c. search needs) (λ c κs. search needs)
     (λ c. search needs) (λ c κs. omega (arith, c .before .before .before .before .before .before .before .pre .1)) (λ c. search needs)
     (λ c. let p = c .before .before .before in let n = p .before in let e = n .before .before in let j = e .before .before in
-    let o = j .before .before .before in let run = o .args .run in let k = block-stopped run (o .args .state .now) (o .args .block .now) _ _
+    let o = j .before .before .before in let cursor = o .args .cursor in let k = block-stopped cursor (o .args .state .now) (o .args .block
+    .now) _ _
     (p .put-fault .result) _ _ (j .judge .ensures) (e .enum-told2 .given .1) (n .number .ensures) in let f = fault-short (n .number .result)
-    (run .block) in let q = p .put-fault .ensures in
+    (cursor .block) in let q = p .put-fault .ensures in
     (rw (k .text) q, (k .stands, (o .pre .3, omega (arith, o .pre .0), omega (arith, q .next, f))))) (λ c κs. search needs)
     (λ c κs. let d = c .before .before .before in let o = d .before .before .before .before .before .before in let k = right-at d in
     (o .pre .0, k .low, k .long, rw (d .stated-count .ensures) (k .count-fits), o .pre .1, o .pre .2, o .pre .3)) (λ c. search needs)

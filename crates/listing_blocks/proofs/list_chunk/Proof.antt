@@ -5,11 +5,11 @@ use Rattle.listing_blocks.proofs.list_chunk.Statement.{statement}
 use Rattle.listing_blocks.proofs.list_chunk.Tie as tie
 
 abbrev Inv-loop : tie.InvT-loop
-Inv-loop chunk pairs out₀ state₀ index₀ n run₀ at₀ out state index run at =
-    (at ≤ length chunk) × ChunkListed run₀ state₀ chunk out₀ at run state out index
+Inv-loop chunk pairs out₀ state₀ index₀ n run₀ at₀ out state index cursor at =
+    (at ≤ length chunk) × ChunkListed run₀ state₀ chunk out₀ at cursor state out index
 
 abbrev μ-loop : tie.MeasureT-loop
-μ-loop chunk pairs out₀ state₀ index₀ n run₀ at₀ out state index run at = length chunk - at
+μ-loop chunk pairs out₀ state₀ index₀ n run₀ at₀ out state index cursor at = length chunk - at
 
 pub list-chunk-spec : {M : Type 1} → statement M
 list-chunk-spec = tie.close (tie.spec Inv-loop μ-loop

@@ -5,11 +5,11 @@ use Rattle.listing_blocks.proofs.list_records.Statement.{statement}
 use Rattle.listing_blocks.proofs.list_records.Tie as tie
 
 abbrev Inv-loop : tie.InvT-loop
-Inv-loop run block count pairs out₀ state₀ index₀ text₀ row₀ n₀ i₀ p₀ out state index text row n i p =
-    (i ≤ count) × Listed block (run .index) (run .end) out₀ state₀ i out p state index row text n
+Inv-loop cursor block count pairs out₀ state₀ index₀ text₀ row₀ n₀ i₀ p₀ out state index text row n i p =
+    (i ≤ count) × Listed block (cursor .index) (cursor .end) out₀ state₀ i out p state index row text n
 
 abbrev μ-loop : tie.MeasureT-loop
-μ-loop run block count pairs out₀ state₀ index₀ text₀ row₀ n₀ i₀ p₀ out state index text row n i p = count - i
+μ-loop cursor block count pairs out₀ state₀ index₀ text₀ row₀ n₀ i₀ p₀ out state index text row n i p = count - i
 
 -- the call, from within the loop
 abbrev entry : tie.In-loop Inv-loop μ-loop → tie.Start Inv-loop μ-loop

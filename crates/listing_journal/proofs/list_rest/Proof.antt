@@ -1,13 +1,13 @@
 -- `listing_journal::list_rest` meets its contract. Assumes nothing.
 use Rattle.wire.proofs.Prelude.{_∙_, arith, needs, not-false, not-true, sym}
-use Rattle.listing.specs.Listing.{opened}
+use Rattle.listing.specs.Listing.{openedProgress}
 use Rattle.listing_journal.proofs.Turning.{Turns, ended-from, turns-end, turns-next, turns-start}
 use Rattle.listing_journal.proofs.list_rest.Statement.{statement}
 use Rattle.listing_journal.proofs.list_rest.Tie as tie
 
 abbrev Inv-loop : tie.InvT-loop
 Inv-loop source target input₀ digits out₀ state₀ index₀ last₀ turns₀ input out state index last turns =
-    Turns (opened state₀ (last₀ .run .before)) input out state index last turns
+    Turns (openedProgress state₀ (last₀ .cursor .before)) input out state index last turns
 
 abbrev μ-loop : tie.MeasureT-loop
 μ-loop source target input₀ digits out₀ state₀ index₀ last₀ turns₀ input out state index last turns = turns

@@ -1,12 +1,12 @@
 -- `listing_lines::put_bytes` meets its contract. Assumes nothing.
 use Rattle.wire.proofs.Prelude.{_+_, _-_, _≤_, add-zero, arith, length, needs, take, take-all}
 use Rattle.listing_lines.proofs.Puts.{put-next, put-none}
-use Rattle.listing_lines.specs.Lines.{Put}
+use Rattle.listing_lines.specs.Lines.{TextPut}
 use Rattle.listing_lines.proofs.put_bytes.Statement.{statement}
 use Rattle.listing_lines.proofs.put_bytes.Tie as tie
 
 abbrev Inv-loop : tie.InvT-loop
-Inv-loop out₀ o text n i₀ out i = (i ≤ length text) × Put out₀ o (take i text) out (o + i)
+Inv-loop out₀ o text n i₀ out i = (i ≤ length text) × TextPut out₀ o (take i text) out (o + i)
 
 abbrev μ-loop : tie.MeasureT-loop
 μ-loop out₀ o text n i₀ out i = length text - i

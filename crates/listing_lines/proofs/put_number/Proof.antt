@@ -1,12 +1,12 @@
 -- `listing_lines::put_number` meets its contract. Assumes nothing.
 use Rattle.wire.proofs.Prelude.{_+_, _-_, _≡_, _≤_, arith, drop, length, needs, take}
 use Rattle.listing_lines.proofs.Puts.{number-next, number-room, put-none}
-use Rattle.listing_lines.specs.Lines.{Put, hexadecimal, numberText}
+use Rattle.listing_lines.specs.Lines.{TextPut, hexadecimal, numberText}
 use Rattle.listing_lines.proofs.put_number.Statement.{statement}
 use Rattle.listing_lines.proofs.put_number.Tie as tie
 
 abbrev Inv-loop : tie.InvT-loop
-Inv-loop out₀ o pairs bytes i₀ p₀ out i p = (8 ≤ i) × (i ≤ 16) × Put out₀ o (hexadecimal (take (i - 8) (drop 8 bytes))) out p
+Inv-loop out₀ o pairs bytes i₀ p₀ out i p = (8 ≤ i) × (i ≤ 16) × TextPut out₀ o (hexadecimal (take (i - 8) (drop 8 bytes))) out p
 
 abbrev μ-loop : tie.MeasureT-loop
 μ-loop out₀ o pairs bytes i₀ p₀ out i p = 16 - i

@@ -5,4 +5,4 @@ use Rattle.moatbetony.proofs.moatbetony_block_count.Tie as tie
 
 pub moatbetony-block-count-spec : {M : Type 1} → statement M
 moatbetony-block-count-spec = tie.close (tie.spec (λ c κs. search needs) (λ c κs. search needs)
-    (λ c. rw (c .tell .ensures, c .before .item-count .ensures)))
+    (λ c. rw (c .plain .ensures, c .before .item-count .ensures)))

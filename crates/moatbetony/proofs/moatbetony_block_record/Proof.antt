@@ -17,7 +17,7 @@ none-at c = passed-zero (refusal (c .before .before)) _ (sym (c .before .before 
 
 pub moatbetony-block-record-spec : {M : Type 1} → statement M
 moatbetony-block-record-spec = tie.close (tie.spec (λ c κs. search needs) (λ c. search needs) (λ c. search needs) (λ c κs. search needs)
-    (λ c. part-refused _ _ _ _ (c .tell .ensures) (c .before .before .before .judge-record .ensures) (c .before .enum-told2 .given .1))
+    (λ c. part-refused _ _ _ _ (c .plain .ensures) (c .before .before .before .judge-record .ensures) (c .before .enum-told2 .given .1))
     (λ c κs. search needs) (λ c. omega (arith, placed _ _ _ _ (none-at (c .before)) .low))
     (λ c. omega (arith, placed _ _ _ _ (none-at (c .before)) .low))
     (λ c. part-passed _ _ _ _ (c .tell2 .ensures) (c .before .before .before .judge-record .ensures) (none-at (c .before))))

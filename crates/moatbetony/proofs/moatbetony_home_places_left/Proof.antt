@@ -5,4 +5,4 @@ use Rattle.moatbetony.proofs.moatbetony_home_places_left.Tie as tie
 
 pub moatbetony-home-places-left-spec : {M : Type 1} → statement M
 moatbetony-home-places-left-spec = tie.close (tie.spec (λ c κs. search needs) (λ c κs. search needs)
-    (λ c. rw (c .tell .ensures, c .before .places-left .ensures)))
+    (λ c. rw (c .plain .ensures, c .before .places-left .ensures)))

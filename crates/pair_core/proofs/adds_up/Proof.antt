@@ -1,7 +1,7 @@
 -- `pair_core::adds_up` meets its contract. Assumes nothing.
 use Rattle.wire.proofs.Prelude.{_*_, _+_, _<_, _^_, arith, needs}
-use Rattle.pair_core.proofs.Ledgers.{Bounds, accounts-fit, bounds-of}
-use Rattle.pair_core.specs.Layout.{accountsOn, countOn, supplyOf}
+use Rattle.pair_core.proofs.Ledgers.{PairBounds, accounts-fit, bounds-of}
+use Rattle.pair_core.specs.Layout.{accountsOn, countOn, pairSupplyOf}
 use Rattle.pair_core.specs.Testing.{balanceSum, flowSum, sumsAgree}
 use Rattle.places.proofs.ExactSums.{added-after, added-value, halves-added, halves-both, halves-fit}
 use Rattle.places.specs.ExactSums.{Added, Halves}
@@ -10,7 +10,7 @@ use Rattle.pair_core.proofs.adds_up.Statement.{statement}
 use Rattle.pair_core.proofs.adds_up.Tie as tie
 
 -- the bounds
-bounds-at : (c : tie.Start) → Bounds (c .args .s .now)
+bounds-at : (c : tie.Start) → PairBounds (c .args .s .now)
 bounds-at c = bounds-of (c .args .s .now) (c .pre .1)
 
 -- what both ledgers sent
@@ -125,7 +125,7 @@ sent-is c =
     .before .before .before .before .before .before)) (held .low-fits) (e .0) (e .1))
 
 -- the supply and what was received
-received-is : (c : tie.After-add-halves2) → Added (record { high = 0; low = 0 }) (supplyOf (c .before .before .before .before .before
+received-is : (c : tie.After-add-halves2) → Added (record { high = 0; low = 0 }) (pairSupplyOf (c .before .before .before .before .before
     .before .before .before .before .before .before .before .before .before .before .before .before .args .s .now) + (flowSum 3 (c .before
     .before .before .before .before .before .before .before .before .before .before .before .before .before .before .before .before .args
     .s .now) 0 + flowSum 3 (c .before .before .before .before .before .before .before .before .before .before .before .before .before

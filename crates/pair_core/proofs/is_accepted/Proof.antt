@@ -2,7 +2,7 @@
 use Rattle.wire.proofs.Prelude.{_<_, _^_, _∙_, _≡_, arith, eq-eqb, getD, length, ne-eqb, needs, not-false, not-true, refl, sym, true, ℕ}
 use Rattle.pair_core.proofs.Accept.{accepts-is, both-indexed, second-empty, tests-refused}
 use Rattle.pair_core.proofs.Ledgers.{bounds-of}
-use Rattle.pair_core.specs.Layout.{acceptsPair, countOn, indexOn, pairBounds, recordsOn}
+use Rattle.pair_core.specs.Layout.{acceptsPair, countOn, indexOn, pairBounds, recordsStart}
 use Rattle.pair_core.specs.Testing.{testsOf}
 use Rattle.table.specs.Table.{IndexOf}
 use Rattle.wire.proofs.Lists.{every-not, every-one, every-skip}
@@ -99,7 +99,7 @@ long-at c = c .before .before .before .is-held2 .ensures .1 .1 .long ∙ c .befo
 -- both are made
 indexed-at : (c : tie.Else6) → (l : ℕ) → l < 2
     → IndexOf (c .before .before .before .before .before .before .before .before .before .before .before .before .before .before
-    .before .before .before .before .before .args .s .now) (recordsOn l) (c .before .before .before .is-held2 .last .1 .0) (indexOn l)
+    .before .before .before .before .before .args .s .now) (recordsStart l) (c .before .before .before .is-held2 .last .1 .0) (indexOn l)
     (countOn (c .before .before .before .before .before .before .before .before .before .before .before .before .before .before .before
     .before .before .before .before .args .s .now) l)
 indexed-at c =

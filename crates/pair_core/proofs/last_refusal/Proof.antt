@@ -5,7 +5,7 @@ use Rattle.ledgers.specs.Ledgers.{ledgerByte, ledgerOf}
 use Rattle.pair_core.proofs.Accept.{PairSound, sound-of}
 use Rattle.pair_core.proofs.Judging.{last-matched, last-paid}
 use Rattle.pair_core.proofs.Ledgers.{accounts-fit, index-within, records-within}
-use Rattle.pair_core.specs.Layout.{accountsOn, balancesOn}
+use Rattle.pair_core.specs.Layout.{accountsOn, balancesStart}
 use Rattle.places.specs.LedgerBalances.{fundsAt}
 use Rattle.pair_core.proofs.last_refusal.Statement.{statement}
 use Rattle.pair_core.proofs.last_refusal.Tie as tie
@@ -72,7 +72,7 @@ returns-2 c =
     let a = c .before .before .before .before .before .before .before .before .args in
     let s = a .s .now in
     c .funds-refusal .ensures
-    ∙ ap (λ (l : ℕ). fundsAt s (balancesOn l) (accountsOn s l) (a .r)) (ledger-at (c .before .before .before .before))
+    ∙ ap (λ (l : ℕ). fundsAt s (balancesStart l) (accountsOn s l) (a .r)) (ledger-at (c .before .before .before .before))
     ∙ last-paid s (a .r) (a .r .kind) (sym (c .before .before .before .is-receiving .ensures) ∙ c .before .before .if1 .left)
 
 pub last-refusal-spec : {M : Type 1} → statement M

@@ -39,7 +39,8 @@ returns-2 c =
     rw (none-at d) (
       refl,
       opened-by (homesAt d) (farsAt d) (counts-at d .0) (counts-at d .1) _ _ _ _ (d .before .before .before .before .before .pre)
-          (d .before .before .pair-opening .ensures .1 (d .if1 .left)) (c .before .before .copy-numbers .ensures) (c .copy-numbers2 .ensures),
+          (d .before .before .pair-opening .ensures .1 (d .if1 .left)) (c .before .before .copy-numbers .ensures) (c .copy-numbers2
+          .ensures),
     )
 
 pub open-spec : {M : Type 1} → statement M

@@ -3,7 +3,7 @@ use Rattle.wire.proofs.Prelude.{List, _+_, _∙_, _≡_, ap, arith, needs, set,
 use Rattle.ledgers.specs.Ledgers.{ledgerByte, ledgerOf}
 use Rattle.pair_core.proofs.Accept.{PairSound, sound-of}
 use Rattle.pair_core.proofs.Passing.{PairPasses, paid-fits, passes-of}
-use Rattle.pair_core.specs.Layout.{countOn, countWord, pairWith}
+use Rattle.pair_core.specs.Layout.{countOn, pairCountWord, pairWith}
 use Rattle.table.proofs.Records.{amount-fits}
 use Rattle.pair_core.proofs.pass.Statement.{statement}
 use Rattle.pair_core.proofs.pass.Tie as tie
@@ -21,7 +21,8 @@ passes-at : (c : tie.After-ledger-index) → PairPasses (c .before .before .args
     .before .before .args .r .kind) (c .ledger-index .result)
 passes-at c =
     let a = c .before .before .args in
-    subst (PairPasses (a .state .now) (a .r) (a .r .kind)) (sym (ledger-at c)) (passes-of (a .state .now) (sound-at (c .before .before)) (a .r) (c
+    subst (PairPasses (a .state .now) (a .r) (a .r .kind)) (sym (ledger-at c)) (passes-of (a .state .now) (sound-at (c .before .before)) (a
+    .r) (c
     .before .before .pre .3))
 
 store-requires : tie.Need-store-requires
@@ -40,7 +41,7 @@ returns c =
     let a = c .before .before .before .before .before .args in
     let s = a .state .now in
     let l = c .before .before .before .ledger-index .result in
-    ap (λ (x : List ℕ). set x (countWord l) (countOn s l + 1)) (c .store .ensures) ∙ ap (pairWith s (a .w) (a .r)) (ledger-at (c
+    ap (λ (x : List ℕ). set x (pairCountWord l) (countOn s l + 1)) (c .store .ensures) ∙ ap (pairWith s (a .w) (a .r)) (ledger-at (c
     .before .before .before))
 
 pub pass-spec : {M : Type 1} → statement M

@@ -1,19 +1,23 @@
 -- `pair_core::take` meets its contract. Assumes nothing.
 use Rattle.wire.proofs.Prelude.{_*_, needs, not-false, refl}
-use Rattle.pair_core.specs.Layout.{indexLength, indexOn, pairWordsChecker, recordsOn}
-use Rattle.rules.proofs.Parts.{told-one, told-unaccepted}
+use Rattle.pair_core.specs.Layout.{pairIndexLength, indexOn, pairWordsChecker, recordsStart}
+use Rattle.rules.proofs.Parts.{gives-one, gives-unaccepted}
 use Rattle.rules.specs.Calls.{one}
 use Rattle.table.proofs.Numbers.{index-none}
 use Rattle.pair_core.proofs.take.Statement.{statement}
 use Rattle.pair_core.proofs.take.Tie as tie
 
 is-accepted-requires : tie.Need-is-accepted-requires
-is-accepted-requires c κs = (refl, λ l p. index-none (c .before .before .before .before .args .state .now) (recordsOn l) (2 * indexLength) (indexOn l))
+is-accepted-requires c κs = (
+  refl,
+  λ l p. index-none (c .before .before .before .before .args .state .now) (recordsStart l) (2 *
+      pairIndexLength) (indexOn l),
+)
 
 returns : tie.Need-returns
 returns c =
     let a = c .before .before .before .before .before .before .before .args in
-    told-unaccepted pairWordsChecker (a .state .now) (one (a .bytes .now)) (c .before .before .is-accepted .ensures .0) (c .if1 .taken)
+    gives-unaccepted pairWordsChecker (a .state .now) (one (a .bytes .now)) (c .before .before .is-accepted .ensures .0) (c .if1 .taken)
 
 step-requires : tie.Need-step-requires
 step-requires c κs = c .before .before .before .before .is-accepted .ensures .1 .0 (not-false _ (c .before .before .if1 .left))
@@ -23,7 +27,8 @@ returns-2 c =
     let d = c .before .before .before .before in
     let a = d .before .before .before .before .before .before .before .args in
     let e = c .before .step .ensures in
-    told-one pairWordsChecker (a .state .now) (a .bytes .now) (d .before .before .is-accepted .ensures .0) (d .if1 .left) (e .0) (c .new .ensures)
+    gives-one pairWordsChecker (a .state .now) (a .bytes .now) (d .before .before .is-accepted .ensures .0) (d .if1 .left) (e .0) (c .new
+    .ensures)
     (e .1 .0)
 
 pub take-spec : {M : Type 1} → statement M

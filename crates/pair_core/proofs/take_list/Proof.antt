@@ -1,7 +1,7 @@
 -- `pair_core::take_list` meets its contract. Assumes nothing.
 use Rattle.wire.proofs.Prelude.{_*_, _-_, arith, length, needs, refl}
-use Rattle.pair_core.specs.Layout.{PairReady, indexLength, indexOn, pairWordsChecker, recordsOn}
-use Rattle.rules.proofs.Parts.{Taking, taking-end, taking-first, taking-next, taking-refused, told-unaccepted}
+use Rattle.pair_core.specs.Layout.{PairReady, pairIndexLength, indexOn, pairWordsChecker, recordsStart}
+use Rattle.rules.proofs.Parts.{Taking, taking-end, taking-first, taking-next, taking-refused, gives-unaccepted}
 use Rattle.rules.specs.Calls.{list}
 use Rattle.table.proofs.Numbers.{index-none}
 use Rattle.pair_core.proofs.take_list.Statement.{statement}
@@ -14,12 +14,16 @@ abbrev μ-loop : tie.MeasureT-loop
 μ-loop state₀ bytes index₀ before at₀ i₀ state index at i = length bytes - at
 
 is-accepted-requires : tie.Need-is-accepted-requires Inv-loop μ-loop
-is-accepted-requires c κs = (refl, λ l p. index-none (c .before .before .before .before .args .state .now) (recordsOn l) (2 * indexLength) (indexOn l))
+is-accepted-requires c κs = (
+  refl,
+  λ l p. index-none (c .before .before .before .before .args .state .now) (recordsStart l) (2 *
+      pairIndexLength) (indexOn l),
+)
 
 returns : tie.Need-returns Inv-loop μ-loop
 returns c =
     let a = c .before .before .before .before .before .before .before .args in
-    told-unaccepted pairWordsChecker (a .state .now) (list (a .bytes .now)) (c .before .before .is-accepted .ensures .0) (c .if1 .taken)
+    gives-unaccepted pairWordsChecker (a .state .now) (list (a .bytes .now)) (c .before .before .is-accepted .ensures .0) (c .if1 .taken)
 
 loop-holds : tie.Need-loop-holds Inv-loop μ-loop
 loop-holds c =

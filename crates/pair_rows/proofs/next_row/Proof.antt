@@ -1,6 +1,6 @@
 -- `pair_rows::next_row` meets its contract. Assumes nothing.
 use Rattle.ledgers.specs.Ledgers.{ledgerOf}
-use Rattle.pair_core.specs.Layout.{pairWordsChecker, supplyOf}
+use Rattle.pair_core.specs.Layout.{pairWordsChecker, pairSupplyOf}
 use Rattle.pair_rows.proofs.Rows.{RowMoves, read-or-refused, row-passed, row-refused, row-tells, rowAfter}
 use Rattle.places.specs.Entries.{givenBy, takenBy}
 use Rattle.wire.proofs.Prelude.{_∙_, _≡_, needs, sym}
@@ -27,7 +27,7 @@ returns-2 c =
     (sym (c .before .before .read .ensures) ∙ c .enum-told .given .1) (passes-at (c .before .before .before))
 
 -- the next row by what it takes and gives
-moves-at : (c : tie.After-known-told) → RowMoves (supplyOf (c .before .before .before .before .before .before .before .before .before
+moves-at : (c : tie.After-known-told) → RowMoves (pairSupplyOf (c .before .before .before .before .before .before .before .before .before
     .before .args .state .now)) (c .before .before .before .before .before .before .before .before .before .before .args .last)
     (ledgerOf (c .before .r .given .0 .0 .kind)) (takenBy (c .before .r .given .0 .0 .kind) (c .before .r .given .0 .0 .amount))
     (givenBy (c .before .r .given .0 .0 .kind) (c .before .r .given .0 .0 .amount)) (rowAfter (c .before .before .before .before

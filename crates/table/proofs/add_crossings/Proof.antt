@@ -38,8 +38,11 @@ returns c =
     let l = c .before .before .before .before .before .before .before .loop in
     let a = c .before .before .before .before .before .before .before .before .before .before .args in
     let f = sym (c .before .is-backed .ensures ∙ ap (backedBy (a .words .now) (a .o) (a .others) (a .n)) (c .before .before .words-at2
-    .ensures)) ∙ not-true _ (c .if2 .taken) in
-    (sym (l .inv .1 ∙ all-here _ (l .i) (a .m) (c .before .before .before .before .before .before .loop-test .taken) f), λ h. absurd (never-both-tests (sym h)))
+    .ensures)) ∙ not-true _ (c .if2 .taken) in (
+      sym (l .inv .1 ∙ all-here _ (l .i) (a .m) (c .before .before .before .before .before .before .loop-test .taken) f),
+      λ h. absurd
+          (never-both-tests (sym h)),
+    )
 
 add-flow-requires : tie.Need-add-flow-requires Inv-loop μ-loop
 add-flow-requires c κs =

@@ -83,7 +83,8 @@ is-used-requires c κs =
     (omega (arith, o .pre .0, i .loop .inv .0), omega (arith, o .pre .1, i .loop .inv .0, i .loop .inv .2 .long), i .loop .inv .3)
 
 same-length-2 : tie.Need-same-length-2 Inv-loop μ-loop
-same-length-2 c = c .before .before .before .before .before .before .before .before .before .before .before .before .before .loop .inv .2 .long
+same-length-2 c = c .before .before .before .before .before .before .before .before .before .before .before .before .before .loop .inv .2
+    .long
 
 returns-2 : tie.Need-returns-2 Inv-loop μ-loop
 returns-2 c =
@@ -127,7 +128,8 @@ loop-again c =
     let g = d .add-number .ensures in
     let none =
     ⊎-elim
-    (λ k. value-fresh (numberAt s f) (i .loop .i) (sym (ap (λ (y : ℕ). anyAt (numberedAt y s f) 0 (i .loop .i)) x) ∙ sym (k .2 .ensures) ∙ k .3
+    (λ k. value-fresh (numberAt s f) (i .loop .i) (sym (ap (λ (y : ℕ). anyAt (numberedAt y s f) 0 (i .loop .i)) x) ∙ sym (k .2 .ensures) ∙
+    k .3
     .left))
     (λ k. value-new (numberAt s f) (i .loop .i) _ _ (low .result) (i .loop .inv .3) (low .ensures ∙ ap (λ (y : ℕ). y
     % chainCount) x) (k .left))

@@ -1,12 +1,16 @@
 -- `pair_validator::asked::accepted` meets its contract. Assumes nothing.
 use Rattle.wire.proofs.Prelude.{_*_, needs, refl}
-use Rattle.pair_core.specs.Layout.{indexLength, indexOn, recordsOn}
+use Rattle.pair_core.specs.Layout.{pairIndexLength, indexOn, recordsStart}
 use Rattle.table.proofs.Numbers.{index-none}
 use Rattle.pair_validator.proofs.asked.accepted.Statement.{statement}
 use Rattle.pair_validator.proofs.asked.accepted.Tie as tie
 
 is-accepted-requires : tie.Need-is-accepted-requires
-is-accepted-requires c κs = (refl, λ l q. index-none (c .before .before .args .words .now) (recordsOn l) (2 * indexLength) (indexOn l))
+is-accepted-requires c κs = (
+  refl,
+  λ l q. index-none (c .before .before .args .words .now) (recordsStart l) (2 * pairIndexLength) (indexOn
+      l),
+)
 
 pub accepted-spec : {M : Type 1} → statement M
 accepted-spec = tie.close (tie.spec (λ c. search needs) is-accepted-requires (λ c. search needs))

@@ -1,8 +1,0 @@
--- `moatbetony::tell` meets its contract. Assumes nothing.
-use borrow.Author.Needs.{needs}
-use Rattle.moatbetony.proofs.tell.Statement.{statement}
-use Rattle.moatbetony.proofs.tell.Tie as tie
-
-pub tell-spec : {M : Type 1} → statement M
-tell-spec = tie.close (tie.spec (λ c. search needs) (λ c. search needs) (λ c. rw (c .enum-told .given .1))
-    (λ c. rw (c .before .a .given .1)))
