@@ -49,7 +49,7 @@ module _ {first : ℕ} {bytes out state : List ℕ} {start : Start}
   -- with a last turn, or with none where the opening stands alone
   listed-with : (last : TurnResult) → (printed ≡ false → last ≡ noTurn 0 noRow) → (start .going ≡ false → last ≡ noTurn 0 noRow)
       → (printed ≡ true → start .going ≡ true → SomeLastTurn (openedBy (take 512 bytes) (take 512 (drop 512 bytes))) last)
-      → JournalListed (record { first = first; end = start .end; printed = printed; openedProgress = start .going; last = last })
+      → JournalListed (record { first = first; end = start .end; printed = printed; opened = start .going; last = last })
   listed-with last u v w =
       record {
         bytes = bytes;
@@ -71,7 +71,7 @@ module _ {first : ℕ} {bytes out state : List ℕ} {start : Start}
 
   -- all of it, where the opening was written and accepted
   pub listed-all : {last : TurnResult} → printed ≡ true → start .going ≡ true → SomeLastTurn (openedProgress state (start .before)) last
-      → JournalListed (record { first = first; end = start .end; printed = printed; openedProgress = start .going; last = last })
+      → JournalListed (record { first = first; end = start .end; printed = printed; opened = start .going; last = last })
   listed-all {last} w g e =
       let o = ap₂ openedProgress (b .opens g .state-is) (b .opens g .before-is) in
       listed-with last (λ u. absurd (never-both-tests (sym w ∙ u))) (λ v. absurd (never-both-tests (sym g ∙ v)))

@@ -50,7 +50,7 @@ pub struct ListResult {
     pub first: usize,
     pub end: usize,
     pub printed: bool,
-    pub openedProgress: bool,
+    pub opened: bool,
     pub last: TurnResult,
 }
 
@@ -196,8 +196,8 @@ fn list_opened<'a, 'b>(
 }
 
 // A listing of the opening alone: no turn was made after it.
-fn opening_alone(first: usize, end: usize, printed: bool, openedProgress: bool) -> ListResult
-    ensures { λ r. ⌜ r ≡ openingAlone first end printed openedProgress ⌝ }
+fn opening_alone(first: usize, end: usize, printed: bool, opened: bool) -> ListResult
+    ensures { λ r. ⌜ r ≡ openingAlone first end printed opened ⌝ }
 {
     let none = Row {
         refusal: 0,
@@ -209,7 +209,7 @@ fn opening_alone(first: usize, end: usize, printed: bool, openedProgress: bool) 
         first,
         end,
         printed,
-        openedProgress,
+        opened,
         last: no_turn(0, none),
     }
 }
@@ -226,12 +226,12 @@ pub fn list(source: i32, target: i32) -> ListResult
     let start = list_start(&opening[..first], &mut out, &mut state);
     let end = start.end;
     let printed = io::write_all(target, &out[..end]);
-    let openedProgress = start.going;
-    let alone = opening_alone(first, end, printed, openedProgress);
+    let opened = start.going;
+    let alone = opening_alone(first, end, printed, opened);
     if !printed {
         return alone;
     }
-    if !openedProgress {
+    if !opened {
         return alone;
     }
     let last = list_opened(source, target, start, &mut out, &mut state);
@@ -239,7 +239,7 @@ pub fn list(source: i32, target: i32) -> ListResult
         first,
         end,
         printed,
-        openedProgress,
+        opened,
         last,
     }
 }

@@ -31,7 +31,8 @@ pub halves : (b : List ℕ) (m e : ℕ) → m ≡ min (length b) 512 → e ≡ m
     → (take m b ≡ take 512 b) × (take (e - m) (drop m b) ≡ take 512 (drop 512 b))
 halves b m e p q =
     let k : e - m ≡ min (length (drop m b)) 512 = omega (arith, length-drop m b) in
-    (rw p (take-least 512 b), rw k (take-least 512 (drop m b) ∙ ap (take 512) (rw p (drop-least 512 b))))
+    let r : drop m b ≡ drop 512 b = rw p (drop-least 512 b) in
+    (rw p (take-least 512 b), rw k (take-least 512 (drop m b) ∙ ap (take 512) r))
 
 -- ## The text by the refusals
 

@@ -1,3 +1,3 @@
 -- What the library's exports hand back. Assumes nothing.
 
-pub mod PlainAnswer
+pub mod Plain

@@ -391,7 +391,7 @@ pub struct PlainEncoded {
 }
 
 // The fields of a record that was read.
-fn tell_record(r: Record) -> PlainRecord
+fn plain_record(r: Record) -> PlainRecord
     ensures { λ t. ⌜ t ≡ plainRecord (Read r) ⌝ }
 {
     let k = r.kind;
@@ -424,7 +424,7 @@ pub extern "C" fn moatbetony_record_read(bytes: &[u8]) -> PlainRecord
             verdict: 0,
         };
     };
-    tell_record(r)
+    plain_record(r)
 }
 
 // The bytes of a record with these fields: 21 where they would not read.

@@ -20,4 +20,4 @@ moatbetony-block-record-spec = tie.close (tie.spec (λ c κs. search needs) (λ 
     (λ c. part-refused _ _ _ _ (c .plain .ensures) (c .before .before .before .judge-record .ensures) (c .before .enum-told2 .given .1))
     (λ c κs. search needs) (λ c. omega (arith, placed _ _ _ _ (none-at (c .before)) .low))
     (λ c. omega (arith, placed _ _ _ _ (none-at (c .before)) .low))
-    (λ c. part-passed _ _ _ _ (c .tell2 .ensures) (c .before .before .before .judge-record .ensures) (none-at (c .before))))
+    (λ c. part-passed _ _ _ _ (c .plain2 .ensures) (c .before .before .before .judge-record .ensures) (none-at (c .before))))

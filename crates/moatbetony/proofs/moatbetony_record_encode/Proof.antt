@@ -11,4 +11,4 @@ moatbetony-record-encode-spec = tie.close (tie.spec (λ c κs. search needs) (λ
     (λ c. let r = c .before .before .before .before in encoded-unread (r .before .before .field-bytes .ensures) (r .read .ensures)
     (c .plain .ensures ∙ ap plainAnswer (c .before .new .ensures)) (c .before .before .enum-told2 .given .1)) (λ c κs. search needs)
     (λ c. let r = c .before .before .before in encoded-read (r .before .before .field-bytes .ensures) (r .read .ensures)
-    (c .tell2 .ensures) (c .before .enum-told .given .1)))
+    (c .plain2 .ensures) (c .before .enum-told .given .1)))

@@ -1,7 +1,7 @@
--- `moatbetony::tell_record` meets its contract. Assumes nothing.
+-- `moatbetony::plain_record` meets its contract. Assumes nothing.
 use borrow.Author.Needs.{needs}
-use Rattle.moatbetony.proofs.tell_record.Statement.{statement}
-use Rattle.moatbetony.proofs.tell_record.Tie as tie
+use Rattle.moatbetony.proofs.plain_record.Statement.{statement}
+use Rattle.moatbetony.proofs.plain_record.Tie as tie
 
 pub plain-record-spec : {M : Type 1} → statement M
 plain-record-spec = tie.close (tie.spec (λ c κs. search needs) (λ c κs. search needs) (λ c κs. search needs) (λ c κs. search needs)
