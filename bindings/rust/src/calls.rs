@@ -26,103 +26,103 @@ pub(crate) fn state_version() -> u32 {
     unsafe { ffi::moatbetony_state_version() }
 }
 
-pub(crate) fn pair_open(home_balances: &[u64], far_balances: &[u64]) -> ffi::PairTold {
+pub(crate) fn pair_open(home_balances: &[u64], far_balances: &[u64]) -> ffi::PairOutcome {
     belongs();
     // SAFETY: both slices are lent with their lengths.
     unsafe { ffi::moatbetony_pair_open(home_balances.as_ptr(), home_balances.len(), far_balances.as_ptr(), far_balances.len()) }
 }
 
-pub(crate) fn pair_take(state: &mut ffi::PairValidator, bytes: &[u8]) -> ffi::Told {
+pub(crate) fn pair_take(state: &mut ffi::PairValidator, bytes: &[u8]) -> ffi::PlainAnswer {
     belongs();
     // SAFETY: the state is lent for writing, and the slice with its length.
     unsafe { ffi::moatbetony_pair_take(state, bytes.as_ptr(), bytes.len()) }
 }
 
-pub(crate) fn pair_take_list(state: &mut ffi::PairValidator, bytes: &[u8]) -> ffi::Told {
+pub(crate) fn pair_take_list(state: &mut ffi::PairValidator, bytes: &[u8]) -> ffi::PlainAnswer {
     belongs();
     // SAFETY: the state is lent for writing, and the slice with its length.
     unsafe { ffi::moatbetony_pair_take_list(state, bytes.as_ptr(), bytes.len()) }
 }
 
-pub(crate) fn pair_check_record(state: &ffi::PairValidator, bytes: &[u8]) -> ffi::PairTold {
+pub(crate) fn pair_check_record(state: &ffi::PairValidator, bytes: &[u8]) -> ffi::PairOutcome {
     belongs();
     // SAFETY: the slice is lent with its length.
     unsafe { ffi::moatbetony_pair_check_record(*state, bytes.as_ptr(), bytes.len()) }
 }
 
-pub(crate) fn pair_check_list(state: &ffi::PairValidator, bytes: &[u8]) -> ffi::PairTold {
+pub(crate) fn pair_check_list(state: &ffi::PairValidator, bytes: &[u8]) -> ffi::PairOutcome {
     belongs();
     // SAFETY: the slice is lent with its length.
     unsafe { ffi::moatbetony_pair_check_list(*state, bytes.as_ptr(), bytes.len()) }
 }
 
-pub(crate) fn pair_figures(state: &ffi::PairValidator) -> ffi::PairFiguresTold {
+pub(crate) fn pair_figures(state: &ffi::PairValidator) -> ffi::PlainPairFigures {
     belongs();
     // SAFETY: values alone.
     unsafe { ffi::moatbetony_pair_figures(*state) }
 }
 
-pub(crate) fn pair_balance(state: &ffi::PairValidator, ledger: u8, account: u16) -> ffi::BalanceTold {
+pub(crate) fn pair_balance(state: &ffi::PairValidator, ledger: u8, account: u16) -> ffi::PlainBalance {
     belongs();
     // SAFETY: values alone.
     unsafe { ffi::moatbetony_pair_balance(*state, ledger, account) }
 }
 
-pub(crate) fn pair_places_left(state: &ffi::PairValidator) -> ffi::PairPlacesTold {
+pub(crate) fn pair_places_left(state: &ffi::PairValidator) -> ffi::PlainPairPlaces {
     belongs();
     // SAFETY: values alone.
     unsafe { ffi::moatbetony_pair_places_left(*state) }
 }
 
-pub(crate) fn home_open(home_balances: &[u64], far_accounts: usize, far_total: u64) -> ffi::HomeTold {
+pub(crate) fn home_open(home_balances: &[u64], far_accounts: usize, far_total: u64) -> ffi::HomeOutcome {
     belongs();
     // SAFETY: the slice is lent with its length.
     unsafe { ffi::moatbetony_home_open(home_balances.as_ptr(), home_balances.len(), far_accounts, far_total) }
 }
 
-pub(crate) fn home_take(state: &mut ffi::HomeValidator, bytes: &[u8]) -> ffi::Told {
+pub(crate) fn home_take(state: &mut ffi::HomeValidator, bytes: &[u8]) -> ffi::PlainAnswer {
     belongs();
     // SAFETY: the state is lent for writing, and the slice with its length.
     unsafe { ffi::moatbetony_home_take(state, bytes.as_ptr(), bytes.len()) }
 }
 
-pub(crate) fn home_take_list(state: &mut ffi::HomeValidator, bytes: &[u8]) -> ffi::Told {
+pub(crate) fn home_take_list(state: &mut ffi::HomeValidator, bytes: &[u8]) -> ffi::PlainAnswer {
     belongs();
     // SAFETY: the state is lent for writing, and the slice with its length.
     unsafe { ffi::moatbetony_home_take_list(state, bytes.as_ptr(), bytes.len()) }
 }
 
-pub(crate) fn home_check_record(state: &ffi::HomeValidator, bytes: &[u8]) -> ffi::HomeTold {
+pub(crate) fn home_check_record(state: &ffi::HomeValidator, bytes: &[u8]) -> ffi::HomeOutcome {
     belongs();
     // SAFETY: the slice is lent with its length.
     unsafe { ffi::moatbetony_home_check_record(*state, bytes.as_ptr(), bytes.len()) }
 }
 
-pub(crate) fn home_check_list(state: &ffi::HomeValidator, bytes: &[u8]) -> ffi::HomeTold {
+pub(crate) fn home_check_list(state: &ffi::HomeValidator, bytes: &[u8]) -> ffi::HomeOutcome {
     belongs();
     // SAFETY: the slice is lent with its length.
     unsafe { ffi::moatbetony_home_check_list(*state, bytes.as_ptr(), bytes.len()) }
 }
 
-pub(crate) fn home_figures(state: &ffi::HomeValidator) -> ffi::HomeFiguresTold {
+pub(crate) fn home_figures(state: &ffi::HomeValidator) -> ffi::PlainHomeFigures {
     belongs();
     // SAFETY: values alone.
     unsafe { ffi::moatbetony_home_figures(*state) }
 }
 
-pub(crate) fn home_balance(state: &ffi::HomeValidator, account: u16) -> ffi::BalanceTold {
+pub(crate) fn home_balance(state: &ffi::HomeValidator, account: u16) -> ffi::PlainBalance {
     belongs();
     // SAFETY: values alone.
     unsafe { ffi::moatbetony_home_balance(*state, account) }
 }
 
-pub(crate) fn home_places_left(state: &ffi::HomeValidator) -> ffi::HomePlacesTold {
+pub(crate) fn home_places_left(state: &ffi::HomeValidator) -> ffi::PlainHomePlaces {
     belongs();
     // SAFETY: values alone.
     unsafe { ffi::moatbetony_home_places_left(*state) }
 }
 
-pub(crate) fn record_read(bytes: &[u8]) -> ffi::RecordTold {
+pub(crate) fn record_read(bytes: &[u8]) -> ffi::PlainRecord {
     belongs();
     // SAFETY: the slice is lent with its length.
     unsafe { ffi::moatbetony_record_read(bytes.as_ptr(), bytes.len()) }
@@ -136,49 +136,49 @@ pub(crate) fn record_encode(
     number: u64,
     amount: u64,
     verdict: u8,
-) -> ffi::EncodedTold {
+) -> ffi::PlainEncoded {
     belongs();
     // SAFETY: values alone.
     unsafe { ffi::moatbetony_record_encode(kind, ledger, sender, receiver, number, amount, verdict) }
 }
 
-pub(crate) fn block_judge(block: &[u8], number: u64, before: u64) -> ffi::Told {
+pub(crate) fn block_judge(block: &[u8], number: u64, before: u64) -> ffi::PlainAnswer {
     belongs();
     // SAFETY: the slice is lent with its length.
     unsafe { ffi::moatbetony_block_judge(block.as_ptr(), block.len(), number, before) }
 }
 
-pub(crate) fn block_judge_record(block: &[u8], number: u64, before: u64, place: u64) -> ffi::Told {
+pub(crate) fn block_judge_record(block: &[u8], number: u64, before: u64, place: u64) -> ffi::PlainAnswer {
     belongs();
     // SAFETY: the slice is lent with its length.
     unsafe { ffi::moatbetony_block_judge_record(block.as_ptr(), block.len(), number, before, place) }
 }
 
-pub(crate) fn block_record(block: &[u8], number: u64, before: u64, place: u64) -> ffi::PartTold {
+pub(crate) fn block_record(block: &[u8], number: u64, before: u64, place: u64) -> ffi::PlainPart {
     belongs();
     // SAFETY: the slice is lent with its length.
     unsafe { ffi::moatbetony_block_record(block.as_ptr(), block.len(), number, before, place) }
 }
 
-pub(crate) fn block_count(block: &[u8], number: u64, before: u64) -> ffi::CountTold {
+pub(crate) fn block_count(block: &[u8], number: u64, before: u64) -> ffi::PlainCount {
     belongs();
     // SAFETY: the slice is lent with its length.
     unsafe { ffi::moatbetony_block_count(block.as_ptr(), block.len(), number, before) }
 }
 
-pub(crate) fn block_balances(block: &[u8], number: u64, before: u64) -> ffi::BalancesTold {
+pub(crate) fn block_balances(block: &[u8], number: u64, before: u64) -> ffi::PlainBalances {
     belongs();
     // SAFETY: the slice is lent with its length.
     unsafe { ffi::moatbetony_block_balances(block.as_ptr(), block.len(), number, before) }
 }
 
-pub(crate) fn block_write(out: &mut [u8], number: u64, kind: u8, items: &[u8]) -> ffi::Told {
+pub(crate) fn block_write(out: &mut [u8], number: u64, kind: u8, items: &[u8]) -> ffi::PlainAnswer {
     belongs();
     // SAFETY: both slices are lent with their lengths, the output for writing; being borrowed so, they do not overlap.
     unsafe { ffi::moatbetony_block_write(out.as_mut_ptr(), out.len(), number, kind, items.as_ptr(), items.len()) }
 }
 
-pub(crate) fn sha256(message: &[u8]) -> ffi::DigestTold {
+pub(crate) fn sha256(message: &[u8]) -> ffi::PlainDigest {
     belongs();
     // SAFETY: the slice is lent with its length.
     unsafe { ffi::moatbetony_sha256(message.as_ptr(), message.len()) }

@@ -2,7 +2,7 @@
 
 #[repr(C)]
 #[derive(Clone, Copy)]
-pub(crate) struct Told {
+pub(crate) struct PlainAnswer {
     pub(crate) number: u32,
     pub(crate) passed: u32,
     pub(crate) place: u64,
@@ -40,54 +40,54 @@ pub(crate) struct HomeValidator {
 }
 
 #[repr(C)]
-pub(crate) struct PairTold {
-    pub(crate) answer: Told,
+pub(crate) struct PairOutcome {
+    pub(crate) answer: PlainAnswer,
     pub(crate) state: PairValidator,
 }
 
 #[repr(C)]
-pub(crate) struct PairFiguresTold {
-    pub(crate) answer: Told,
+pub(crate) struct PlainPairFigures {
+    pub(crate) answer: PlainAnswer,
     pub(crate) home: u64,
     pub(crate) far: u64,
     pub(crate) flight: u64,
 }
 
 #[repr(C)]
-pub(crate) struct PairPlacesTold {
-    pub(crate) answer: Told,
+pub(crate) struct PlainPairPlaces {
+    pub(crate) answer: PlainAnswer,
     pub(crate) home: u64,
     pub(crate) far: u64,
 }
 
 #[repr(C)]
-pub(crate) struct HomeTold {
-    pub(crate) answer: Told,
+pub(crate) struct HomeOutcome {
+    pub(crate) answer: PlainAnswer,
     pub(crate) state: HomeValidator,
 }
 
 #[repr(C)]
-pub(crate) struct HomeFiguresTold {
-    pub(crate) answer: Told,
+pub(crate) struct PlainHomeFigures {
+    pub(crate) answer: PlainAnswer,
     pub(crate) home: u64,
     pub(crate) pool: u64,
 }
 
 #[repr(C)]
-pub(crate) struct HomePlacesTold {
-    pub(crate) answer: Told,
+pub(crate) struct PlainHomePlaces {
+    pub(crate) answer: PlainAnswer,
     pub(crate) home: u64,
 }
 
 #[repr(C)]
-pub(crate) struct BalanceTold {
-    pub(crate) answer: Told,
+pub(crate) struct PlainBalance {
+    pub(crate) answer: PlainAnswer,
     pub(crate) balance: u64,
 }
 
 #[repr(C)]
-pub(crate) struct RecordTold {
-    pub(crate) answer: Told,
+pub(crate) struct PlainRecord {
+    pub(crate) answer: PlainAnswer,
     pub(crate) kind: u8,
     pub(crate) ledger: u8,
     pub(crate) sender: u16,
@@ -98,33 +98,33 @@ pub(crate) struct RecordTold {
 }
 
 #[repr(C)]
-pub(crate) struct EncodedTold {
-    pub(crate) answer: Told,
+pub(crate) struct PlainEncoded {
+    pub(crate) answer: PlainAnswer,
     pub(crate) bytes: [u8; 32],
 }
 
 #[repr(C)]
-pub(crate) struct PartTold {
-    pub(crate) answer: Told,
+pub(crate) struct PlainPart {
+    pub(crate) answer: PlainAnswer,
     pub(crate) start: usize,
     pub(crate) length: usize,
 }
 
 #[repr(C)]
-pub(crate) struct CountTold {
-    pub(crate) answer: Told,
+pub(crate) struct PlainCount {
+    pub(crate) answer: PlainAnswer,
     pub(crate) count: u64,
 }
 
 #[repr(C)]
-pub(crate) struct BalancesTold {
-    pub(crate) answer: Told,
+pub(crate) struct PlainBalances {
+    pub(crate) answer: PlainAnswer,
     pub(crate) count: u64,
     pub(crate) balances: [u64; 56],
 }
 
 #[repr(C)]
-pub(crate) struct DigestTold {
+pub(crate) struct PlainDigest {
     pub(crate) bytes: [u8; 32],
 }
 
@@ -136,28 +136,28 @@ extern "C" {
         home_balances_len: usize,
         far_balances: *const u64,
         far_balances_len: usize,
-    ) -> PairTold;
-    pub(crate) fn moatbetony_pair_take(state: *mut PairValidator, bytes: *const u8, bytes_len: usize) -> Told;
-    pub(crate) fn moatbetony_pair_take_list(state: *mut PairValidator, bytes: *const u8, bytes_len: usize) -> Told;
-    pub(crate) fn moatbetony_pair_check_record(state: PairValidator, bytes: *const u8, bytes_len: usize) -> PairTold;
-    pub(crate) fn moatbetony_pair_check_list(state: PairValidator, bytes: *const u8, bytes_len: usize) -> PairTold;
-    pub(crate) fn moatbetony_pair_figures(state: PairValidator) -> PairFiguresTold;
-    pub(crate) fn moatbetony_pair_balance(state: PairValidator, ledger: u8, account: u16) -> BalanceTold;
-    pub(crate) fn moatbetony_pair_places_left(state: PairValidator) -> PairPlacesTold;
+    ) -> PairOutcome;
+    pub(crate) fn moatbetony_pair_take(state: *mut PairValidator, bytes: *const u8, bytes_len: usize) -> PlainAnswer;
+    pub(crate) fn moatbetony_pair_take_list(state: *mut PairValidator, bytes: *const u8, bytes_len: usize) -> PlainAnswer;
+    pub(crate) fn moatbetony_pair_check_record(state: PairValidator, bytes: *const u8, bytes_len: usize) -> PairOutcome;
+    pub(crate) fn moatbetony_pair_check_list(state: PairValidator, bytes: *const u8, bytes_len: usize) -> PairOutcome;
+    pub(crate) fn moatbetony_pair_figures(state: PairValidator) -> PlainPairFigures;
+    pub(crate) fn moatbetony_pair_balance(state: PairValidator, ledger: u8, account: u16) -> PlainBalance;
+    pub(crate) fn moatbetony_pair_places_left(state: PairValidator) -> PlainPairPlaces;
     pub(crate) fn moatbetony_home_open(
         home_balances: *const u64,
         home_balances_len: usize,
         far_accounts: usize,
         far_total: u64,
-    ) -> HomeTold;
-    pub(crate) fn moatbetony_home_take(state: *mut HomeValidator, bytes: *const u8, bytes_len: usize) -> Told;
-    pub(crate) fn moatbetony_home_take_list(state: *mut HomeValidator, bytes: *const u8, bytes_len: usize) -> Told;
-    pub(crate) fn moatbetony_home_check_record(state: HomeValidator, bytes: *const u8, bytes_len: usize) -> HomeTold;
-    pub(crate) fn moatbetony_home_check_list(state: HomeValidator, bytes: *const u8, bytes_len: usize) -> HomeTold;
-    pub(crate) fn moatbetony_home_figures(state: HomeValidator) -> HomeFiguresTold;
-    pub(crate) fn moatbetony_home_balance(state: HomeValidator, account: u16) -> BalanceTold;
-    pub(crate) fn moatbetony_home_places_left(state: HomeValidator) -> HomePlacesTold;
-    pub(crate) fn moatbetony_record_read(bytes: *const u8, bytes_len: usize) -> RecordTold;
+    ) -> HomeOutcome;
+    pub(crate) fn moatbetony_home_take(state: *mut HomeValidator, bytes: *const u8, bytes_len: usize) -> PlainAnswer;
+    pub(crate) fn moatbetony_home_take_list(state: *mut HomeValidator, bytes: *const u8, bytes_len: usize) -> PlainAnswer;
+    pub(crate) fn moatbetony_home_check_record(state: HomeValidator, bytes: *const u8, bytes_len: usize) -> HomeOutcome;
+    pub(crate) fn moatbetony_home_check_list(state: HomeValidator, bytes: *const u8, bytes_len: usize) -> HomeOutcome;
+    pub(crate) fn moatbetony_home_figures(state: HomeValidator) -> PlainHomeFigures;
+    pub(crate) fn moatbetony_home_balance(state: HomeValidator, account: u16) -> PlainBalance;
+    pub(crate) fn moatbetony_home_places_left(state: HomeValidator) -> PlainHomePlaces;
+    pub(crate) fn moatbetony_record_read(bytes: *const u8, bytes_len: usize) -> PlainRecord;
     pub(crate) fn moatbetony_record_encode(
         kind: u8,
         ledger: u8,
@@ -166,12 +166,18 @@ extern "C" {
         number: u64,
         amount: u64,
         verdict: u8,
-    ) -> EncodedTold;
-    pub(crate) fn moatbetony_block_judge(block: *const u8, block_len: usize, number: u64, before: u64) -> Told;
-    pub(crate) fn moatbetony_block_judge_record(block: *const u8, block_len: usize, number: u64, before: u64, place: u64) -> Told;
-    pub(crate) fn moatbetony_block_record(block: *const u8, block_len: usize, number: u64, before: u64, place: u64) -> PartTold;
-    pub(crate) fn moatbetony_block_count(block: *const u8, block_len: usize, number: u64, before: u64) -> CountTold;
-    pub(crate) fn moatbetony_block_balances(block: *const u8, block_len: usize, number: u64, before: u64) -> BalancesTold;
+    ) -> PlainEncoded;
+    pub(crate) fn moatbetony_block_judge(block: *const u8, block_len: usize, number: u64, before: u64) -> PlainAnswer;
+    pub(crate) fn moatbetony_block_judge_record(
+        block: *const u8,
+        block_len: usize,
+        number: u64,
+        before: u64,
+        place: u64,
+    ) -> PlainAnswer;
+    pub(crate) fn moatbetony_block_record(block: *const u8, block_len: usize, number: u64, before: u64, place: u64) -> PlainPart;
+    pub(crate) fn moatbetony_block_count(block: *const u8, block_len: usize, number: u64, before: u64) -> PlainCount;
+    pub(crate) fn moatbetony_block_balances(block: *const u8, block_len: usize, number: u64, before: u64) -> PlainBalances;
     pub(crate) fn moatbetony_block_write(
         out: *mut u8,
         out_len: usize,
@@ -179,6 +185,6 @@ extern "C" {
         kind: u8,
         items: *const u8,
         items_len: usize,
-    ) -> Told;
-    pub(crate) fn moatbetony_sha256(message: *const u8, message_len: usize) -> DigestTold;
+    ) -> PlainAnswer;
+    pub(crate) fn moatbetony_sha256(message: *const u8, message_len: usize) -> PlainDigest;
 }

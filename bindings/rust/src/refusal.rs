@@ -1,6 +1,6 @@
 //! What a call answers.
 
-use crate::ffi::Told;
+use crate::ffi::PlainAnswer;
 use std::fmt;
 
 /// What a call answers: passed, or one refusal with its place.
@@ -30,11 +30,11 @@ impl Answer {
     /// # Panics
     ///
     /// On any other pair of the two: the library never tells one.
-    pub(crate) fn of(told: Told) -> Answer {
+    pub(crate) fn of(told: PlainAnswer) -> Answer {
         match told {
-            Told { number: 0, passed: 1, .. } => Answer::Passed,
-            Told { number: 1.., passed: 0, place } => Answer::Refused { refusal: Refusal::of(told.number), place },
-            Told { number, passed, .. } => panic!("libmoatbetony.a told no answer: number {number}, passed {passed}"),
+            PlainAnswer { number: 0, passed: 1, .. } => Answer::Passed,
+            PlainAnswer { number: 1.., passed: 0, place } => Answer::Refused { refusal: Refusal::of(told.number), place },
+            PlainAnswer { number, passed, .. } => panic!("libmoatbetony.a told no answer: number {number}, passed {passed}"),
         }
     }
 
@@ -78,7 +78,7 @@ impl fmt::Display for Answer {
 }
 
 /// The value of a call that hands back more than its answer.
-pub(crate) fn value<T>(told: Told, value: T) -> Result<T, Refusal> {
+pub(crate) fn value<T>(told: PlainAnswer, value: T) -> Result<T, Refusal> {
     Answer::of(told).into_result().map(|()| value)
 }
 
@@ -160,7 +160,7 @@ mod tests {
     use super::*;
 
     fn told(number: u32, passed: u32) -> std::thread::Result<Answer> {
-        std::panic::catch_unwind(|| Answer::of(Told { number, passed, place: 7 }))
+        std::panic::catch_unwind(|| Answer::of(PlainAnswer { number, passed, place: 7 }))
     }
 
     #[test]

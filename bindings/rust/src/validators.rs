@@ -160,7 +160,7 @@ macro_rules! validator {
 
 validator!(
     PairValidator,
-    PairTold,
+    PairOutcome,
     pair_take,
     pair_take_list,
     pair_check_record,
@@ -169,7 +169,7 @@ validator!(
 );
 validator!(
     HomeValidator,
-    HomeTold,
+    HomeOutcome,
     home_take,
     home_take_list,
     home_check_record,
@@ -312,7 +312,7 @@ impl fmt::Debug for HomeValidator {
 #[cfg(test)]
 mod tests {
     use super::*;
-    use crate::ffi::Told;
+    use crate::ffi::PlainAnswer;
     use std::panic::{catch_unwind, AssertUnwindSafe};
 
     // Each answer with another state beside it, as the library never tells with a refusal: stored where it passed, and nowhere else.
@@ -324,7 +324,7 @@ mod tests {
                 let after = $after.expect("an opening");
                 assert_ne!(before, after);
                 let store = |number, passed| {
-                    let told = ffi::$told { answer: Told { number, passed, place: 7 }, state: *after.state };
+                    let told = ffi::$told { answer: PlainAnswer { number, passed, place: 7 }, state: *after.state };
                     let mut it = before.clone();
                     let answer = catch_unwind(AssertUnwindSafe(|| it.store(&told)));
                     (answer.ok(), it)
@@ -345,12 +345,12 @@ mod tests {
         pair_stores_what_passed,
         PairValidator::open(&[100, 50], &[20]),
         PairValidator::open(&[99, 51], &[20]),
-        PairTold
+        PairOutcome
     );
     stores_what_passed!(
         home_stores_what_passed,
         HomeValidator::open(&[100, 50], 1, 20),
         HomeValidator::open(&[99, 51], 1, 20),
-        HomeTold
+        HomeOutcome
     );
 }

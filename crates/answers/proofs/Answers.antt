@@ -1,6 +1,6 @@
 -- Laws of answers: the number and the place of an answer, and what follows from the case that came back. Assumes nothing.
 use Rattle.wire.proofs.Prelude.{Bool, _<_, _≡_, arith, false, refl, suc, true, zero, ℕ}
-use Rattle.answers.specs.Answers.{Passed, Refused, answer, Tells, refuse, orElse, unlessRefused}
+use Rattle.answers.specs.Answers.{Passed, Refused, Tells, answer, orElse, refuse, unlessRefused}
 
 -- an answer tells its number and its place
 pub tells : Tells

@@ -1,9 +1,9 @@
 -- What accepted words have, and that what is tested of words is what refusal 3 asks of them. Assumes nothing.
 use Rattle.wire.proofs.Prelude.{Bool, List, [], _&&_, _+_, _-_, _∙_, _∷_, _≡_, _≤_, arith, drop, eq-eqb, eqb, eqb-true, false, getD, le-leb}
 use Rattle.wire.proofs.Prelude.{leb-true, length, length-drop, length-take-le, refl, subst, sym, true, ℕ}
-use Rattle.home_core.specs.Layout.{HomeReady, acceptsHome, balancesFrom, homeCountOf, farsOf, homeBounds, homeViewOf, homeWords}
+use Rattle.home_core.specs.Layout.{HomeReady, acceptsHome, balancesFrom, farsOf, homeBounds, homeCountOf, homeViewOf, homeWords}
 use Rattle.home_core.specs.Layout.{homesOf}
-use Rattle.home_core.specs.Layout.{poolOf, homeSupplyOf}
+use Rattle.home_core.specs.Layout.{homeSupplyOf, poolOf}
 use Rattle.ledgers.specs.Limits.{accountLimit, capacity, maxAmount}
 use Rattle.places.proofs.BalanceTotals.{balances-sum}
 use Rattle.places.proofs.Openings.{count-facts, facts-count}

@@ -4,7 +4,7 @@ use Rattle.wire.proofs.Prelude.{List, [], _*_, _++_, _+_, _∙_, _∷_, _≡_, 
 use Rattle.wire.proofs.Prelude.{length-replicate, refl, replicate, replicate-append-replicate, set, take, ℕ}
 use Rattle.home_core.proofs.Accept.{HomeSound}
 use Rattle.home_core.specs.Layout.{acceptsHome, balancesFrom, farsWord, homeBounds, homeOpenedWords, homeViewOf, homeZeroWords}
-use Rattle.home_core.specs.Layout.{homesWord, poolWord, homeSupplyWord}
+use Rattle.home_core.specs.Layout.{homeSupplyWord, homesWord, poolWord}
 use Rattle.ledgers.specs.Limits.{accountLimit, capacity, maxAmount}
 use Rattle.places.proofs.Openings.{Stands, copied, count-facts, stands, stored-behind}
 use Rattle.places.specs.LedgerBalances.{zeroFilled}

@@ -4,9 +4,9 @@ use Rattle.wire.proofs.Prelude.{List, _*_, _+_, _-_, _<_, _^_, _∙_, _≡_, _�
 use Rattle.wire.proofs.Prelude.{length-set, refl, set, sym, true, ℕ}
 use Rattle.answers.proofs.Answers.{or-else-zero}
 use Rattle.home_core.proofs.Accept.{HomeBounds, HomeSound, length-balances, length-held, sound-accepts, sound-of}
-use Rattle.home_core.specs.Layout.{HomeReady, acceptsHome, balancesFrom, homeCountOf, homeCountWord, farsOf, farsWord, homeViewOf}
+use Rattle.home_core.specs.Layout.{HomeReady, acceptsHome, balancesFrom, farsOf, farsWord, homeCountOf, homeCountWord, homeViewOf}
 use Rattle.home_core.specs.Layout.{homeWith}
-use Rattle.home_core.specs.Layout.{homesOf, homesWord, poolOf, poolWord, homeSupplyOf, homeSupplyWord}
+use Rattle.home_core.specs.Layout.{homeSupplyOf, homeSupplyWord, homesOf, homesWord, poolOf, poolWord}
 use Rattle.ledgers.specs.Limits.{accountLimit, capacity, maxAmount}
 use Rattle.places.proofs.PassedRecord.{Changes, zeros-kept}
 use Rattle.places.specs.Entries.{givenBy, takenBy}

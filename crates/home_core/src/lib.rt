@@ -44,21 +44,21 @@ use wire::part_end;
 // ## The layout
 
 // The first word of the balances; the records stand before them.
-pub const BALANCES: usize = 4 * Ledger::CAPACITY;
+pub const BALANCES_WORD: usize = 4 * Ledger::CAPACITY;
 
 // The words of the supply, the far pool, the numbers of home and of far accounts, the number of held records.
-pub const SUPPLY: usize = BALANCES + Ledger::ACCOUNTS;
+pub const SUPPLY_WORD: usize = BALANCES_WORD + Ledger::ACCOUNTS;
 
-pub const POOL: usize = SUPPLY + 1;
+pub const POOL_WORD: usize = SUPPLY_WORD + 1;
 
-pub const HOMES: usize = SUPPLY + 2;
+pub const HOMES_WORD: usize = SUPPLY_WORD + 2;
 
-pub const FARS: usize = SUPPLY + 3;
+pub const FARS_WORD: usize = SUPPLY_WORD + 3;
 
-pub const COUNT: usize = SUPPLY + 4;
+pub const COUNT_WORD: usize = SUPPLY_WORD + 4;
 
 // All words of a state.
-pub const WORDS: usize = SUPPLY + 5;
+pub const WORDS: usize = SUPPLY_WORD + 5;
 
 // The elements of the index of its numbers.
 pub const INDEX: usize = CHAINS + Ledger::CAPACITY;
@@ -70,16 +70,16 @@ fn is_bounded(s: &[u64]) -> bool
     requires { ⌜ length (now s) ≡ homeWords ⌝ }
     ensures { λ b. ⌜ b ≡ homeBounds (now (s .entry)) ⌝ }
 {
-    if !is_count_allowed(s[HOMES] as usize) {
+    if !is_count_allowed(s[HOMES_WORD] as usize) {
         return false;
     }
-    if !is_count_allowed(s[FARS] as usize) {
+    if !is_count_allowed(s[FARS_WORD] as usize) {
         return false;
     }
-    if Ledger::CAPACITY < s[COUNT] as usize {
+    if Ledger::CAPACITY < s[COUNT_WORD] as usize {
         return false;
     }
-    s[SUPPLY] <= Record::MAX_AMOUNT
+    s[SUPPLY_WORD] <= Record::MAX_AMOUNT
 }
 
 // Balances and the far pool, against the supply.
@@ -89,11 +89,11 @@ fn adds_up(s: &[u64]) -> bool
         + poolOf (now (s .entry))) (homeSupplyOf (now (s .entry))) ⌝ }
 {
     let zero = Wide { high: 0, low: 0 };
-    let sum = add_balances(s, BALANCES, s[HOMES] as usize, zero).add(s[POOL]);
+    let sum = add_balances(s, BALANCES_WORD, s[HOMES_WORD] as usize, zero).add(s[POOL_WORD]);
     if sum.high != 0 {
         return false;
     }
-    sum.low == s[SUPPLY]
+    sum.low == s[SUPPLY_WORD]
 }
 
 // All that 3 asks of a state; where it holds, the index of its numbers is made in place of an empty one.
@@ -109,8 +109,8 @@ pub fn is_accepted<'a, 'b>(s: &'a [u64], index: &'b mut [u16]) -> bool
     if !is_bounded(s) {
         return false;
     }
-    let homes = s[HOMES] as usize;
-    if !zeros(s, BALANCES + homes, Ledger::ACCOUNTS - homes) {
+    let homes = s[HOMES_WORD] as usize;
+    if !zeros(s, BALANCES_WORD + homes, Ledger::ACCOUNTS - homes) {
         return false;
     }
     if !hold_indexed(
@@ -118,10 +118,10 @@ pub fn is_accepted<'a, 'b>(s: &'a [u64], index: &'b mut [u16]) -> bool
         index,
         0,
         0,
-        s[COUNT] as usize,
+        s[COUNT_WORD] as usize,
         0, // home's byte
-        s[HOMES],
-        s[FARS],
+        s[HOMES_WORD],
+        s[FARS_WORD],
     ) {
         return false;
     }
@@ -146,8 +146,8 @@ fn accounts_on(s: &[u64], l: Ledger) -> usize
     ensures { λ n. ⌜ n ≡ homeAccounts (homeViewOf (now (s .entry))) l ⌝ }
 {
     match l {
-        Ledger::Home => s[HOMES] as usize,
-        Ledger::Far => s[FARS] as usize,
+        Ledger::Home => s[HOMES_WORD] as usize,
+        Ledger::Far => s[FARS_WORD] as usize,
     }
 }
 
@@ -165,9 +165,9 @@ fn last_refusal(s: &[u64], r: Record) -> u32
 {
     let kind = r.kind;
     if is_receiving(kind) {
-        return pool_refusal(s[POOL], r);
+        return pool_refusal(s[POOL_WORD], r);
     }
-    funds_refusal(s, BALANCES, s[HOMES] as usize, r)
+    funds_refusal(s, BALANCES_WORD, s[HOMES_WORD] as usize, r)
 }
 
 // The refusals of a record that was read, 33 and 22 to 41 in order, or 0.
@@ -176,7 +176,7 @@ pub fn judge<'a>(s: &'a [u64], index: &'a [u16], r: Record) -> u32
     ensures { λ n. ⌜ n ≡ homeJudge capacity (homeViewOf (now (s .entry))) (Read r) ⌝ }
 {
     let kind = r.kind;
-    let count = s[COUNT] as usize;
+    let count = s[COUNT_WORD] as usize;
     let far = refusal_if(is_far(kind.ledger()), 33);
     let senders = accounts_on(s, kind.sender_ledger());
     let receivers = accounts_on(s, kind.receiver_ledger());
@@ -196,11 +196,11 @@ fn pass(state: &mut [u64; WORDS], w: Words, r: Record)
     ensures { λ _. ⌜ now (state .exit) ≡ homeWith (now (state .entry)) w r ⌝ }
 {
     let kind = r.kind;
-    let count = state[COUNT];
-    let pool = state[POOL];
-    store(state, BALANCES, 4 * count as usize, w, r);
-    state[POOL] = pool + taken_by(kind, r.amount) - given_by(kind, r.amount); // a sending enters it, an arrival leaves it
-    state[COUNT] = count + 1;
+    let count = state[COUNT_WORD];
+    let pool = state[POOL_WORD];
+    store(state, BALANCES_WORD, 4 * count as usize, w, r);
+    state[POOL_WORD] = pool + taken_by(kind, r.amount) - given_by(kind, r.amount); // a sending enters it, an arrival leaves it
+    state[COUNT_WORD] = count + 1;
 }
 
 // ## The opening
@@ -221,11 +221,11 @@ pub fn open<'a, 'b>(
     if opening.refusal != 0 {
         return opening.refusal;
     }
-    copy_numbers(balances, BALANCES, state);
-    state[SUPPLY] = opening.supply;
-    state[POOL] = far_total;
-    state[HOMES] = balances.len() as u64;
-    state[FARS] = far_accounts as u64;
+    copy_numbers(balances, BALANCES_WORD, state);
+    state[SUPPLY_WORD] = opening.supply;
+    state[POOL_WORD] = far_total;
+    state[HOMES_WORD] = balances.len() as u64;
+    state[FARS_WORD] = far_accounts as u64;
     0
 }
 
@@ -245,7 +245,7 @@ pub fn step<'a, 'b>(state: &'a mut [u64; WORDS], index: &'b mut [u16; INDEX], by
     if number != 0 {
         return number;
     }
-    let count = state[COUNT] as usize;
+    let count = state[COUNT_WORD] as usize;
     pass(state, Words::of(bytes), r);
     add_number(index, 0, count, r.number);
     0

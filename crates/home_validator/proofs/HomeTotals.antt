@@ -5,7 +5,7 @@ use Rattle.answers.specs.Balances.{balanceAmong}
 use Rattle.answers.specs.declared.Answer.{Answer}
 use Rattle.answers.specs.declared.Answer.the-variants.{Passed}
 use Rattle.home_core.proofs.Accept.{length-held, sound-of}
-use Rattle.home_core.specs.Layout.{acceptsHome, balancesFrom, homeCountOf, homeViewOf, homesOf, poolOf, homeSupplyOf}
+use Rattle.home_core.specs.Layout.{acceptsHome, balancesFrom, homeCountOf, homeSupplyOf, homeViewOf, homesOf, poolOf}
 use Rattle.home_validator.specs.Figures.{homeBalanceOf, homeFiguresOf, homePlacesOf}
 use Rattle.home_validator.specs.declared.asked.HomeFigures.{HomeFigures}
 use Rattle.home_validator.specs.declared.asked.HomePlaces.{HomePlaces}

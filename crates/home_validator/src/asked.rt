@@ -8,12 +8,12 @@ use answers::Answer;
 use answers::Balance;
 use answers::balance_among;
 use answers::balance_refused;
-use home_core::BALANCES;
-use home_core::COUNT;
-use home_core::HOMES;
+use home_core::BALANCES_WORD;
+use home_core::COUNT_WORD;
+use home_core::HOMES_WORD;
 use home_core::INDEX;
-use home_core::POOL;
-use home_core::SUPPLY;
+use home_core::POOL_WORD;
+use home_core::SUPPLY_WORD;
 use home_core::is_accepted;
 use ledgers::Ledger;
 
@@ -46,8 +46,8 @@ pub fn figures(state: HomeValidator) -> HomeFigures
             pool: 0,
         };
     }
-    let supply = state.words[SUPPLY];
-    let pool = state.words[POOL];
+    let supply = state.words[SUPPLY_WORD];
+    let pool = state.words[POOL_WORD];
     HomeFigures {
         answer: Answer::Passed,
         home: supply - pool,
@@ -62,8 +62,8 @@ pub fn balance(state: HomeValidator, account: u16) -> Balance
     if !accepted(&state.words) {
         return balance_refused(3);
     }
-    let open = state.words[HOMES] as usize;
-    balance_among(&state.words, BALANCES, open, account)
+    let open = state.words[HOMES_WORD] as usize;
+    balance_among(&state.words, BALANCES_WORD, open, account)
 }
 
 // The places left on the home ledger, beside the answer.
@@ -82,7 +82,7 @@ pub fn places_left(state: HomeValidator) -> HomePlaces
             home: 0,
         };
     }
-    let home = state.words[COUNT] as usize;
+    let home = state.words[COUNT_WORD] as usize;
     HomePlaces {
         answer: Answer::Passed,
         home: (Ledger::CAPACITY - home) as u64,

@@ -5,18 +5,18 @@ use Rattle.wire.proofs.Prelude.{length-take-le, mul-mod-left, refl, replicate, 
 use Rattle.answers.specs.Answers.{unlessRefused}
 use Rattle.journal.specs.Journal.{numbered}
 use Rattle.journal_blocks.proofs.Checking.{Right, not-refused}
-use Rattle.journal_blocks.proofs.Forming.{FormedBlock, formed-block-facts, facts-formed-block}
-use Rattle.journal_blocks.proofs.Sizes.{items-room, block-bounds, count-back}
-use Rattle.journal_blocks.specs.Blocks.{maxBlock, recordsPerBlock, blockKind, statedCount, kindOfBlock, itemSize, itemLimit}
-use Rattle.journal_blocks.specs.Checked.{checked, blockRefusal}
-use Rattle.journal_writer.proofs.Allowing.{facts-allowed, allowed-answer}
+use Rattle.journal_blocks.proofs.Forming.{FormedBlock, facts-formed-block, formed-block-facts}
+use Rattle.journal_blocks.proofs.Sizes.{block-bounds, count-back, items-room}
+use Rattle.journal_blocks.specs.Blocks.{blockKind, itemLimit, itemSize, kindOfBlock, maxBlock, recordsPerBlock, statedCount}
+use Rattle.journal_blocks.specs.Checked.{blockRefusal, checked}
+use Rattle.journal_writer.proofs.Allowing.{allowed-answer, facts-allowed}
 use Rattle.journal_writer.proofs.Laying.{sealed}
-use Rattle.journal_writer.specs.Written.{header, body, journalBlock, writeRefusal, written}
-use Rattle.sha256.proofs.Digests.{length-sha256, bytes-sha256}
+use Rattle.journal_writer.specs.Written.{body, header, journalBlock, writeRefusal, written}
+use Rattle.sha256.proofs.Digests.{bytes-sha256, length-sha256}
 use Rattle.sha256.specs.Sha256.{sha256}
-use Rattle.wire.proofs.Lists.{zeros-replicate, zeros-are, same-self, same-equal, bytes-zeros, bytes-append}
-use Rattle.wire.proofs.Numbers.{bytes-then, value-back, drop-field, one-byte}
-use Rattle.wire.specs.BigEndian.{All, Bytes, zeros, same, valueAfter, field, bytesOf}
+use Rattle.wire.proofs.Lists.{bytes-append, bytes-zeros, same-equal, same-self, zeros-are, zeros-replicate}
+use Rattle.wire.proofs.Numbers.{bytes-then, drop-field, one-byte, value-back}
+use Rattle.wire.specs.BigEndian.{All, Bytes, bytesOf, field, same, valueAfter, zeros}
 
 -- ## Lengths
 

@@ -2,12 +2,12 @@
 use Rattle.wire.proofs.Prelude.{List, List·getD-append, [], _*_, _++_, _+_, _<_, _^_, _∙_, _∷_, _≡_, _≤_, ap, append-assoc, append-nil, ap₂}
 use Rattle.wire.proofs.Prelude.{arith, drop, drop-at, drop-drop, eq-or-lt-of-le, getD, getD-at, length, length-append, length-drop}
 use Rattle.wire.proofs.Prelude.{length-take-le, refl, suc, sym, take, take-add, take-at, zero, ℕ, ⊎-elim}
-use Rattle.journal.specs.Journal.{RecordBytes, joined, balanceBytes}
+use Rattle.journal.specs.Journal.{RecordBytes, balanceBytes, joined}
 use Rattle.journal_blocks.proofs.Items.{length-records}
-use Rattle.journal_blocks.specs.Blocks.{recordPart, firstRecords, firstBalances}
-use Rattle.wire.proofs.Lists.{all-append, all-take, all-drop, bytes-append}
-use Rattle.wire.proofs.Numbers.{field-fits, length-bytesOf, bytes-bytesOf, value-back, bytes-field}
-use Rattle.wire.specs.BigEndian.{All, Bytes, value, field, bytesOf}
+use Rattle.journal_blocks.specs.Blocks.{firstBalances, firstRecords, recordPart}
+use Rattle.wire.proofs.Lists.{all-append, all-drop, all-take, bytes-append}
+use Rattle.wire.proofs.Numbers.{bytes-bytesOf, bytes-field, field-fits, length-bytesOf, value-back}
+use Rattle.wire.specs.BigEndian.{All, Bytes, bytesOf, field, value}
 
 -- ## Lists one after the other
 

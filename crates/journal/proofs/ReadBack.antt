@@ -4,24 +4,24 @@ use Rattle.wire.proofs.Prelude.{Bool, List, [], _*_, _++_, _+_, _-_, _/_, _<_, 
 use Rattle.wire.proofs.Prelude.{drop-at, drop-of-length-le, eq-or-lt-of-le, false, false≢true, le-leb, le-ltb, leb, leb-false, length}
 use Rattle.wire.proofs.Prelude.{length-append, length-drop, length-take, lt-leb, refl, replicate, subst, suc, sym, take, take-all}
 use Rattle.wire.proofs.Prelude.{take-append-drop, take-at, true, zero, ℕ, ⊎-elim}
-use Rattle.journal.proofs.Blocks.{block-items, bytes-block, itemBytes, block-is, count-is, block-right, block-allowed}
-use Rattle.journal.proofs.Items.{Wide, all-long, length-joined, bytes-joined, joined-only, records-joined, records-whole}
-use Rattle.journal.proofs.Items.{record-at, length-balance-bytes, bytes-balances, balances-only, balances-joined, balances-fit}
-use Rattle.journal.specs.Journal.{IsOpening, RecordBytes, recordLimit, WithinLimits, joined, balanceBytes, blockCount, groups}
+use Rattle.journal.proofs.Blocks.{block-allowed, block-is, block-items, block-right, bytes-block, count-is, itemBytes}
+use Rattle.journal.proofs.Items.{Wide, all-long, bytes-joined, joined-only, length-joined, records-joined, records-whole}
+use Rattle.journal.proofs.Items.{balances-fit, balances-joined, balances-only, bytes-balances, length-balance-bytes, record-at}
+use Rattle.journal.specs.Journal.{IsOpening, RecordBytes, WithinLimits, balanceBytes, blockCount, groups, joined, recordLimit}
 use Rattle.journal.specs.Journal.{itemsOf}
-use Rattle.journal.specs.Journal.{numbered, journalOf, AllRecordsPass, allRecords, Reads, ReadsBack, WrittenReads, ReadsOnce}
+use Rattle.journal.specs.Journal.{AllRecordsPass, Reads, ReadsBack, ReadsOnce, WrittenReads, allRecords, journalOf, numbered}
 use Rattle.journal.specs.Journal.{CallsRead}
 use Rattle.journal.specs.Journal.{AllAllowed, BlocksWritten}
 use Rattle.journal_blocks.proofs.Checking.{right-facts}
 use Rattle.journal_blocks.proofs.Forming.{formed-block-facts}
 use Rattle.journal_blocks.proofs.Items.{length-balances, length-records}
-use Rattle.journal_blocks.proofs.Sizes.{balances-block, records-block, block-bounds, count-back}
-use Rattle.journal_blocks.specs.Blocks.{maxBlock, recordsPerBlock, statedCount, kindOfBlock, itemSize, itemLimit, recordsOf, balancesOf}
+use Rattle.journal_blocks.proofs.Sizes.{balances-block, block-bounds, count-back, records-block}
+use Rattle.journal_blocks.specs.Blocks.{balancesOf, itemLimit, itemSize, kindOfBlock, maxBlock, recordsOf, recordsPerBlock, statedCount}
 use Rattle.journal_blocks.specs.Checked.{blockRefusal}
-use Rattle.journal_reader.specs.Judged.{placeRefusal, recordRefusal, balancesRefusal, partOf, countOf, openingOf}
+use Rattle.journal_reader.specs.Judged.{balancesRefusal, countOf, openingOf, partOf, placeRefusal, recordRefusal}
 use Rattle.journal_writer.specs.Written.{body, journalBlock, writeRefusal, written}
 use Rattle.sha256.specs.Sha256.{sha256}
-use Rattle.wire.proofs.Lists.{all-append, all-take, all-drop, all-split}
+use Rattle.wire.proofs.Lists.{all-append, all-drop, all-split, all-take}
 use Rattle.wire.specs.BigEndian.{All, Bytes}
 
 -- ## Blocks that follow

@@ -6,9 +6,9 @@ use mathlib.Core.Logic.{_↔_}
 use mathlib.Core.Path.{_≡_}
 use lib.ListN.{length, take, drop, getD}
 use Rattle.answers.specs.declared.Answer.the-variants.{Passed}
-use Rattle.journal_blocks.specs.Blocks.{maxBlock, recordsPerBlock, statedCount, kindOfBlock, recordsOf, balancesOf, balanceTable}
+use Rattle.journal_blocks.specs.Blocks.{balanceTable, balancesOf, kindOfBlock, maxBlock, recordsOf, recordsPerBlock, statedCount}
 use Rattle.journal_blocks.specs.Checked.{blockRefusal}
-use Rattle.journal_reader.specs.Judged.{partOf, countOf, openingOf}
+use Rattle.journal_reader.specs.Judged.{countOf, openingOf, partOf}
 use Rattle.journal_writer.specs.Written.{journalBlock, writeRefusal, written}
 use Rattle.ledgers.specs.Limits.{accountLimit}
 use Rattle.wire.specs.BigEndian.{All, Bytes, bytesOf}

@@ -1,10 +1,10 @@
 -- What a block that is not refused shows, fact by fact. Assumes nothing.
 use Rattle.wire.proofs.Prelude.{Bool, List, _∙_, _≡_, _≤_, ap, arith, eq-eqb, eqb, eqb-true, le-ltb, length, ltb, ltb-false, not, not-false}
 use Rattle.wire.proofs.Prelude.{true, ℕ}
-use Rattle.answers.proofs.Answers.{refuse-zero, refuse-else}
-use Rattle.answers.specs.Answers.{refuse, orElse}
-use Rattle.journal_blocks.specs.Blocks.{maxBlock, blockNumber, blockFormed}
-use Rattle.journal_blocks.specs.Checked.{checked, blockRefusal}
+use Rattle.answers.proofs.Answers.{refuse-else, refuse-zero}
+use Rattle.answers.specs.Answers.{orElse, refuse}
+use Rattle.journal_blocks.specs.Blocks.{blockFormed, blockNumber, maxBlock}
+use Rattle.journal_blocks.specs.Checked.{blockRefusal, checked}
 
 -- the facts, one for each test
 pub record Right (b : List ℕ) (k before : ℕ) : Type 0 where

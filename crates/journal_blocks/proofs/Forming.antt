@@ -1,7 +1,7 @@
 -- What a block that refusal 14 has nothing against shows, fact by fact. Assumes nothing.
 use Rattle.wire.proofs.Prelude.{List, _*_, _+_, _-_, _<_, _||_, _∙_, _≡_, _≤_, ap, ap₂, arith, drop, eq-eqb, eqb-true, le-leb, leb}
 use Rattle.wire.proofs.Prelude.{leb-true, lt-ltb, ltb-true, take, true, ℕ}
-use Rattle.journal_blocks.specs.Blocks.{recordsPerBlock, blockKind, statedCount, kindOfBlock, itemSize, itemLimit, blockFormed}
+use Rattle.journal_blocks.specs.Blocks.{blockFormed, blockKind, itemLimit, itemSize, kindOfBlock, recordsPerBlock, statedCount}
 use Rattle.wire.proofs.Lists.{every-hold, hold-every}
 use Rattle.wire.specs.BigEndian.{All, zeros}
 

@@ -1,7 +1,7 @@
 -- Laws of the items of a block. Assumes nothing.
 use Rattle.wire.proofs.Prelude.{List, [], _*_, _++_, _+_, _-_, _<_, _∙_, _∷_, _≡_, add-one, ap, append-assoc, arith, length, length-append}
 use Rattle.wire.proofs.Prelude.{refl, replicate, set, set-at, suc, sym, zero, ℕ}
-use Rattle.journal_blocks.specs.Blocks.{recordPart, firstRecords, firstBalances}
+use Rattle.journal_blocks.specs.Blocks.{firstBalances, firstRecords, recordPart}
 use Rattle.wire.specs.BigEndian.{field}
 
 -- n opening balances are n

@@ -1,6 +1,6 @@
 -- Kinds, sizes and limits by a block's number. Assumes nothing.
 use Rattle.wire.proofs.Prelude.{_*_, _/_, _<_, _≡_, _≤_, arith, mul-div-cancel, refl, suc, zero, ℕ}
-use Rattle.journal_blocks.specs.Blocks.{kindOfBlock, itemSize, itemLimit}
+use Rattle.journal_blocks.specs.Blocks.{itemLimit, itemSize, kindOfBlock}
 use Rattle.ledgers.specs.Limits.{accountLimit}
 
 -- blocks 0 and 1 hold opening balances: the size of one, and as many as a ledger has accounts

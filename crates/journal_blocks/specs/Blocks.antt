@@ -5,7 +5,7 @@ use mathlib.Core.List.{List, [], _∷_, _++_}
 use lib.Dec.{eqb, ltb, leb}
 use lib.ListN.{take, drop, replicate}
 use Rattle.ledgers.specs.Limits.{accountLimit}
-use Rattle.wire.specs.BigEndian.{every, zeros, field}
+use Rattle.wire.specs.BigEndian.{every, field, zeros}
 
 -- ## Limits
 

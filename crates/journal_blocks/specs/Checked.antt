@@ -5,7 +5,7 @@ use mathlib.Core.List.{List}
 use lib.Dec.{eqb, ltb}
 use lib.ListN.{length, take, drop}
 use Rattle.answers.specs.Answers.{refuse}
-use Rattle.journal_blocks.specs.Blocks.{maxBlock, blockNumber, blockFormed}
+use Rattle.journal_blocks.specs.Blocks.{blockFormed, blockNumber, maxBlock}
 use Rattle.sha256.specs.Sha256.{sha256}
 use Rattle.wire.specs.BigEndian.{same}
 

@@ -3,10 +3,10 @@ use Rattle.wire.proofs.Prelude.{List, _<_, _≡_, _≤_, arith, leb, leb-false,
 use Rattle.answers.proofs.Answers.{or-else-zero, refuse-zero}
 use Rattle.journal_blocks.proofs.Checking.{right-facts}
 use Rattle.journal_blocks.proofs.Forming.{formed-block-facts}
-use Rattle.journal_blocks.proofs.Sizes.{records-limit, block-bounds}
+use Rattle.journal_blocks.proofs.Sizes.{block-bounds, records-limit}
 use Rattle.journal_blocks.specs.Blocks.{statedCount}
 use Rattle.journal_blocks.specs.Checked.{blockRefusal}
-use Rattle.journal_reader.specs.Judged.{placeRefusal, recordRefusal, balancesRefusal}
+use Rattle.journal_reader.specs.Judged.{balancesRefusal, placeRefusal, recordRefusal}
 
 -- a place that is not refused
 pub record Placed (b : List ℕ) (place : ℕ) : Type 0 where

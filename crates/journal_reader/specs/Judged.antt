@@ -3,8 +3,8 @@ use Prim.Native.Nat.{ℕ}
 use mathlib.Core.List.{List, []}
 use lib.Dec.{ltb, leb}
 use lib.ListN.{replicate}
-use Rattle.answers.specs.Answers.{answer, refuse, orElse, unlessRefused}
-use Rattle.journal_blocks.specs.Blocks.{statedCount, recordPart, balanceTable}
+use Rattle.answers.specs.Answers.{answer, orElse, refuse, unlessRefused}
+use Rattle.journal_blocks.specs.Blocks.{balanceTable, recordPart, statedCount}
 use Rattle.journal_blocks.specs.Checked.{blockRefusal}
 use Rattle.ledgers.specs.Limits.{accountLimit}
 pub use Rattle.journal_reader.specs.declared.Counted.{Counted}

@@ -2,7 +2,7 @@
 use Rattle.wire.proofs.Prelude.{_%_, _/_, _<_, _≡_, _≤_, arith, div-add-mod', eq-eqb, eqb-true, false, le-leb, leb-true, lt-ltb, ltb-true}
 use Rattle.wire.proofs.Prelude.{true, ℕ}
 use Rattle.journal_blocks.proofs.Sizes.{items-room}
-use Rattle.journal_blocks.specs.Blocks.{maxBlock, kindOfBlock, itemSize, itemLimit}
+use Rattle.journal_blocks.specs.Blocks.{itemLimit, itemSize, kindOfBlock, maxBlock}
 use Rattle.journal_writer.specs.Written.{allowed, writeRefusal}
 use Rattle.wire.proofs.Lists.{every-hold, hold-every}
 use Rattle.wire.specs.BigEndian.{All}

@@ -5,9 +5,9 @@ use mathlib.Core.List.{List, [], _∷_, _++_}
 use lib.Dec.{eqb, ltb, leb}
 use lib.ListN.{length, replicate}
 use Rattle.answers.specs.Answers.{refuse, unlessRefused}
-use Rattle.journal_blocks.specs.Blocks.{maxBlock, kindOfBlock, itemSize, itemLimit}
+use Rattle.journal_blocks.specs.Blocks.{itemLimit, itemSize, kindOfBlock, maxBlock}
 use Rattle.sha256.specs.Sha256.{sha256}
-use Rattle.wire.specs.BigEndian.{every, bytesOf}
+use Rattle.wire.specs.BigEndian.{bytesOf, every}
 
 -- bytes 0-31 of block k: number, kind, count and zeros
 abbrev pub header : ℕ → ℕ → List ℕ

@@ -3,9 +3,9 @@ use Prim.Native.Nat.{ℕ}
 use mathlib.Core.Bool.{cond}
 use lib.Dec.{eqb}
 pub use Rattle.ledgers.specs.declared.Ledger.{Ledger}
-pub use Rattle.ledgers.specs.declared.Ledger.the-variants.{Home, Far}
+pub use Rattle.ledgers.specs.declared.Ledger.the-variants.{Far, Home}
 pub use Rattle.ledgers.specs.declared.Kind.{Kind}
-pub use Rattle.ledgers.specs.declared.Kind.the-variants.{Local, Sending, Receiving}
+pub use Rattle.ledgers.specs.declared.Kind.the-variants.{Local, Receiving, Sending}
 
 -- ## The ledgers
 

@@ -6,7 +6,7 @@ use Rattle.journal_blocks.proofs.Checking.{right-facts}
 use Rattle.journal_blocks.specs.Blocks.{maxBlock}
 use Rattle.journal_blocks.specs.Checked.{blockRefusal}
 use Rattle.listing.specs.Chunks.{afterBlocks, ifGoing, stateFigures}
-use Rattle.listing.specs.Listing.{Progress, afterBlock, blockText, blocksText, recordLines, progressBy, stateListed, whileGoing}
+use Rattle.listing.specs.Listing.{Progress, afterBlock, blockText, blocksText, progressBy, recordLines, stateListed, whileGoing}
 use Rattle.pair_core.specs.Layout.{pairWordsChecker}
 use Rattle.rules.proofs.Lists.{never-both-tests}
 use Rattle.rules.specs.Calls.{Checker, callOne}

@@ -10,7 +10,7 @@ use Rattle.listing.proofs.Blocks.{blocks-stopped, text-append, textOf, 
 use Rattle.listing.specs.Chunks.{ListedInChunks, afterChunk, chunkSize, chunkText, chunksText, mostChunks, openedBy, stateFigures}
 use Rattle.listing.specs.Listing.{Progress, afterBlock, blockText, blocksIn, blocksText, figuresLine, listing, openedProgress}
 use Rattle.listing.specs.Listing.{openingText}
-use Rattle.listing.specs.Listing.{recordLines, progressBy, stateListed, unlessFault, whileGoing}
+use Rattle.listing.specs.Listing.{progressBy, recordLines, stateListed, unlessFault, whileGoing}
 use Rattle.listing_lines.specs.Lines.{headerLine, openLine, recordLine}
 use Rattle.pair_core.proofs.Opened.{opened-ready, opened-view}
 use Rattle.pair_core.proofs.Passing.{next-of}

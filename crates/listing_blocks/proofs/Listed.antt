@@ -10,12 +10,12 @@ use Rattle.journal_blocks.proofs.Checking.{right-facts}
 use Rattle.journal_blocks.proofs.Forming.{formed-block-facts}
 use Rattle.journal_blocks.proofs.Items.{length-records}
 use Rattle.journal_blocks.proofs.Sizes.{records-limit}
-use Rattle.journal_blocks.specs.Blocks.{maxBlock, recordPart, firstRecords, statedCount}
+use Rattle.journal_blocks.specs.Blocks.{firstRecords, maxBlock, recordPart, statedCount}
 use Rattle.journal_blocks.specs.Checked.{blockRefusal}
 use Rattle.listing.proofs.Blocks.{blocks-next, blocks-stopped, lines-append, state-last, textOf}
 use Rattle.listing.specs.Chunks.{afterBlocks, afterChunk, chunkText, stateFigures}
 use Rattle.listing.specs.Listing.{Progress, afterBlock, blockText, blocksText, recordLines, stateListed}
-use Rattle.listing_blocks.specs.Cursors.{CursorBounds, progressOf, progressAfter}
+use Rattle.listing_blocks.specs.Cursors.{CursorBounds, progressAfter, progressOf}
 use Rattle.listing_blocks.specs.declared.Cursor.{Cursor}
 use Rattle.listing_lines.proofs.Puts.{figures-short, put-none, put-put, record-short}
 use Rattle.listing_lines.specs.Lines.{TextPut, faultLine, figuresText, recordLine}

@@ -9,7 +9,7 @@ use Rattle.journal_blocks.specs.Blocks.{balancesOf, recordsOf, statedCount}
 use Rattle.ledgers.specs.Limits.{capacity}
 use Rattle.listing.proofs.Blocks.{lines-append, state-last}
 use Rattle.listing.specs.Listing.{Progress, afterBlock, blockText, blocksIn, blocksText, figuresLine, listing, openedProgress, openingText}
-use Rattle.listing.specs.Listing.{recordLines, progressBy, unlessFault, whileGoing}
+use Rattle.listing.specs.Listing.{progressBy, recordLines, unlessFault, whileGoing}
 use Rattle.listing_claims.specs.Whole.{LinesOfRecords, ListedRefused, ListedWhole, ListedWritten}
 use Rattle.listing_lines.specs.Lines.{headerLine, openLine}
 use Rattle.rules.proofs.ListCalls.{cut-first}

@@ -6,7 +6,7 @@ use Rattle.answers.specs.declared.Answer.{Answer}
 use Rattle.answers.specs.declared.Answer.the-variants.{Refused}
 use Rattle.journal_blocks.specs.Blocks.{recordPart}
 use Rattle.journal_reader.specs.Judged.{partOf, recordRefusal}
-use Rattle.moatbetony.specs.Plain.{plainEncoded, plainPart, plainRecord, plainAnswer}
+use Rattle.moatbetony.specs.Plain.{plainAnswer, plainEncoded, plainPart, plainRecord}
 use Rattle.moatbetony.specs.declared.PlainEncoded.{PlainEncoded}
 use Rattle.moatbetony.specs.declared.PlainPart.{PlainPart}
 use Rattle.moatbetony.specs.declared.PlainRecord.{PlainRecord}

@@ -573,15 +573,15 @@ pub extern "C" fn moatbetony_block_write(
 
 // The 32 bytes of a digest.
 #[repr(C)]
-pub struct DigestTold {
+pub struct PlainDigest {
     pub bytes: [u8; 32],
 }
 
 // The digest of a message.
 #[no_mangle]
-pub extern "C" fn moatbetony_sha256(message: &[u8]) -> DigestTold
+pub extern "C" fn moatbetony_sha256(message: &[u8]) -> PlainDigest
     ensures { λ r. ⌜ r .bytes ≡ sha256 (now (message .entry)) ⌝ }
 {
     let bytes = sha256::digest(message);
-    DigestTold { bytes }
+    PlainDigest { bytes }
 }

@@ -5,9 +5,9 @@ use Rattle.ledgers.specs.Ledgers.{counterpart, ledgerByte}
 use Rattle.ledgers.specs.Limits.{capacity}
 use Rattle.pair_core.proofs.Ledgers.{PairBounds, accounts-same, balances-within, bounds-of, by-byte, by-ledger, byte-below}
 use Rattle.pair_core.proofs.Ledgers.{length-balances, length-held, of-bounds, state-on}
-use Rattle.pair_core.specs.Layout.{PairReady, acceptsPair, accountsOn, balancesStart, countOn, formedOn, pairIndexLength, indexOn}
+use Rattle.pair_core.specs.Layout.{PairReady, acceptsPair, accountsOn, balancesStart, countOn, formedOn, indexOn, pairIndexLength}
 use Rattle.pair_core.specs.Layout.{ledgerOn}
-use Rattle.pair_core.specs.Layout.{pairBounds, pairViewOf, pairWords, recordsStart, pairSupplyOf, zeroBeyond}
+use Rattle.pair_core.specs.Layout.{pairBounds, pairSupplyOf, pairViewOf, pairWords, recordsStart, zeroBeyond}
 use Rattle.pair_core.specs.Testing.{backedOn, balanceSum, flowSum, heldOn, sumsAgree, testsOf}
 use Rattle.places.proofs.BalanceTotals.{balances-sum}
 use Rattle.places.proofs.OverPlaces.{all-each, all-list}

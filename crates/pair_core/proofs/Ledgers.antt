@@ -3,9 +3,9 @@ use Rattle.wire.proofs.Prelude.{List, _*_, _+_, _-_, _<_, _∙_, _≡_, _≤_, 
 use Rattle.wire.proofs.Prelude.{refl, suc, sym, true, zero, ℕ}
 use Rattle.ledgers.specs.Ledgers.{counterpart, ledgerByte}
 use Rattle.ledgers.specs.Limits.{accountLimit, capacity}
-use Rattle.pair_core.specs.Layout.{accountsOn, balancesStart, countOn, pairIndexLength, indexOn, ledgerOn, pairBounds, pairViewOf}
+use Rattle.pair_core.specs.Layout.{accountsOn, balancesStart, countOn, indexOn, ledgerOn, pairBounds, pairIndexLength, pairViewOf}
 use Rattle.pair_core.specs.Layout.{pairWords}
-use Rattle.pair_core.specs.Layout.{recordsStart, pairSupplyOf}
+use Rattle.pair_core.specs.Layout.{pairSupplyOf, recordsStart}
 use Rattle.places.proofs.Openings.{count-facts}
 use Rattle.places.specs.NumberIndex.{chainCount}
 use Rattle.rules.specs.PairValidator.{countAllowed, supplyAllowed}

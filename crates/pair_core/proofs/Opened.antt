@@ -6,8 +6,8 @@ use Rattle.ledgers.specs.Limits.{accountLimit, capacity}
 use Rattle.pair_core.proofs.Accept.{PairSound, sound-accepts}
 use Rattle.pair_core.proofs.Ledgers.{by-byte}
 use Rattle.pair_core.specs.Layout.{PairReady, acceptsPair, accountsOn, accountsWord, balancesStart, countOn, formedOn}
-use Rattle.pair_core.specs.Layout.{pairIndexLength, indexOn}
-use Rattle.pair_core.specs.Layout.{pairBounds, pairOpenedWords, pairViewOf, pairZeroWords, recordsStart, pairSupplyWord, zeroBeyond}
+use Rattle.pair_core.specs.Layout.{indexOn, pairIndexLength}
+use Rattle.pair_core.specs.Layout.{pairBounds, pairOpenedWords, pairSupplyWord, pairViewOf, pairZeroWords, recordsStart, zeroBeyond}
 use Rattle.places.proofs.Openings.{Stands, copied, count-facts, front-long, stands, stored-behind}
 use Rattle.places.specs.LedgerBalances.{zeroFilled}
 use Rattle.places.specs.OverPlaces.{allAt, listAt}

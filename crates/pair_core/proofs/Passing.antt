@@ -8,8 +8,8 @@ use Rattle.ledgers.specs.Limits.{accountLimit, capacity, maxAmount}
 use Rattle.pair_core.proofs.Accept.{PairSound, sound-accepts, sound-of}
 use Rattle.pair_core.proofs.Ledgers.{PairBounds, accounts-fit, balances-within, by-byte, byte-below, length-balances, length-held}
 use Rattle.pair_core.proofs.Ledgers.{state-on}
-use Rattle.pair_core.specs.Layout.{PairReady, acceptsPair, accountsOn, accountsWord, balancesStart, countOn, pairCountWord, formedOn}
-use Rattle.pair_core.specs.Layout.{indexOn, ledgerOn, pairViewOf, pairWith, recordsStart, pairSupplyOf, pairSupplyWord, zeroBeyond}
+use Rattle.pair_core.specs.Layout.{PairReady, acceptsPair, accountsOn, accountsWord, balancesStart, countOn, formedOn, pairCountWord}
+use Rattle.pair_core.specs.Layout.{indexOn, ledgerOn, pairSupplyOf, pairSupplyWord, pairViewOf, pairWith, recordsStart, zeroBeyond}
 use Rattle.places.proofs.PassedRecord.{Changes, ledger-other, zeros-kept}
 use Rattle.places.specs.Entries.{givenBy, takenBy}
 use Rattle.places.specs.NumberIndex.{chainCount}

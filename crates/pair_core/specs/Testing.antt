@@ -6,7 +6,7 @@ use mathlib.Core.List.{List, [], _∷_}
 use lib.Dec.{eqb}
 use lib.ListN.{getD, length}
 use Rattle.ledgers.specs.Ledgers.{ledgerAt}
-use Rattle.pair_core.specs.Layout.{accountsOn, balancesStart, countOn, pairBounds, pairWords, recordsStart, pairSupplyOf, zeroBeyond}
+use Rattle.pair_core.specs.Layout.{accountsOn, balancesStart, countOn, pairBounds, pairSupplyOf, pairWords, recordsStart, zeroBeyond}
 use Rattle.places.specs.OverPlaces.{allAt, apartAt, sumAt}
 use Rattle.table.specs.Table.{accountsBy, backedAt, flowAt, mayHoldAt, numberAt}
 use Rattle.wire.specs.BigEndian.{every}

@@ -48,20 +48,20 @@ use wire::part_end;
 // ## The layout
 
 // The words of a ledger's records, which stand first, home's before far's.
-pub const RECORDS: usize = 4 * Ledger::CAPACITY;
+pub const RECORD_WORDS: usize = 4 * Ledger::CAPACITY;
 
 // The first word of the balances, home's before far's.
-pub const BALANCES: usize = 2 * RECORDS;
+pub const BALANCES_WORD: usize = 2 * RECORD_WORDS;
 
 // The words of the supply, of the numbers of accounts and of the numbers of held records.
-pub const SUPPLY: usize = BALANCES + 2 * Ledger::ACCOUNTS;
+pub const SUPPLY_WORD: usize = BALANCES_WORD + 2 * Ledger::ACCOUNTS;
 
-pub const ACCOUNTS: usize = SUPPLY + 1;
+pub const ACCOUNTS_WORD: usize = SUPPLY_WORD + 1;
 
-pub const COUNTS: usize = SUPPLY + 3;
+pub const COUNTS_WORD: usize = SUPPLY_WORD + 3;
 
 // All words of a state.
-pub const WORDS: usize = SUPPLY + 5;
+pub const WORDS: usize = SUPPLY_WORD + 5;
 
 // The elements of a ledger's index of numbers, and of both.
 pub const INDEX: usize = CHAINS + Ledger::CAPACITY;
@@ -85,19 +85,19 @@ fn is_bounded(s: &[u64]) -> bool
     requires { ⌜ length (now s) ≡ pairWords ⌝ }
     ensures { λ b. ⌜ b ≡ pairBounds (now (s .entry)) ⌝ }
 {
-    if !is_count_allowed(s[ACCOUNTS] as usize) {
+    if !is_count_allowed(s[ACCOUNTS_WORD] as usize) {
         return false;
     }
-    if !is_count_allowed(s[ACCOUNTS + 1] as usize) {
+    if !is_count_allowed(s[ACCOUNTS_WORD + 1] as usize) {
         return false;
     }
-    if Ledger::CAPACITY < s[COUNTS] as usize {
+    if Ledger::CAPACITY < s[COUNTS_WORD] as usize {
         return false;
     }
-    if Ledger::CAPACITY < s[COUNTS + 1] as usize {
+    if Ledger::CAPACITY < s[COUNTS_WORD + 1] as usize {
         return false;
     }
-    s[SUPPLY] <= Record::MAX_AMOUNT
+    s[SUPPLY_WORD] <= Record::MAX_AMOUNT
 }
 
 // Balances of a ledger beyond its accounts.
@@ -105,10 +105,10 @@ fn is_zero_beyond(s: &[u64], l: usize) -> bool
     requires { ⌜ (length (now s) ≡ pairWords) × (pairBounds (now s) ≡ true) × (l < 2) ⌝ }
     ensures { λ b. ⌜ b ≡ zeroBeyond (now (s .entry)) l ⌝ }
 {
-    let accounts = s[ACCOUNTS + l] as usize;
+    let accounts = s[ACCOUNTS_WORD + l] as usize;
     zeros(
         s,
-        BALANCES + l * Ledger::ACCOUNTS + accounts,
+        BALANCES_WORD + l * Ledger::ACCOUNTS + accounts,
         Ledger::ACCOUNTS - accounts,
     )
 }
@@ -125,12 +125,12 @@ fn is_held<'a, 'b>(s: &'a [u64], index: &'b mut [u16], l: usize) -> bool
     hold_indexed(
         s,
         index,
-        l * RECORDS,
+        l * RECORD_WORDS,
         l * INDEX,
-        s[COUNTS + l] as usize,
+        s[COUNTS_WORD + l] as usize,
         l as u64,
-        s[ACCOUNTS + l],
-        s[ACCOUNTS + (1 - l)],
+        s[ACCOUNTS_WORD + l],
+        s[ACCOUNTS_WORD + (1 - l)],
     )
 }
 
@@ -145,12 +145,12 @@ fn crossings_on<'a>(s: &'a [u64], index: &'a [u16], l: usize) -> Crossed
     add_crossings(
         s,
         index,
-        l * RECORDS,
-        s[COUNTS + l] as usize,
+        l * RECORD_WORDS,
+        s[COUNTS_WORD + l] as usize,
         o as u64,
-        o * RECORDS,
+        o * RECORD_WORDS,
         o * INDEX,
-        s[COUNTS + o] as usize,
+        s[COUNTS_WORD + o] as usize,
     )
 }
 
@@ -161,15 +161,15 @@ fn adds_up(s: &[u64], home: Flows, far: Flows) -> bool
     ensures { λ b. ⌜ b ≡ sumsAgree (now (s .entry)) ⌝ }
 {
     let zero = Wide { high: 0, low: 0 };
-    let homes = add_balances(s, BALANCES, s[ACCOUNTS] as usize, zero);
+    let homes = add_balances(s, BALANCES_WORD, s[ACCOUNTS_WORD] as usize, zero);
     let held = add_balances(
         s,
-        BALANCES + Ledger::ACCOUNTS,
-        s[ACCOUNTS + 1] as usize,
+        BALANCES_WORD + Ledger::ACCOUNTS,
+        s[ACCOUNTS_WORD + 1] as usize,
         homes,
     );
     let sent = held.add_halves(home.sent.high + far.sent.high, home.sent.low + far.sent.low);
-    let received = zero.add(s[SUPPLY]).add_halves(
+    let received = zero.add(s[SUPPLY_WORD]).add_halves(
         home.received.high + far.received.high,
         home.received.low + far.received.low,
     );
@@ -223,7 +223,7 @@ fn accounts_of(s: &[u64], l: Ledger) -> usize
     requires { ⌜ acceptsPair (now s) ≡ true ⌝ }
     ensures { λ n. ⌜ n ≡ accountsOf (pairViewOf (now (s .entry)) .pair) l ⌝ }
 {
-    s[ACCOUNTS + ledger_index(l)] as usize
+    s[ACCOUNTS_WORD + ledger_index(l)] as usize
 }
 
 // 25 or 31, or 0.
@@ -235,14 +235,14 @@ fn last_refusal<'a>(s: &'a [u64], index: &'a [u16], w: Words, r: Record) -> u32
     let l = ledger_index(kind.ledger());
     if is_receiving(kind) {
         let o = 1 - l;
-        let count = s[COUNTS + o] as usize;
-        let backed = is_backed(s, index, o as u64, o * RECORDS, o * INDEX, count, w);
+        let count = s[COUNTS_WORD + o] as usize;
+        let backed = is_backed(s, index, o as u64, o * RECORD_WORDS, o * INDEX, count, w);
         return refusal_if(!backed, 31);
     }
     funds_refusal(
         s,
-        BALANCES + l * Ledger::ACCOUNTS,
-        s[ACCOUNTS + l] as usize,
+        BALANCES_WORD + l * Ledger::ACCOUNTS,
+        s[ACCOUNTS_WORD + l] as usize,
         r,
     )
 }
@@ -254,12 +254,12 @@ pub fn judge<'a>(s: &'a [u64], index: &'a [u16], w: Words, r: Record) -> u32
 {
     let kind = r.kind;
     let l = ledger_index(kind.ledger());
-    let count = s[COUNTS + l] as usize;
+    let count = s[COUNTS_WORD + l] as usize;
     let senders = accounts_of(s, kind.sender_ledger());
     let receivers = accounts_of(s, kind.receiver_ledger());
     let last = last_refusal(s, index, w, r);
     let full = refusal_if(Ledger::CAPACITY <= count, 41);
-    let used = is_used(s, index, l * RECORDS, l * INDEX, count, r.number);
+    let used = is_used(s, index, l * RECORD_WORDS, l * INDEX, count, r.number);
     first_refusals(senders, receivers, r, used, first_refusal(last, full))
 }
 
@@ -273,15 +273,15 @@ fn pass(state: &mut [u64; WORDS], w: Words, r: Record)
 {
     let kind = r.kind;
     let l = ledger_index(kind.ledger());
-    let count = state[COUNTS + l];
+    let count = state[COUNTS_WORD + l];
     store(
         state,
-        BALANCES + l * Ledger::ACCOUNTS,
-        l * RECORDS + 4 * count as usize,
+        BALANCES_WORD + l * Ledger::ACCOUNTS,
+        l * RECORD_WORDS + 4 * count as usize,
         w,
         r,
     );
-    state[COUNTS + l] = count + 1;
+    state[COUNTS_WORD + l] = count + 1;
 }
 
 // ## The opening
@@ -297,11 +297,11 @@ pub fn open<'a, 'b>(homes: &'a [u64], fars: &'a [u64], state: &'b mut [u64; WORD
     if opening.refusal != 0 {
         return opening.refusal;
     }
-    copy_numbers(homes, BALANCES, state);
-    copy_numbers(fars, BALANCES + Ledger::ACCOUNTS, state);
-    state[SUPPLY] = opening.supply;
-    state[ACCOUNTS] = homes.len() as u64;
-    state[ACCOUNTS + 1] = fars.len() as u64;
+    copy_numbers(homes, BALANCES_WORD, state);
+    copy_numbers(fars, BALANCES_WORD + Ledger::ACCOUNTS, state);
+    state[SUPPLY_WORD] = opening.supply;
+    state[ACCOUNTS_WORD] = homes.len() as u64;
+    state[ACCOUNTS_WORD + 1] = fars.len() as u64;
     0
 }
 
@@ -325,7 +325,7 @@ pub fn step<'a, 'b>(state: &'a mut [u64; WORDS], index: &'b mut [u16; INDEXES], 
     }
     let kind = r.kind;
     let l = ledger_index(kind.ledger());
-    let count = state[COUNTS + l] as usize;
+    let count = state[COUNTS_WORD + l] as usize;
     pass(state, w, r);
     add_number(index, l * INDEX, count, r.number);
     0

@@ -3,7 +3,7 @@ use Rattle.wire.proofs.Prelude.{List, _+_, _-_, _∙_, _≡_, _≤_, ap, arith,
 use Rattle.answers.specs.Answers.{unlessRefused}
 use Rattle.ledgers.specs.Limits.{maxAmount}
 use Rattle.pair_core.proofs.Opened.{opened-view}
-use Rattle.pair_core.specs.Layout.{pairOpenedWords, pairZeroWords, pairSupplyOf}
+use Rattle.pair_core.specs.Layout.{pairOpenedWords, pairSupplyOf, pairZeroWords}
 use Rattle.pair_rows.specs.Rows.{rowOf}
 use Rattle.places.proofs.ExactSums.{added-value}
 use Rattle.places.proofs.Openings.{low-is-wide, total-sum}

@@ -5,7 +5,7 @@ use Rattle.ledgers.specs.Ledgers.{ledgerByte, ledgerOf}
 use Rattle.ledgers.specs.Limits.{capacity}
 use Rattle.pair_core.proofs.Accept.{sound-of}
 use Rattle.pair_core.proofs.Passing.{next-of}
-use Rattle.pair_core.specs.Layout.{PairReady, pairViewOf, pairWith, pairWordsChecker, pairSupplyOf}
+use Rattle.pair_core.specs.Layout.{PairReady, pairSupplyOf, pairViewOf, pairWith, pairWordsChecker}
 use Rattle.pair_rows.specs.Rows.{RowReady, movedRow, rowOf, totalIn}
 use Rattle.pair_rows.specs.declared.Row.{Row}
 use Rattle.places.specs.Entries.{givenBy, takenBy}

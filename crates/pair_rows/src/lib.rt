@@ -9,7 +9,7 @@ ghost use Rattle.rules.specs.Calls.{callOne};
 ghost use Rattle.rules.specs.PairValidator.{pairOpened, pairOpeningRefusal};
 use ledgers::Ledger;
 use pair_core::INDEXES;
-use pair_core::SUPPLY;
+use pair_core::SUPPLY_WORD;
 use pair_core::WORDS;
 use pair_core::open;
 use pair_core::step;
@@ -50,7 +50,7 @@ pub fn first_row<'a, 'b>(homes: &'a [u64], fars: &'a [u64], state: &'b mut [u64;
     Row {
         refusal: 0,
         home: home.low,
-        far: state[SUPPLY] - home.low,
+        far: state[SUPPLY_WORD] - home.low,
         flight: 0,
     }
 }
@@ -98,7 +98,7 @@ pub fn next_row<'a, 'b>(
     ensures leaves { λ r. ⌜ now (state .exit) ≡ callOne pairWordsChecker (now (state .entry)) (now (bytes .entry)) .state ⌝ }
     ensures keeps { λ r. ⌜ RowReady (now (state .exit)) (now (index .exit)) r ⌝ }
 {
-    let supply = state[SUPPLY];
+    let supply = state[SUPPLY_WORD];
     let refusal = step(state, index, bytes);
     if refusal != 0 {
         return Row {

@@ -8,7 +8,7 @@ use Rattle.answers.specs.declared.Answer.the-variants.{Passed}
 use Rattle.ledgers.specs.Limits.{capacity, maxAmount}
 use Rattle.pair_core.proofs.Accept.{sound-of}
 use Rattle.pair_core.proofs.Ledgers.{accounts-fit, balances-within, by-byte, length-held}
-use Rattle.pair_core.specs.Layout.{acceptsPair, accountsOn, balancesStart, countOn, ledgerOn, pairViewOf, pairSupplyOf}
+use Rattle.pair_core.specs.Layout.{acceptsPair, accountsOn, balancesStart, countOn, ledgerOn, pairSupplyOf, pairViewOf}
 use Rattle.pair_validator.specs.Figures.{balancesUnder, pairBalanceOf, pairFiguresOf, pairPlacesOf}
 use Rattle.pair_validator.specs.declared.asked.PairFigures.{PairFigures}
 use Rattle.pair_validator.specs.declared.asked.PairPlaces.{PairPlaces}

@@ -9,11 +9,11 @@ use answers::Balance;
 use answers::balance_among;
 use answers::balance_refused;
 use ledgers::Ledger;
-use pair_core::ACCOUNTS;
-use pair_core::BALANCES;
-use pair_core::COUNTS;
+use pair_core::ACCOUNTS_WORD;
+use pair_core::BALANCES_WORD;
+use pair_core::COUNTS_WORD;
 use pair_core::INDEXES;
-use pair_core::SUPPLY;
+use pair_core::SUPPLY_WORD;
 use pair_core::is_accepted;
 use places::Wide;
 use places::add_balances;
@@ -49,12 +49,12 @@ pub fn figures(state: PairValidator) -> PairFigures
             flight: 0,
         };
     }
-    let supply = state.words[SUPPLY];
-    let homes = state.words[ACCOUNTS] as usize;
-    let fars = state.words[ACCOUNTS + 1] as usize;
+    let supply = state.words[SUPPLY_WORD];
+    let homes = state.words[ACCOUNTS_WORD] as usize;
+    let fars = state.words[ACCOUNTS_WORD + 1] as usize;
     let zero = Wide { high: 0, low: 0 };
-    let home = add_balances(&state.words, BALANCES, homes, zero);
-    let far = add_balances(&state.words, BALANCES + Ledger::ACCOUNTS, fars, zero);
+    let home = add_balances(&state.words, BALANCES_WORD, homes, zero);
+    let far = add_balances(&state.words, BALANCES_WORD + Ledger::ACCOUNTS, fars, zero);
     PairFigures {
         answer: Answer::Passed,
         home: home.low,
@@ -75,8 +75,13 @@ pub fn balance(state: PairValidator, ledger: u8, account: u16) -> Balance
         return balance_refused(22);
     }
     let l = ledger as usize;
-    let open = state.words[ACCOUNTS + l] as usize;
-    balance_among(&state.words, BALANCES + l * Ledger::ACCOUNTS, open, account)
+    let open = state.words[ACCOUNTS_WORD + l] as usize;
+    balance_among(
+        &state.words,
+        BALANCES_WORD + l * Ledger::ACCOUNTS,
+        open,
+        account,
+    )
 }
 
 // The places left on both ledgers, beside the answer.
@@ -97,8 +102,8 @@ pub fn places_left(state: PairValidator) -> PairPlaces
             far: 0,
         };
     }
-    let home = state.words[COUNTS] as usize;
-    let far = state.words[COUNTS + 1] as usize;
+    let home = state.words[COUNTS_WORD] as usize;
+    let far = state.words[COUNTS_WORD + 1] as usize;
     PairPlaces {
         answer: Answer::Passed,
         home: (Ledger::CAPACITY - home) as u64,

@@ -1,20 +1,20 @@
 -- Bytes read as a record exactly when they are its encoding. Assumes nothing.
 use Rattle.wire.proofs.Prelude.{Bool, List, [], _++_, _+_, _<_, _∙_, _∷_, _≡_, _≤_, ap, ap₂, arith, cond, drop, drop-of-length-le, eqb}
 use Rattle.wire.proofs.Prelude.{false, length, refl, subst, suc, sym, true, zero, ℕ}
-use Rattle.ledgers.specs.Ledgers.{ledgerByte, ledgerAt, kindByte, kindAt, ledgerOf}
+use Rattle.ledgers.specs.Ledgers.{kindAt, kindByte, ledgerAt, ledgerByte, ledgerOf}
 use Rattle.ledgers.specs.Limits.{maxAmount}
 use Rattle.ledgers.specs.declared.Kind.{Kind}
-use Rattle.ledgers.specs.declared.Kind.the-variants.{Local, Sending, Receiving}
+use Rattle.ledgers.specs.declared.Kind.the-variants.{Local, Receiving, Sending}
 use Rattle.ledgers.specs.declared.Ledger.{Ledger}
-use Rattle.ledgers.specs.declared.Ledger.the-variants.{Home, Far}
+use Rattle.ledgers.specs.declared.Ledger.the-variants.{Far, Home}
 use Rattle.records.proofs.Formed.{Formed, facts-formed, fields-formed, fieldsIn, formed-facts, formed-reads, read-formed}
 use Rattle.records.proofs.Formed.{words-fields, words-formed-by}
 use Rattle.records.specs.Fields.{fieldBytes}
-use Rattle.records.specs.Records.{Record, Read, reading, encoding, wordsOf, Encodable, Readable, ReadsExactly, EncodingReads}
+use Rattle.records.specs.Records.{Encodable, EncodingReads, Read, Readable, ReadsExactly, Record, encoding, reading, wordsOf}
 use Rattle.records.specs.Records.{EncodedOnce}
 use Rattle.wire.proofs.Lists.{bytes-zeros}
 use Rattle.wire.proofs.Numbers.{bytes-then, drop-field, field-fits, value-back}
-use Rattle.wire.specs.BigEndian.{All, Bytes, valueAfter, field, bytesOf}
+use Rattle.wire.specs.BigEndian.{All, Bytes, bytesOf, field, valueAfter}
 
 -- ## From the bytes
 

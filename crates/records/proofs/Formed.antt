@@ -3,7 +3,7 @@ use Rattle.wire.proofs.Prelude.{Bool, List, _%_, _+_, _-_, _/_, _<_, _^_, _∙_
 use Rattle.wire.proofs.Prelude.{le-leb, leb-true, length, lt-ltb, ltb-true, refl, sym, true, ℕ}
 use Rattle.ledgers.specs.Ledgers.{kindAt, ledgerAt}
 use Rattle.ledgers.specs.Limits.{maxAmount}
-use Rattle.records.specs.Records.{Record, Read, Unreadable, Words, formed, recordIn, reading, readingWords, within, wordsOf}
+use Rattle.records.specs.Records.{Read, Record, Unreadable, Words, formed, reading, readingWords, recordIn, within, wordsOf}
 use Rattle.wire.proofs.Lists.{every-hold, hold-every}
 use Rattle.wire.proofs.Numbers.{field-high, field-low}
 use Rattle.wire.specs.BigEndian.{All, Bytes, field}

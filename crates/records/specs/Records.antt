@@ -6,7 +6,7 @@ use mathlib.Core.Logic.{_↔_}
 use mathlib.Core.Path.{_≡_}
 use lib.Dec.{eqb, ltb, leb}
 use lib.ListN.{length}
-use Rattle.ledgers.specs.Ledgers.{ledgerByte, ledgerAt, kindByte, kindAt, ledgerOf}
+use Rattle.ledgers.specs.Ledgers.{kindAt, kindByte, ledgerAt, ledgerByte, ledgerOf}
 use Rattle.ledgers.specs.Limits.{maxAmount}
 use Rattle.records.specs.Fields.{fieldBytes}
 use Rattle.wire.specs.BigEndian.{Bytes, every, field}

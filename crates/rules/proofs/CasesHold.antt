@@ -1,16 +1,16 @@
 -- Every row of the table of cases holds, by computation. Assumes nothing.
 use mathlib.Core.Path.{refl}
 use Rattle.records.specs.Fields.{fieldBytes}
-use Rattle.records.specs.Records.{formed, recordIn, reading, readingWords, encoding}
-use Rattle.rules.specs.Cases.{caseOpening, homeCaseOpening, afterAll, allPass, homeAfterAll, homeAllPass, shows, holds, good}
-use Rattle.rules.specs.Cases.{openingRows, stateRows, bad, cases, orderRows, nearRows, CasesHold, FurtherRowsHold}
-use Rattle.rules.specs.HomeValidator.{poolRefusal, homeJudgeRecord, homeAccepts}
-use Rattle.rules.specs.Lists.{sum, any, all, lowered, raised}
-use Rattle.rules.specs.PairValidator.{roomRefusal, countAllowed, supplyAllowed, openingRefusal, heldAllowed, unshared, matched}
-use Rattle.rules.specs.PairValidator.{standsUnder, pairAccepts}
-use Rattle.rules.specs.Rules.{clashes, matches, firstRefusal, fundsRefusal, matchRefusal, judge, after, judgeBytes, afterBytes}
+use Rattle.records.specs.Records.{encoding, formed, reading, readingWords, recordIn}
+use Rattle.rules.specs.Cases.{afterAll, allPass, caseOpening, good, holds, homeAfterAll, homeAllPass, homeCaseOpening, shows}
+use Rattle.rules.specs.Cases.{CasesHold, FurtherRowsHold, bad, cases, nearRows, openingRows, orderRows, stateRows}
+use Rattle.rules.specs.HomeValidator.{homeAccepts, homeJudgeRecord, poolRefusal}
+use Rattle.rules.specs.Lists.{all, any, lowered, raised, sum}
+use Rattle.rules.specs.PairValidator.{countAllowed, heldAllowed, matched, openingRefusal, roomRefusal, supplyAllowed, unshared}
+use Rattle.rules.specs.PairValidator.{pairAccepts, standsUnder}
+use Rattle.rules.specs.Rules.{after, afterBytes, clashes, firstRefusal, fundsRefusal, judge, judgeBytes, matchRefusal, matches}
 use Rattle.rules.specs.Rules.{arrived, flight, inFlight}
-use Rattle.wire.specs.BigEndian.{every, same, valueAfter, field, bytesOf}
+use Rattle.wire.specs.BigEndian.{bytesOf, every, field, same, valueAfter}
 
 -- the starred cases
 pub cases-hold : CasesHold

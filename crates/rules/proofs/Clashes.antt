@@ -1,7 +1,7 @@
 -- Laws of clashing records. Only those of the first section open the definition of `clashes`. Assumes nothing.
 use Rattle.wire.proofs.Prelude.{Bool, List, [], _++_, _||_, _∙_, _∷_, _≡_, eq-eqb, eqb, eqb-false, false, ne-eqb, not-true, refl, sym, true}
 use Rattle.wire.proofs.Prelude.{ℕ}
-use Rattle.rules.proofs.Lists.{or-neither, any-snoc}
+use Rattle.rules.proofs.Lists.{any-snoc, or-neither}
 use Rattle.rules.specs.Lists.{any}
 use Rattle.rules.specs.PairValidator.{unshared}
 use Rattle.rules.specs.Rules.{Record, clashes}

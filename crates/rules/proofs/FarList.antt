@@ -10,16 +10,16 @@ use Rattle.ledgers.specs.Ledgers.{ledgerOf}
 use Rattle.ledgers.specs.Limits.{maxAmount}
 use Rattle.records.proofs.Exactly.{encoding-bytes, encoding-reads, reads-exactly}
 use Rattle.records.proofs.Formed.{read-formed}
-use Rattle.records.specs.Records.{recordIn, reading, encoding, Readable, ReadsExactly, EncodingReads}
-use Rattle.rules.proofs.Clashes.{used, clash-used, used-snoc}
-use Rattle.rules.proofs.HomeSound.{pairOf, viewOf, after-home, after-far}
+use Rattle.records.specs.Records.{EncodingReads, Readable, ReadsExactly, encoding, reading, recordIn}
+use Rattle.rules.proofs.Clashes.{clash-used, used, used-snoc}
+use Rattle.rules.proofs.HomeSound.{after-far, after-home, pairOf, viewOf}
 use Rattle.rules.proofs.InFlight.{matched-matches}
-use Rattle.rules.proofs.Lists.{or-neither, any-last, length-moved, length-lowered, length-raised, raised-same, lowered-same}
-use Rattle.rules.proofs.Refusals.{Passable, none-judge, HomePassable, home-judge-none, home-read}
-use Rattle.rules.specs.HomeValidator.{isFar, poolAfter, homeValidator, readsFar, Possible}
-use Rattle.rules.specs.Lists.{sum, none, left, right, total, lowered, raised}
-use Rattle.rules.specs.Rules.{Home, Far, Kind, Local, Sending, Receiving, Record, Read, LedgerState, isSending, matches, judge, held}
-use Rattle.rules.specs.Rules.{judgeBytes, afterBytes, Passes}
+use Rattle.rules.proofs.Lists.{any-last, length-lowered, length-moved, length-raised, lowered-same, or-neither, raised-same}
+use Rattle.rules.proofs.Refusals.{HomePassable, Passable, home-judge-none, home-read, none-judge}
+use Rattle.rules.specs.HomeValidator.{Possible, homeValidator, isFar, poolAfter, readsFar}
+use Rattle.rules.specs.Lists.{left, lowered, none, raised, right, sum, total}
+use Rattle.rules.specs.Rules.{Far, Home, Kind, LedgerState, Local, Read, Receiving, Record, Sending, held, isSending, judge, matches}
+use Rattle.rules.specs.Rules.{Passes, afterBytes, judgeBytes}
 use Rattle.wire.specs.BigEndian.{All, Bytes, field}
 
 -- a far record with a good signature: kind, sender, receiver, number, amount

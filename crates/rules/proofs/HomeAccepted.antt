@@ -5,19 +5,19 @@ use Rattle.answers.proofs.Answers.{refuse-zero}
 use Rattle.ledgers.specs.Ledgers.{ledgerOf}
 use Rattle.ledgers.specs.Limits.{maxAmount}
 use Rattle.records.specs.Records.{reading}
-use Rattle.rules.proofs.Clashes.{Distinct, distinct-snoc, unshared-distinct, distinct-unshared}
+use Rattle.rules.proofs.Clashes.{Distinct, distinct-snoc, distinct-unshared, unshared-distinct}
 use Rattle.rules.proofs.Ledgers.{read-amount}
-use Rattle.rules.proofs.Lists.{every-all, all-every, all-snoc, total-lowered, total-raised, length-lowered, length-moved}
+use Rattle.rules.proofs.Lists.{all-every, all-snoc, every-all, length-lowered, length-moved, total-lowered, total-raised}
 use Rattle.rules.proofs.PairAccepted.{allowed-held, stands-own}
 use Rattle.rules.proofs.PairConserved.{opening-none}
-use Rattle.rules.proofs.Refusals.{first-none, HomePassable, home-judge-none, home-read, is-home}
+use Rattle.rules.proofs.Refusals.{HomePassable, first-none, home-judge-none, home-read, is-home}
 use Rattle.rules.proofs.Runs.{keeps-accepted, run-accepted}
 use Rattle.rules.specs.Calls.{Call, run}
-use Rattle.rules.specs.HomeValidator.{HomeView, homeAccounts, isFar, homeJudgeRecord, homeJudge, poolAfter, HomeKeepsAccepted}
-use Rattle.rules.specs.HomeValidator.{homeAfter, homeAccepts, homeValidator, homeOpeningRefusal, homeOpened}
-use Rattle.rules.specs.Lists.{all, total, lowered}
-use Rattle.rules.specs.PairValidator.{countAllowed, supplyAllowed, heldAllowed, standsUnder}
-use Rattle.rules.specs.Rules.{Home, Far, Kind, Local, Sending, Receiving, Record, Read, debit, credit, moved}
+use Rattle.rules.specs.HomeValidator.{HomeKeepsAccepted, HomeView, homeAccounts, homeJudge, homeJudgeRecord, isFar, poolAfter}
+use Rattle.rules.specs.HomeValidator.{homeAccepts, homeAfter, homeOpened, homeOpeningRefusal, homeValidator}
+use Rattle.rules.specs.Lists.{all, lowered, total}
+use Rattle.rules.specs.PairValidator.{countAllowed, heldAllowed, standsUnder, supplyAllowed}
+use Rattle.rules.specs.Rules.{Far, Home, Kind, Local, Read, Receiving, Record, Sending, credit, debit, moved}
 use Rattle.wire.specs.BigEndian.{All}
 
 -- ## The facts of an accepted state

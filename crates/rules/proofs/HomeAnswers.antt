@@ -1,7 +1,7 @@
 -- A call of the home validator with one record, in every state that it accepts. Assumes nothing.
-use Rattle.rules.proofs.Refusals.{none-room, full-room}
+use Rattle.rules.proofs.Refusals.{full-room, none-room}
 use Rattle.rules.proofs.Runs.{one-passed, one-refused}
-use Rattle.rules.specs.HomeValidator.{homeValidator, HomeAnswersAll}
+use Rattle.rules.specs.HomeValidator.{HomeAnswersAll, homeValidator}
 
 -- what holds of the call
 pub home-answers : HomeAnswersAll

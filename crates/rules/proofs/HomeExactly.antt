@@ -9,18 +9,18 @@ use Rattle.rules.proofs.Clashes.{used}
 use Rattle.rules.proofs.FarList.{gather}
 use Rattle.rules.proofs.HomeAccepted.{home-run-accepted}
 use Rattle.rules.proofs.HomePool.{all-home}
-use Rattle.rules.proofs.HomeSound.{Sound, sound-opened, interleaving-sound}
+use Rattle.rules.proofs.HomeSound.{Sound, interleaving-sound, sound-opened}
 use Rattle.rules.proofs.Lacking.{isIn, lacking}
-use Rattle.rules.proofs.Lists.{or-neither, every-all}
+use Rattle.rules.proofs.Lists.{every-all, or-neither}
 use Rattle.rules.proofs.PairConserved.{opening-none}
-use Rattle.rules.proofs.Runs.{in-turn-append, in-turn-split, reached-run, call-in-turn, in-turn-call}
-use Rattle.rules.specs.Calls.{Call, one, list, recordsIn, handed, CallBytes, Checker, ifPassed, call, run, passedRecords, InTurn}
-use Rattle.rules.specs.HomeValidator.{sent, received, homeValidator, homeOpened, HomeRecord, Possible, mostCapacity}
+use Rattle.rules.proofs.Runs.{call-in-turn, in-turn-append, in-turn-call, in-turn-split, reached-run}
+use Rattle.rules.specs.Calls.{Call, CallBytes, Checker, InTurn, call, handed, ifPassed, list, one, passedRecords, recordsIn, run}
+use Rattle.rules.specs.HomeValidator.{HomeRecord, Possible, homeOpened, homeValidator, mostCapacity, received, sent}
 use Rattle.rules.specs.HomeValidator.{ExactlyWhenPossible}
-use Rattle.rules.specs.Lists.{sum, any, total, cut}
+use Rattle.rules.specs.Lists.{any, cut, sum, total}
 use Rattle.rules.specs.PairValidator.{countAllowed, supplyAllowed}
 use Rattle.rules.specs.Rules.{newLedger, opened}
-use Rattle.wire.proofs.Lists.{all-append, all-take, all-drop}
+use Rattle.wire.proofs.Lists.{all-append, all-drop, all-take}
 use Rattle.wire.specs.BigEndian.{All, Bytes, field}
 
 -- ## A block of numbers that no home record uses

@@ -5,15 +5,15 @@ use Rattle.wire.proofs.Prelude.{List, [], _++_, _+_, _∙_, _∷_, _≡_, ap, a
 use Rattle.answers.proofs.Answers.{or-else-zero}
 use Rattle.records.specs.Records.{reading}
 use Rattle.rules.proofs.HomeAccepted.{home-only, home-run-accepted}
-use Rattle.rules.proofs.InFlight.{sent-snoc, received-snoc}
+use Rattle.rules.proofs.InFlight.{received-snoc, sent-snoc}
 use Rattle.rules.proofs.PairConserved.{records-snoc}
 use Rattle.rules.proofs.Refusals.{HomePassable, home-judge-none, home-read}
 use Rattle.rules.proofs.Runs.{in-turn-split, keep-in-turn, reached-run}
-use Rattle.rules.specs.Calls.{passedRecords, recordsOn, InTurn, stateAfter}
-use Rattle.rules.specs.HomeValidator.{HomeView, sent, received, farPoolOf, homeJudgeRecord, homeJudge, poolAfter, homeAfter}
-use Rattle.rules.specs.HomeValidator.{homeValidator, homeOpened, WithinPool, HomeRecord}
+use Rattle.rules.specs.Calls.{InTurn, passedRecords, recordsOn, stateAfter}
+use Rattle.rules.specs.HomeValidator.{HomeView, farPoolOf, homeAfter, homeJudge, homeJudgeRecord, poolAfter, received, sent}
+use Rattle.rules.specs.HomeValidator.{HomeRecord, WithinPool, homeOpened, homeValidator}
 use Rattle.rules.specs.Lists.{sum}
-use Rattle.rules.specs.Rules.{Home, Far, Kind, Local, Sending, Receiving, Record, Read}
+use Rattle.rules.specs.Rules.{Far, Home, Kind, Local, Read, Receiving, Record, Sending}
 
 -- ## The far pool and the passed records
 

@@ -6,15 +6,15 @@ use Rattle.ledgers.specs.Ledgers.{ledgerOf}
 use Rattle.records.specs.Records.{reading}
 use Rattle.rules.proofs.Clashes.{Distinct}
 use Rattle.rules.proofs.HomePool.{pool-step}
-use Rattle.rules.proofs.InFlight.{sent-snoc, received-snoc}
-use Rattle.rules.proofs.Ledgers.{own-sums, Clean, clean-own, clean-other, crossing}
+use Rattle.rules.proofs.InFlight.{received-snoc, sent-snoc}
+use Rattle.rules.proofs.Ledgers.{Clean, clean-other, clean-own, crossing, own-sums}
 use Rattle.rules.proofs.Lists.{length-moved}
-use Rattle.rules.proofs.Refusals.{none-room, Passable, judge-none, HomePassable, none-home-judge, rules-read, is-home}
-use Rattle.rules.specs.HomeValidator.{HomeView, sent, received, homeAccounts, isFar, homeLastRefusal, homeJudgeRecord, poolAfter}
-use Rattle.rules.specs.HomeValidator.{homeValidator, FarRecord, HomeRecord, HomeFollowsRules}
-use Rattle.rules.specs.Lists.{sum, all, Interleaving, none, left, right, total}
-use Rattle.rules.specs.Rules.{Ledger, Home, Far, Kind, Local, Sending, Receiving, Record, LedgerState, PairState, accountsOf}
-use Rattle.rules.specs.Rules.{newLedger, isReceiving, lastRefusal, judge, held, after, judgeBytes, afterBytes, Passes}
+use Rattle.rules.proofs.Refusals.{HomePassable, Passable, is-home, judge-none, none-home-judge, none-room, rules-read}
+use Rattle.rules.specs.HomeValidator.{HomeView, homeAccounts, homeJudgeRecord, homeLastRefusal, isFar, poolAfter, received, sent}
+use Rattle.rules.specs.HomeValidator.{FarRecord, HomeFollowsRules, HomeRecord, homeValidator}
+use Rattle.rules.specs.Lists.{Interleaving, all, left, none, right, sum, total}
+use Rattle.rules.specs.Rules.{Far, Home, Kind, Ledger, LedgerState, Local, PairState, Receiving, Record, Sending, accountsOf}
+use Rattle.rules.specs.Rules.{Passes, after, afterBytes, held, isReceiving, judge, judgeBytes, lastRefusal, newLedger}
 use Rattle.wire.specs.BigEndian.{All}
 
 -- ## Both ledgers by name

@@ -2,12 +2,12 @@
 -- Assumes nothing.
 use Rattle.wire.proofs.Prelude.{List, [], _++_, _+_, _∷_, _≡_, and-false, and-true, arith, cond, dichotomy, eq-eqb, eqb, eqb-false}
 use Rattle.wire.proofs.Prelude.{eqb-true, false, inl, inr, ne-eqb, or-false, refl, sym, true, ℕ}
-use Rattle.rules.proofs.Clashes.{Distinct, used, clash-used}
-use Rattle.rules.proofs.Lists.{or-neither, or-second, sum-snoc, sum-ext, any-none, every-all, all-every}
-use Rattle.rules.specs.HomeValidator.{sent, received}
-use Rattle.rules.specs.Lists.{sum, any, all}
+use Rattle.rules.proofs.Clashes.{Distinct, clash-used, used}
+use Rattle.rules.proofs.Lists.{all-every, any-none, every-all, or-neither, or-second, sum-ext, sum-snoc}
+use Rattle.rules.specs.HomeValidator.{received, sent}
+use Rattle.rules.specs.Lists.{all, any, sum}
 use Rattle.rules.specs.PairValidator.{matched}
-use Rattle.rules.specs.Rules.{Kind, Record, isSending, isReceiving, matches, arrived, flightBy, flight}
+use Rattle.rules.specs.Rules.{Kind, Record, arrived, flight, flightBy, isReceiving, isSending, matches}
 use Rattle.wire.proofs.Lists.{and-both}
 use Rattle.wire.specs.BigEndian.{All, every}
 

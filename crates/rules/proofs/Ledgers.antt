@@ -3,16 +3,16 @@ use Rattle.wire.proofs.Prelude.{List, [], _++_, _+_, _<_, _∷_, _≡_, _≤_, 
 use Rattle.ledgers.specs.Ledgers.{counterpart}
 use Rattle.ledgers.specs.Limits.{maxAmount}
 use Rattle.records.proofs.Formed.{formed-facts, read-formed}
-use Rattle.records.specs.Records.{recordIn, reading, wordsOf}
+use Rattle.records.specs.Records.{reading, recordIn, wordsOf}
 use Rattle.rules.proofs.Clashes.{Distinct, distinct-snoc}
-use Rattle.rules.proofs.InFlight.{sent-snoc, received-snoc, flight-sums}
-use Rattle.rules.proofs.Lists.{any-snoc, all-snoc, all-weaken, total-lowered, total-raised, length-lowered, length-moved}
+use Rattle.rules.proofs.InFlight.{flight-sums, received-snoc, sent-snoc}
+use Rattle.rules.proofs.Lists.{all-snoc, all-weaken, any-snoc, length-lowered, length-moved, total-lowered, total-raised}
 use Rattle.rules.proofs.Refusals.{Passable}
-use Rattle.rules.specs.HomeValidator.{sent, received}
-use Rattle.rules.specs.Lists.{any, all, total, lowered}
+use Rattle.rules.specs.HomeValidator.{received, sent}
+use Rattle.rules.specs.Lists.{all, any, lowered, total}
 use Rattle.rules.specs.PairValidator.{matched}
-use Rattle.rules.specs.Rules.{Ledger, Home, Far, Kind, Local, Sending, Receiving, Record, Read, LedgerState, PairState, stateOf}
-use Rattle.rules.specs.Rules.{withState, accountsOf, clashes, debit, credit, matches, moved, held, flight}
+use Rattle.rules.specs.Rules.{Far, Home, Kind, Ledger, LedgerState, Local, PairState, Read, Receiving, Record, Sending, stateOf}
+use Rattle.rules.specs.Rules.{accountsOf, clashes, credit, debit, flight, held, matches, moved, withState}
 use Rattle.wire.specs.BigEndian.{field}
 
 -- ## One of two ledgers

@@ -3,7 +3,7 @@ use Rattle.wire.proofs.Prelude.{List, [], _++_, _+_, _<_, _∷_, _≡_, _≤_, 
 use Rattle.wire.proofs.Prelude.{refl, suc, suc-add, take, zero, zero-add, ℕ}
 use Rattle.answers.specs.declared.Answer.the-variants.{Passed, Refused}
 use Rattle.rules.proofs.Lists.{zero-or-more}
-use Rattle.rules.specs.Calls.{Call, one, list, recordsIn, handed, Checker, callOne, callList, ifAccepted, call, InTurn, stateAfter}
+use Rattle.rules.specs.Calls.{Call, Checker, InTurn, call, callList, callOne, handed, ifAccepted, list, one, recordsIn, stateAfter}
 use Rattle.rules.specs.Calls.{ListsInTurn}
 use Rattle.rules.specs.Lists.{cut}
 

@@ -2,9 +2,9 @@
 use Rattle.wire.proofs.Prelude.{Bool, List, [], _++_, _+_, _-_, _<_, _||_, _∙_, _∷_, _≡_, _≤_, _⊎_, ap, arith, dichotomy, false, getD}
 use Rattle.wire.proofs.Prelude.{getD-set-same, inl, inr, length, length-set, or-assoc, or-false, or-true, refl, set, suc, sym, true, zero}
 use Rattle.wire.proofs.Prelude.{ℕ}
-use Rattle.rules.specs.Lists.{sum, any, all, total, lowered, raised}
-use Rattle.rules.specs.Rules.{Kind, Local, Sending, Receiving, Record, debit, credit, moved}
-use Rattle.wire.proofs.Lists.{and-both, every-none, every-first, every-both}
+use Rattle.rules.specs.Lists.{all, any, lowered, raised, sum, total}
+use Rattle.rules.specs.Rules.{Kind, Local, Receiving, Record, Sending, credit, debit, moved}
+use Rattle.wire.proofs.Lists.{and-both, every-both, every-first, every-none}
 use Rattle.wire.specs.BigEndian.{All, every}
 
 -- ## Tests

@@ -1,13 +1,13 @@
 -- No call in an accepted state answers 3. Assumes nothing.
 use Rattle.wire.proofs.Prelude.{Bool, List, _∙_, _≡_, eqb, eqb-false, false, refl, suc, true, zero, ℕ}
-use Rattle.answers.specs.Answers.{answer, refuse, orElse}
+use Rattle.answers.specs.Answers.{answer, orElse, refuse}
 use Rattle.answers.specs.declared.Answer.the-variants.{Refused}
-use Rattle.rules.proofs.Runs.{outcome, passes, refuses, never-both}
+use Rattle.rules.proofs.Runs.{never-both, outcome, passes, refuses}
 use Rattle.rules.specs.Calls.{Call, Checker, call}
-use Rattle.rules.specs.HomeValidator.{HomeView, poolRefusal, homeLastRefusal, homeJudgeRecord, homeJudge}
-use Rattle.rules.specs.PairValidator.{roomRefusal, pairJudge}
-use Rattle.rules.specs.Rules.{Kind, Local, Sending, Receiving, Reading, Read, Unreadable, PairState, firstRefusal, fundsRefusal}
-use Rattle.rules.specs.Rules.{matchRefusal, lastRefusal, judge}
+use Rattle.rules.specs.HomeValidator.{HomeView, homeJudge, homeJudgeRecord, homeLastRefusal, poolRefusal}
+use Rattle.rules.specs.PairValidator.{pairJudge, roomRefusal}
+use Rattle.rules.specs.Rules.{Kind, Local, PairState, Read, Reading, Receiving, Sending, Unreadable, firstRefusal, fundsRefusal}
+use Rattle.rules.specs.Rules.{judge, lastRefusal, matchRefusal}
 
 -- ## A judgement that is never 3
 

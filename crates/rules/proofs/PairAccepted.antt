@@ -1,19 +1,19 @@
 -- A pass keeps a state of the pair validator accepted, whatever accepted state it starts from. Assumes nothing.
 use Rattle.wire.proofs.Prelude.{List, [], _+_, _<_, _∷_, _≡_, _≤_, arith, eq-eqb, eqb-true, le-leb, leb-true, length, length-append, lt-ltb}
 use Rattle.wire.proofs.Prelude.{ltb-true, refl, true, ℕ}
-use Rattle.ledgers.specs.Ledgers.{counterpart, ledgerOf, senderLedger, receiverLedger}
+use Rattle.ledgers.specs.Ledgers.{counterpart, ledgerOf, receiverLedger, senderLedger}
 use Rattle.ledgers.specs.Limits.{maxAmount}
 use Rattle.records.specs.Records.{reading}
 use Rattle.rules.proofs.Bytes.{same-own}
-use Rattle.rules.proofs.Clashes.{unshared-distinct, distinct-unshared}
-use Rattle.rules.proofs.Ledgers.{accounts-with, own-sums, Clean, clean-own, clean-other, crossing, read-amount}
-use Rattle.rules.proofs.Lists.{every-all, all-every, all-snoc, length-moved}
-use Rattle.rules.proofs.Refusals.{Allowed, first-none, none-first, Passable, judge-none, pair-read}
+use Rattle.rules.proofs.Clashes.{distinct-unshared, unshared-distinct}
+use Rattle.rules.proofs.Ledgers.{Clean, accounts-with, clean-other, clean-own, crossing, own-sums, read-amount}
+use Rattle.rules.proofs.Lists.{all-every, all-snoc, every-all, length-moved}
+use Rattle.rules.proofs.Refusals.{Allowed, Passable, first-none, judge-none, none-first, pair-read}
 use Rattle.rules.proofs.Runs.{keeps-accepted}
-use Rattle.rules.specs.Lists.{any, all, total}
-use Rattle.rules.specs.PairValidator.{PairView, pairJudge, countAllowed, supplyAllowed, heldAllowed, standsUnder, PairKeepsAccepted}
+use Rattle.rules.specs.Lists.{all, any, total}
+use Rattle.rules.specs.PairValidator.{PairKeepsAccepted, PairView, countAllowed, heldAllowed, pairJudge, standsUnder, supplyAllowed}
 use Rattle.rules.specs.PairValidator.{pairAccepts, pairValidator}
-use Rattle.rules.specs.Rules.{Ledger, Home, Far, Record, LedgerState, PairState, stateOf, withState, accountsOf, judge, held, after}
+use Rattle.rules.specs.Rules.{Far, Home, Ledger, LedgerState, PairState, Record, accountsOf, after, held, judge, stateOf, withState}
 use Rattle.rules.specs.Rules.{afterBytes, flight, inFlight}
 use Rattle.wire.specs.BigEndian.{All}
 

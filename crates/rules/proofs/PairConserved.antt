@@ -8,11 +8,11 @@ use Rattle.rules.proofs.Lists.{every-all}
 use Rattle.rules.proofs.PairAccepted.{accepts-facts, facts-accepts, pair-step}
 use Rattle.rules.proofs.Refusals.{pair-read}
 use Rattle.rules.proofs.Runs.{keep-run, run-accepted}
-use Rattle.rules.specs.Calls.{run, passedRecords, ifOn, readOn, recordsOn}
-use Rattle.rules.specs.Lists.{sum, all, total}
-use Rattle.rules.specs.PairValidator.{PairView, pairJudge, countAllowed, supplyAllowed, pairAccepts, pairValidator, openingRefusal}
-use Rattle.rules.specs.PairValidator.{pairOpeningRefusal, pairOpened, inFlightOf, Conserved}
-use Rattle.rules.specs.Rules.{Ledger, Home, Far, Record, PairState, stateOf, withState, held, after, afterBytes, flight, inFlight}
+use Rattle.rules.specs.Calls.{ifOn, passedRecords, readOn, recordsOn, run}
+use Rattle.rules.specs.Lists.{all, sum, total}
+use Rattle.rules.specs.PairValidator.{PairView, countAllowed, openingRefusal, pairAccepts, pairJudge, pairValidator, supplyAllowed}
+use Rattle.rules.specs.PairValidator.{Conserved, inFlightOf, pairOpened, pairOpeningRefusal}
+use Rattle.rules.specs.Rules.{Far, Home, Ledger, PairState, Record, after, afterBytes, flight, held, inFlight, stateOf, withState}
 use Rattle.wire.specs.BigEndian.{All}
 
 -- ## The passed records of a run

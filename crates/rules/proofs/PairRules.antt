@@ -1,9 +1,9 @@
 -- Demand 2: in every state that it accepts the pair validator answers as the rules do. Assumes nothing.
 use Rattle.answers.proofs.Answers.{or-else-zero}
-use Rattle.rules.proofs.Refusals.{room-none, none-room, full-room}
-use Rattle.rules.proofs.Runs.{call-in-turn, refused-unaltered, one-passed, one-refused}
-use Rattle.rules.specs.Calls.{InTurn, one, RefusedUnaltered}
-use Rattle.rules.specs.PairValidator.{pairValidator, AsTheRules}
+use Rattle.rules.proofs.Refusals.{full-room, none-room, room-none}
+use Rattle.rules.proofs.Runs.{call-in-turn, one-passed, one-refused, refused-unaltered}
+use Rattle.rules.specs.Calls.{InTurn, RefusedUnaltered, one}
+use Rattle.rules.specs.PairValidator.{AsTheRules, pairValidator}
 use Rattle.rules.specs.Rules.{judge, judgeBytes}
 
 -- demand 2, its first half

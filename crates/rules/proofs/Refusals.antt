@@ -3,13 +3,13 @@ use Rattle.wire.proofs.Prelude.{Iff·rfl, List, _<_, _↔_, _≡_, _≤_, arith
 use Rattle.wire.proofs.Prelude.{ltb-false, not-false, refl, subst, sym, true, ℕ}
 use Rattle.rules.proofs.Lists.{never-both-tests}
 use Rattle.answers.proofs.Answers.{or-else-zero, refuse-zero}
-use Rattle.ledgers.specs.Ledgers.{counterpart, ledgerOf, senderLedger, receiverLedger}
-use Rattle.rules.specs.HomeValidator.{HomeView, homeAccounts, isFar, poolRefusal, homeLastRefusal, homeJudgeRecord, homeJudge}
+use Rattle.ledgers.specs.Ledgers.{counterpart, ledgerOf, receiverLedger, senderLedger}
+use Rattle.rules.specs.HomeValidator.{HomeView, homeAccounts, homeJudge, homeJudgeRecord, homeLastRefusal, isFar, poolRefusal}
 use Rattle.rules.specs.Lists.{any}
-use Rattle.rules.specs.PairValidator.{roomRefusal, pairJudge}
-use Rattle.rules.specs.Rules.{Reading, Read, Unreadable, judgeReading, Ledger, Home, Far, Kind, Local, Sending, Receiving, Record}
-use Rattle.rules.specs.Rules.{LedgerState, PairState, stateOf, accountsOf, clashes, debit, matches, firstRefusal, fundsRefusal}
-use Rattle.rules.specs.Rules.{matchRefusal, lastRefusal, judge}
+use Rattle.rules.specs.PairValidator.{pairJudge, roomRefusal}
+use Rattle.rules.specs.Rules.{Far, Home, Kind, Ledger, Local, Read, Reading, Receiving, Record, Sending, Unreadable, judgeReading}
+use Rattle.rules.specs.Rules.{LedgerState, PairState, accountsOf, clashes, debit, firstRefusal, fundsRefusal, matches, stateOf}
+use Rattle.rules.specs.Rules.{judge, lastRefusal, matchRefusal}
 
 -- ## 22, 23 and 24
 

@@ -5,8 +5,8 @@ use Rattle.wire.proofs.Prelude.{ℕ}
 use Rattle.answers.specs.declared.Answer.the-variants.{Passed, Refused}
 use Rattle.rules.proofs.ListCalls.{call-list, list-all}
 use Rattle.rules.proofs.Lists.{never-both-tests, zero-or-more}
-use Rattle.rules.specs.Calls.{Call, one, handed, Checker, Result, ifPassed, callOne, callList, call, run, InTurn, stateAfter}
-use Rattle.rules.specs.Calls.{passedRecords, RefusedUnaltered, KeepsAccepted}
+use Rattle.rules.specs.Calls.{Call, Checker, InTurn, Result, call, callList, callOne, handed, ifPassed, one, run, stateAfter}
+use Rattle.rules.specs.Calls.{KeepsAccepted, RefusedUnaltered, passedRecords}
 
 -- no answer is both a pass and a refusal
 pub never-both : (n place : ℕ) → Passed ≡ Refused n place → ⊥

@@ -3,7 +3,7 @@
 use Rattle.wire.proofs.Prelude.{List, [], _∙_, _∷_, _≡_, dichotomy, inl, inr, refl, suc, sym, ℕ}
 use Rattle.rules.proofs.ListCalls.{call-list}
 use Rattle.rules.proofs.Lists.{zero-or-more}
-use Rattle.rules.specs.Calls.{Call, handed, Checker, Result, callList, call, run, passedRecords}
+use Rattle.rules.specs.Calls.{Call, Checker, Result, call, callList, handed, passedRecords, run}
 
 -- c over S and d over R agree in every state of S with the invariant, and each passed record keeps that
 module _ {S R : Type 0} (c : Checker S) (d : Checker R) (view : S → R) (Inv : S → Type 0)

@@ -3,16 +3,16 @@ use Rattle.wire.proofs.Prelude.{Bool, List, [], _++_, _∙_, _∷_, _≡_, ap, 
 use Rattle.ledgers.specs.Ledgers.{counterpart, ledgerOf}
 use Rattle.records.specs.Records.{reading}
 use Rattle.rules.proofs.Clashes.{clash-self}
-use Rattle.rules.proofs.InFlight.{matches-matched, matched-matches}
-use Rattle.rules.proofs.Ledgers.{counterpart-twice, accounts-with}
-use Rattle.rules.proofs.Lists.{never-both-tests, any-append, any-split, any-last}
+use Rattle.rules.proofs.InFlight.{matched-matches, matches-matched}
+use Rattle.rules.proofs.Ledgers.{accounts-with, counterpart-twice}
+use Rattle.rules.proofs.Lists.{any-append, any-last, any-split, never-both-tests}
 use Rattle.rules.proofs.PairConserved.{passed-after}
-use Rattle.rules.proofs.Refusals.{first-none, Passable, judge-none, none-judge, rules-read}
-use Rattle.rules.specs.Beyond.{ClosedUnderBeginnings, NoClashPasses, NonePassesTwice, ReceivingsWereSent, receivingOf, SendingsArrive}
+use Rattle.rules.proofs.Refusals.{Passable, first-none, judge-none, none-judge, rules-read}
+use Rattle.rules.specs.Beyond.{ClosedUnderBeginnings, NoClashPasses, NonePassesTwice, ReceivingsWereSent, SendingsArrive, receivingOf}
 use Rattle.rules.specs.Cases.{afterAll}
 use Rattle.rules.specs.Lists.{any}
-use Rattle.rules.specs.Rules.{Ledger, Home, Far, Sending, Receiving, Record, Reading, Read, Unreadable, PairState, stateOf}
-use Rattle.rules.specs.Rules.{accountsOf, isSending, clashes, matches, judge, after, afterReading, judgeBytes, afterBytes, Passes}
+use Rattle.rules.specs.Rules.{Far, Home, Ledger, PairState, Read, Reading, Receiving, Record, Sending, Unreadable, stateOf}
+use Rattle.rules.specs.Rules.{Passes, accountsOf, after, afterBytes, afterReading, clashes, isSending, judge, judgeBytes, matches}
 
 -- ## Beginnings
 

@@ -7,7 +7,7 @@ use Rattle.ledgers.specs.Ledgers.{counterpart, ledgerOf}
 use Rattle.records.specs.Records.{reading}
 use Rattle.rules.specs.Cases.{afterAll}
 use Rattle.rules.specs.Lists.{any}
-use Rattle.rules.specs.Rules.{Ledger, Sending, Receiving, Record, Read, PairState, stateOf, isSending, clashes, judge, Passes}
+use Rattle.rules.specs.Rules.{Ledger, PairState, Passes, Read, Receiving, Record, Sending, clashes, isSending, judge, stateOf}
 
 -- every beginning of a list that passes the rules passes them (D3.2, section 6.3: closed under prefixes)
 unfoldable pub ClosedUnderBeginnings : Type 0

@@ -11,7 +11,7 @@ use Rattle.answers.specs.declared.Answer.the-variants.{Passed, Refused}
 use Rattle.ledgers.specs.Ledgers.{ledgerOf}
 use Rattle.records.specs.Records.{reading}
 use Rattle.rules.specs.Lists.{cut}
-use Rattle.rules.specs.Rules.{Ledger, Home, Far, Record, Reading, Read, Unreadable}
+use Rattle.rules.specs.Rules.{Far, Home, Ledger, Read, Reading, Record, Unreadable}
 use Rattle.wire.specs.BigEndian.{Bytes}
 
 -- ## Calls

@@ -8,10 +8,10 @@ use lib.Dec.{eqb}
 use lib.ListN.{set, replicate}
 use Rattle.ledgers.specs.Limits.{capacity}
 use Rattle.records.specs.Records.{encoding}
-use Rattle.rules.specs.HomeValidator.{HomeView, homeValidator, homeOpened, homeAccepts, homeOpeningRefusal}
+use Rattle.rules.specs.HomeValidator.{HomeView, homeAccepts, homeOpened, homeOpeningRefusal, homeValidator}
 use Rattle.rules.specs.Lists.{all}
-use Rattle.rules.specs.PairValidator.{pairOpeningRefusal, PairView, pairAccepts, pairOpened}
-use Rattle.rules.specs.Rules.{Home, Far, Kind, Local, Sending, Receiving, PairState, opened, judgeBytes, afterBytes, inFlight, Record}
+use Rattle.rules.specs.PairValidator.{PairView, pairAccepts, pairOpened, pairOpeningRefusal}
+use Rattle.rules.specs.Rules.{Far, Home, Kind, Local, PairState, Receiving, Record, Sending, afterBytes, inFlight, judgeBytes, opened}
 use Rattle.wire.specs.BigEndian.{every, same}
 
 -- ## Rows

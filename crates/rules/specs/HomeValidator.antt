@@ -7,16 +7,16 @@ use mathlib.Core.List.{List, [], _∷_, _++_}
 use mathlib.Core.Logic.{_↔_}
 use lib.Dec.{eqb, ltb, leb}
 use lib.ListN.{length}
-use Rattle.answers.specs.Answers.{refuse, orElse}
+use Rattle.answers.specs.Answers.{orElse, refuse}
 use Rattle.answers.specs.declared.Answer.the-variants.{Passed, Refused}
 use Rattle.ledgers.specs.Ledgers.{ledgerOf}
 use Rattle.records.specs.Records.{reading, readingRefusal}
-use Rattle.rules.specs.Calls.{Call, handed, CallBytes, Checker, call, run, passedRecords, recordsOn, KeepsAccepted, one}
-use Rattle.rules.specs.Lists.{sum, all, Interleaving, total}
-use Rattle.rules.specs.PairValidator.{roomRefusal, countAllowed, supplyAllowed, heldAllowed, unshared, standsUnder, openingRefusal}
-use Rattle.rules.specs.Rules.{Ledger, Home, Far, Kind, Local, Sending, Receiving, Record, Reading, Read, Unreadable, LedgerState}
-use Rattle.rules.specs.Rules.{PairState, newLedger, opened, isSending, isReceiving, firstRefusal, fundsRefusal, judge, held}
-use Rattle.rules.specs.Rules.{after, Passes}
+use Rattle.rules.specs.Calls.{Call, CallBytes, Checker, KeepsAccepted, call, handed, one, passedRecords, recordsOn, run}
+use Rattle.rules.specs.Lists.{Interleaving, all, sum, total}
+use Rattle.rules.specs.PairValidator.{countAllowed, heldAllowed, openingRefusal, roomRefusal, standsUnder, supplyAllowed, unshared}
+use Rattle.rules.specs.Rules.{Far, Home, Kind, Ledger, LedgerState, Local, Read, Reading, Receiving, Record, Sending, Unreadable}
+use Rattle.rules.specs.Rules.{PairState, firstRefusal, fundsRefusal, held, isReceiving, isSending, judge, newLedger, opened}
+use Rattle.rules.specs.Rules.{Passes, after}
 use Rattle.wire.specs.BigEndian.{All, Bytes, every}
 
 -- ## The state

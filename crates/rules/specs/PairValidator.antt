@@ -7,15 +7,15 @@ use mathlib.Core.List.{List, [], _∷_}
 use mathlib.Core.Logic.{_↔_}
 use lib.Dec.{eqb, ltb, leb}
 use lib.ListN.{length}
-use Rattle.answers.specs.Answers.{refuse, orElse}
+use Rattle.answers.specs.Answers.{orElse, refuse}
 use Rattle.answers.specs.declared.Answer.the-variants.{Passed, Refused}
 use Rattle.ledgers.specs.Ledgers.{ledgerOf}
 use Rattle.ledgers.specs.Limits.{accountLimit, maxAmount}
 use Rattle.records.specs.Records.{reading}
-use Rattle.rules.specs.Calls.{Call, one, Checker, call, run, passedRecords, recordsOn, KeepsAccepted}
-use Rattle.rules.specs.Lists.{any, all, total}
-use Rattle.rules.specs.Rules.{Ledger, Home, Far, Record, Reading, Read, Unreadable, PairState, stateOf, accountsOf, opened}
-use Rattle.rules.specs.Rules.{isReceiving, clashes, matches, firstRefusal, judge, judgeReading, judgeBytes, afterBytes}
+use Rattle.rules.specs.Calls.{Call, Checker, KeepsAccepted, call, one, passedRecords, recordsOn, run}
+use Rattle.rules.specs.Lists.{all, any, total}
+use Rattle.rules.specs.Rules.{Far, Home, Ledger, PairState, Read, Reading, Record, Unreadable, accountsOf, opened, stateOf}
+use Rattle.rules.specs.Rules.{afterBytes, clashes, firstRefusal, isReceiving, judge, judgeBytes, judgeReading, matches}
 use Rattle.rules.specs.Rules.{flightBoth, inFlight}
 use Rattle.wire.specs.BigEndian.{every}
 

@@ -8,14 +8,14 @@ use mathlib.Core.List.{List, [], _∷_, _++_}
 use lib.Dec.{eqb, ltb, leb}
 use lib.ListN.{length, getD}
 use Rattle.answers.specs.Answers.{refuse}
-use Rattle.ledgers.specs.Ledgers.{counterpart, ledgerOf, senderLedger, receiverLedger}
+use Rattle.ledgers.specs.Ledgers.{counterpart, ledgerOf, receiverLedger, senderLedger}
 use Rattle.records.specs.Records.{reading, readingRefusal}
-use Rattle.rules.specs.Lists.{sum, any, lowered, raised}
+use Rattle.rules.specs.Lists.{any, lowered, raised, sum}
 use Rattle.wire.specs.BigEndian.{every}
 pub use Rattle.ledgers.specs.declared.Ledger.{Ledger}
-pub use Rattle.ledgers.specs.declared.Ledger.the-variants.{Home, Far}
+pub use Rattle.ledgers.specs.declared.Ledger.the-variants.{Far, Home}
 pub use Rattle.ledgers.specs.declared.Kind.{Kind}
-pub use Rattle.ledgers.specs.declared.Kind.the-variants.{Local, Sending, Receiving}
+pub use Rattle.ledgers.specs.declared.Kind.the-variants.{Local, Receiving, Sending}
 pub use Rattle.records.specs.declared.Record.{Record}
 pub use Rattle.records.specs.declared.Reading.{Reading}
 pub use Rattle.records.specs.declared.Reading.the-variants.{Read, Unreadable}

@@ -1,6 +1,6 @@
 -- The digest is 32 bytes. Assumes nothing.
 use Rattle.wire.proofs.Prelude.{List, _≡_, length, refl, ℕ}
-use Rattle.sha256.specs.Sha256.{sha256, hashBytes}
+use Rattle.sha256.specs.Sha256.{hashBytes, sha256}
 use Rattle.wire.proofs.Numbers.{bytes-bytesOf, bytes-then}
 use Rattle.wire.specs.BigEndian.{Bytes, bytesOf}
 

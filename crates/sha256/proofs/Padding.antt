@@ -3,7 +3,7 @@ use Rattle.wire.proofs.Prelude.{List, [], _%_, _*_, _++_, _+_, _-_, _/_, _^_, _
 use Rattle.wire.proofs.Prelude.{drop-append-le, drop-at, drop-drop, getD, length, length-append, length-drop, length-replicate}
 use Rattle.wire.proofs.Prelude.{length-take-le, replicate, replicate-append-replicate, set, set-append-seam, suc, sym, take, take-add}
 use Rattle.wire.proofs.Prelude.{take-all, take-append-le, take-at, take-length, take-take, ℕ}
-use Rattle.sha256.specs.Sha256.{zeroCount, padding, padded, block, compressed, hashed, hashBytes}
+use Rattle.sha256.specs.Sha256.{block, compressed, hashBytes, hashed, padded, padding, zeroCount}
 use Rattle.sha256.specs.declared.compression.Hash.{Hash}
 use Rattle.wire.proofs.Numbers.{length-bytesOf}
 use Rattle.wire.specs.BigEndian.{bytesOf}

@@ -1,8 +1,8 @@
 -- Laws of the message schedule and of the rounds, one word and sixteen words at a time. Assumes nothing.
 use Rattle.wire.proofs.Prelude.{List, List·getD-append, [], _++_, _+_, _-_, _<_, _∙_, _∷_, _≡_, _≤_, ap, arith, eq-or-lt-of-le, getD}
 use Rattle.wire.proofs.Prelude.{getD-at, length, length-append, ltb, ltb-true, refl, suc, sym, true, zero, ℕ, ⊎-elim}
-use Rattle.sha256.specs.Sha256.{K, word, words, nextWord, schedule, round, rounds, sums, compressed}
-use Rattle.sha256.specs.Sixteen.{nextOf, sixteenWordsOf, Follows, wordsFrom, sixteenRounds}
+use Rattle.sha256.specs.Sha256.{K, compressed, nextWord, round, rounds, schedule, sums, word, words}
+use Rattle.sha256.specs.Sixteen.{Follows, nextOf, sixteenRounds, sixteenWordsOf, wordsFrom}
 use Rattle.sha256.specs.declared.compression.Hash.{Hash}
 use Rattle.sha256.specs.declared.compression.Words.{Words}
 

@@ -3,7 +3,7 @@ use Prim.Native.Nat.{ℕ, _+_}
 use mathlib.Core.List.{List}
 use mathlib.Core.Path.{_≡_}
 use lib.ListN.{getD}
-use Rattle.sha256.specs.Sha256.{_⊞_, σ₀, σ₁, word, round}
+use Rattle.sha256.specs.Sha256.{_⊞_, round, word, σ₀, σ₁}
 use Rattle.sha256.specs.declared.compression.Hash.{Hash}
 use Rattle.sha256.specs.declared.compression.Words.{Words}
 

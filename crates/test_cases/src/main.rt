@@ -229,14 +229,14 @@ fn full_table() {
 fn forged() {
     let bytes = bytes_of(Kind::Local(Ledger::Home), 0, 1, 1, 1);
     let mut one_changed = opened();
-    one_changed.words[pair_core::BALANCES] = 101;
+    one_changed.words[pair_core::BALANCES_WORD] = 101;
     pair_one(0, one_changed, bytes);
     let mut exchanged = opened();
-    exchanged.words[pair_core::BALANCES] = 50;
-    exchanged.words[pair_core::BALANCES + 1] = 100;
+    exchanged.words[pair_core::BALANCES_WORD] = 50;
+    exchanged.words[pair_core::BALANCES_WORD + 1] = 100;
     pair_one(0, exchanged, bytes);
     let mut pool = home_opened();
-    pool.words[home_core::POOL] = 21;
+    pool.words[home_core::POOL_WORD] = 21;
     home_one(0, pool, bytes);
 }
 

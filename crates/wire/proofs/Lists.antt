@@ -2,7 +2,7 @@
 use Rattle.wire.proofs.Prelude.{Bool, List, [], _&&_, _++_, _+_, _-_, _<_, _∙_, _∷_, _≡_, _≤_, add-one, and-true, ap, ap₂, arith}
 use Rattle.wire.proofs.Prelude.{drop, drop-cons, drop-of-length-le, eq-eqb, eqb, eqb-true, false, false≢true, getD, length, refl}
 use Rattle.wire.proofs.Prelude.{replicate, suc, sym, take, true, zero, ℕ}
-use Rattle.wire.specs.BigEndian.{All, Bytes, every, zeros, same}
+use Rattle.wire.specs.BigEndian.{All, Bytes, every, same, zeros}
 
 -- ## Tests
 

@@ -4,8 +4,8 @@ use Rattle.wire.proofs.Prelude.{drop-cons, drop-drop, drop-of-length-le
 use Rattle.wire.proofs.Prelude.{mod-eq-of-lt, mul-add-div-right, mul-comm, one-le-pow, pow-suc, refl, subst, suc, sym, take}
 use Rattle.wire.proofs.Prelude.{take-add, take-append-drop, take-nil, zero, ℕ}
 use lib.Arith.{digits-lt, digits-div, digits-mod, mod-mul}
-use Rattle.wire.proofs.Lists.{all-take, all-drop, bytes-append}
-use Rattle.wire.specs.BigEndian.{All, Bytes, valueAfter, value, field, bytesOf}
+use Rattle.wire.proofs.Lists.{all-drop, all-take, bytes-append}
+use Rattle.wire.specs.BigEndian.{All, Bytes, bytesOf, field, value, valueAfter}
 
 -- a power of 256 is positive
 pub positive : (k : ℕ) → 0 < 256 ^ k

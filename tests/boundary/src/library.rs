@@ -27,7 +27,7 @@ impl Library {
         &mut self,
         state: S,
         bytes: &[u8],
-        call: unsafe extern "C" fn(*mut S, *const u8, usize) -> ffi::Told,
+        call: unsafe extern "C" fn(*mut S, *const u8, usize) -> ffi::PlainAnswer,
     ) -> (Answer, S) {
         let mut words = words_of(&state).to_vec();
         let lent = self.state.lend(&words).cast::<S>();
@@ -63,13 +63,13 @@ fn of_words<S: Words>(words: &[u64]) -> S {
 
 /// An answer as it crosses. One whose number and `passed` contradict each other, or that passed with a place, is no answer of the papers,
 /// and differs from every one of theirs.
-fn answer(told: ffi::Told) -> Answer {
+fn answer(told: ffi::PlainAnswer) -> Answer {
     match told {
-        ffi::Told { number: 0, passed: 1, place: 0 } => Answer::Passed,
-        ffi::Told { number: number @ 1.., passed: 0, place } => {
+        ffi::PlainAnswer { number: 0, passed: 1, place: 0 } => Answer::Passed,
+        ffi::PlainAnswer { number: number @ 1.., passed: 0, place } => {
             Answer::Refused { number: u8::try_from(number).unwrap_or(u8::MAX), place }
         }
-        ffi::Told { place, .. } => Answer::Refused { number: u8::MAX, place },
+        ffi::PlainAnswer { place, .. } => Answer::Refused { number: u8::MAX, place },
     }
 }
 
@@ -89,11 +89,11 @@ fn home_back(state: &HomeValidator) -> HomeState {
     HomeState::from_words(words_of(state).try_into().expect("as many words"))
 }
 
-fn pair_out(told: ffi::PairTold) -> (Answer, Box<PairState>) {
+fn pair_out(told: ffi::PairOutcome) -> (Answer, Box<PairState>) {
     (answer(told.answer), Box::new(pair_back(&told.state)))
 }
 
-fn home_out(told: ffi::HomeTold) -> (Answer, Box<HomeState>) {
+fn home_out(told: ffi::HomeOutcome) -> (Answer, Box<HomeState>) {
     (answer(told.answer), Box::new(home_back(&told.state)))
 }
 
@@ -180,7 +180,7 @@ impl Part for Library {
 
     fn record_read(&mut self, bytes: &[u8]) -> (Answer, Held) {
         let told = unsafe { ffi::moatbetony_record_read(self.first.lend(bytes), bytes.len()) };
-        let ffi::RecordTold { answer: told, kind, ledger, sender, receiver, number, amount, verdict } = told;
+        let ffi::PlainRecord { answer: told, kind, ledger, sender, receiver, number, amount, verdict } = told;
         (answer(told), Held { kind, ledger, sender, receiver, number, amount, verdict })
     }
 

@@ -6,23 +6,23 @@ use std::collections::BTreeMap;
 
 // The structs' names here and in the Rattle sources.
 const STRUCTS: [(&str, &str); 17] = [
-    ("moatbetony_answer_t", "Told"),
+    ("moatbetony_answer_t", "PlainAnswer"),
     ("moatbetony_held_t", "Held"),
     ("moatbetony_pair_t", "PairValidator"),
     ("moatbetony_home_t", "HomeValidator"),
-    ("moatbetony_pair_outcome_t", "PairTold"),
-    ("moatbetony_pair_figures_t", "PairFiguresTold"),
-    ("moatbetony_pair_places_t", "PairPlacesTold"),
-    ("moatbetony_home_outcome_t", "HomeTold"),
-    ("moatbetony_home_figures_t", "HomeFiguresTold"),
-    ("moatbetony_home_places_t", "HomePlacesTold"),
-    ("moatbetony_balance_t", "BalanceTold"),
-    ("moatbetony_record_t", "RecordTold"),
-    ("moatbetony_encoded_t", "EncodedTold"),
-    ("moatbetony_part_t", "PartTold"),
-    ("moatbetony_count_t", "CountTold"),
-    ("moatbetony_balances_t", "BalancesTold"),
-    ("moatbetony_digest_t", "DigestTold"),
+    ("moatbetony_pair_outcome_t", "PairOutcome"),
+    ("moatbetony_pair_figures_t", "PlainPairFigures"),
+    ("moatbetony_pair_places_t", "PlainPairPlaces"),
+    ("moatbetony_home_outcome_t", "HomeOutcome"),
+    ("moatbetony_home_figures_t", "PlainHomeFigures"),
+    ("moatbetony_home_places_t", "PlainHomePlaces"),
+    ("moatbetony_balance_t", "PlainBalance"),
+    ("moatbetony_record_t", "PlainRecord"),
+    ("moatbetony_encoded_t", "PlainEncoded"),
+    ("moatbetony_part_t", "PlainPart"),
+    ("moatbetony_count_t", "PlainCount"),
+    ("moatbetony_balances_t", "PlainBalances"),
+    ("moatbetony_digest_t", "PlainDigest"),
 ];
 
 /// The functions and structs that the header declares; its inline functions are no exports.

@@ -36,7 +36,13 @@ const PAIR: Validator = Validator {
     state: "crates/pair_validator/src/lib.rt",
     core: "crates/pair_core/src/lib.rt",
     prefix: "pair_core::",
-    fields: &[("balances", "BALANCES"), ("supply", "SUPPLY"), ("accounts", "ACCOUNTS"), ("counts", "COUNTS"), ("", "WORDS")],
+    fields: &[
+        ("balances", "BALANCES_WORD"),
+        ("supply", "SUPPLY_WORD"),
+        ("accounts", "ACCOUNTS_WORD"),
+        ("counts", "COUNTS_WORD"),
+        ("", "WORDS"),
+    ],
 };
 
 const HOME: Validator = Validator {
@@ -45,12 +51,12 @@ const HOME: Validator = Validator {
     core: "crates/home_core/src/lib.rt",
     prefix: "home_core::",
     fields: &[
-        ("balances", "BALANCES"),
-        ("supply", "SUPPLY"),
-        ("pool", "POOL"),
-        ("home_accounts", "HOMES"),
-        ("far_accounts", "FARS"),
-        ("count", "COUNT"),
+        ("balances", "BALANCES_WORD"),
+        ("supply", "SUPPLY_WORD"),
+        ("pool", "POOL_WORD"),
+        ("home_accounts", "HOMES_WORD"),
+        ("far_accounts", "FARS_WORD"),
+        ("count", "COUNT_WORD"),
         ("", "WORDS"),
     ],
 };
@@ -254,7 +260,7 @@ fn differences_in_the_header_are_found() {
         "uint32_t far_accounts, uint64_t far_total",
         "moatbetony_home_open: parameter 3",
     );
-    found("    uint32_t number; /*", "    uint64_t number; /*", "Told: field 1");
+    found("    uint32_t number; /*", "    uint64_t number; /*", "PlainAnswer: field 1");
     found("uint64_t balances[2][56]", "uint64_t balances[56][2]", "PairValidator: field 2");
     found("uint64_t balances[2][56]", "uint64_t balances[2][57]", "PairValidator: field 3");
     found("moatbetony_held_t records[512]", "moatbetony_held_t records[511]", "HomeValidator: field 2");
@@ -282,13 +288,13 @@ fn differences_in_the_header_are_found() {
         "    uint64_t amount;\n    uint64_t number;\n    uint64_t tail;",
         "Held: field 2",
     );
-    found("    size_t start;\n    size_t length;", "    size_t length;\n    size_t start;", "PartTold: field 2");
+    found("    size_t start;\n    size_t length;", "    size_t length;\n    size_t start;", "PlainPart: field 2");
     found(
         "    uint32_t number; /* enum moatbetony_refusal */\n    uint32_t passed; /* 1 if passed, else 0 */\n",
         "    uint32_t passed; /* 1 if passed, else 0 */\n    uint32_t number; /* enum moatbetony_refusal */\n",
-        "Told: field 1",
+        "PlainAnswer: field 1",
     );
-    found("uint64_t flight;", "uint64_t floating;", "PairFiguresTold: field 4");
+    found("uint64_t flight;", "uint64_t floating;", "PlainPairFigures: field 4");
     // pointers
     found("    uint8_t *out,", "    const uint8_t *out,", "moatbetony_block_write: parameter 1");
     found("uint8_t kind, const uint8_t *items", "uint8_t kind, uint8_t *items", "moatbetony_block_write: parameter 5");
@@ -315,8 +321,8 @@ fn differences_in_the_header_are_found() {
         "moatbetony_more: in the header, and missing in the exports",
     );
     found("size_t far_accounts, uint64_t far_total", "size_t far_accounts", "moatbetony_home_open: parameter 4");
-    found("    uint64_t far;\n    uint64_t flight;\n", "    uint64_t flight;\n", "PairFiguresTold: field 3");
-    found("    uint32_t passed; /* 1 if passed, else 0 */\n", "", "Told: field 2");
+    found("    uint64_t far;\n    uint64_t flight;\n", "    uint64_t flight;\n", "PlainPairFigures: field 3");
+    found("    uint32_t passed; /* 1 if passed, else 0 */\n", "", "PlainAnswer: field 2");
     found(
         "moatbetony_home_figures_t moatbetony_home_figures(",
         "moatbetony_balance_t moatbetony_home_figures(",
@@ -359,7 +365,7 @@ fn differences_in_the_binding_are_found() {
         "pub(crate) fn moatbetony_version() -> u64;",
         "moatbetony_version: its result",
     );
-    found("#[repr(C)]\npub(crate) struct DigestTold", "pub(crate) struct DigestTold", "is missing near");
+    found("#[repr(C)]\npub(crate) struct PlainDigest", "pub(crate) struct PlainDigest", "is missing near");
 }
 
 #[test]
@@ -376,7 +382,7 @@ fn differences_in_the_exports_are_found() {
         EXPORTS,
         "    pub start: usize,\n    pub length: usize,",
         "    pub length: usize,\n    pub start: usize,",
-        "PartTold: field 2",
+        "PlainPart: field 2",
     );
     found(
         EXPORTS,
@@ -384,8 +390,8 @@ fn differences_in_the_exports_are_found() {
         "fn moatbetony_digest(",
         "moatbetony_sha256: in the header, and missing in the exports",
     );
-    found(EXPORTS, "    pub number: u32,", "    pub number: u64,", "Told: field 1");
-    found(EXPORTS, "    pub passed: u32,", "    pub passed: u8,", "Told: field 2");
+    found(EXPORTS, "    pub number: u32,", "    pub number: u64,", "PlainAnswer: field 1");
+    found(EXPORTS, "    pub passed: u32,", "    pub passed: u8,", "PlainAnswer: field 2");
     found(
         EXPORTS,
         "#[no_mangle]\npub extern \"C\" fn moatbetony_version",
@@ -393,10 +399,10 @@ fn differences_in_the_exports_are_found() {
         "without #[no_mangle]",
     );
     found(HOME.state, "#[repr(C)]", "", "unknown struct HomeValidator");
-    found(HOME.core, "COUNT: usize = SUPPLY + 4", "COUNT: usize = SUPPLY + 3", "HomeValidator: field 7");
-    found(HOME.core, "POOL: usize = SUPPLY + 1", "POOL: usize = SUPPLY + 2", "HomeValidator: field 4");
-    found(HOME.core, "BALANCES: usize = 4 * ", "BALANCES: usize = 3 * ", "HomeValidator: field 2");
-    found(HOME.core, "WORDS: usize = SUPPLY + 5", "WORDS: usize = SUPPLY + 6", "moatbetony_home_take: parameter 1");
+    found(HOME.core, "COUNT_WORD: usize = SUPPLY_WORD + 4", "COUNT_WORD: usize = SUPPLY_WORD + 3", "HomeValidator: field 7");
+    found(HOME.core, "POOL_WORD: usize = SUPPLY_WORD + 1", "POOL_WORD: usize = SUPPLY_WORD + 2", "HomeValidator: field 4");
+    found(HOME.core, "BALANCES_WORD: usize = 4 * ", "BALANCES_WORD: usize = 3 * ", "HomeValidator: field 2");
+    found(HOME.core, "WORDS: usize = SUPPLY_WORD + 5", "WORDS: usize = SUPPLY_WORD + 6", "moatbetony_home_take: parameter 1");
     found(LEDGERS, "CAPACITY: usize = 512", "CAPACITY: usize = 1730", "PairValidator: field 2");
-    found(LEDGERS, "ACCOUNTS: usize = 56", "ACCOUNTS: usize = 57", "BalancesTold: field 3");
+    found(LEDGERS, "ACCOUNTS: usize = 56", "ACCOUNTS: usize = 57", "PlainBalances: field 3");
 }

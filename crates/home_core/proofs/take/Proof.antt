@@ -1,5 +1,5 @@
 -- `home_core::take` meets its contract. Assumes nothing.
-use Rattle.home_core.specs.Layout.{homeWordsChecker, homeIndexLength}
+use Rattle.home_core.specs.Layout.{homeIndexLength, homeWordsChecker}
 use Rattle.rules.proofs.Parts.{gives-one, gives-unaccepted}
 use Rattle.rules.specs.Calls.{one}
 use Rattle.table.proofs.Numbers.{index-none}

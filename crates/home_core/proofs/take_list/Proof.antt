@@ -1,7 +1,7 @@
 -- `home_core::take_list` meets its contract. Assumes nothing.
 use Rattle.wire.proofs.Prelude.{_-_, arith, length, needs, refl}
-use Rattle.home_core.specs.Layout.{HomeReady, homeWordsChecker, homeIndexLength}
-use Rattle.rules.proofs.Parts.{Taking, taking-end, taking-first, taking-next, taking-refused, gives-unaccepted}
+use Rattle.home_core.specs.Layout.{HomeReady, homeIndexLength, homeWordsChecker}
+use Rattle.rules.proofs.Parts.{Taking, gives-unaccepted, taking-end, taking-first, taking-next, taking-refused}
 use Rattle.rules.specs.Calls.{list}
 use Rattle.table.proofs.Numbers.{index-none}
 use Rattle.home_core.proofs.take_list.Statement.{statement}

@@ -1,7 +1,7 @@
 -- `journal_reader::judged_balances` meets its contract. Assumes nothing.
 use Rattle.wire.proofs.Prelude.{List, _++_, _-_, _∙_, _≡_, _≤_, ap, arith, needs, refl, replicate, set, ℕ}
 use Rattle.journal_blocks.proofs.Items.{table-on}
-use Rattle.journal_blocks.specs.Blocks.{statedCount, firstBalances}
+use Rattle.journal_blocks.specs.Blocks.{firstBalances, statedCount}
 use Rattle.sha256.specs.Sha256.{block}
 use Rattle.journal_reader.proofs.judged_balances.Statement.{statement}
 use Rattle.journal_reader.proofs.judged_balances.Tie as tie

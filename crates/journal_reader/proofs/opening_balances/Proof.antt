@@ -3,7 +3,7 @@ use Rattle.wire.proofs.Prelude.{_∙_, _≡_, ap, ap₂, needs, replicate, sym,
 use Rattle.answers.proofs.Answers.{instead-refused}
 use Rattle.answers.specs.Answers.{answer, orElse}
 use Rattle.answers.specs.declared.Answer.the-variants.{Passed}
-use Rattle.journal_blocks.specs.Blocks.{statedCount, balanceTable}
+use Rattle.journal_blocks.specs.Blocks.{balanceTable, statedCount}
 use Rattle.journal_reader.proofs.Judging.{opened}
 use Rattle.journal_reader.specs.Judged.{balancesRefusal, openingOf}
 use Rattle.ledgers.specs.Limits.{accountLimit}

@@ -1,7 +1,7 @@
 -- `journal_reader::place_refusal` meets its contract. Assumes nothing.
 use Rattle.wire.proofs.Prelude.{_∙_, ap, ap₂, arith, leb, ltb, needs, ℕ}
 use Rattle.answers.proofs.Answers.{refuse-else}
-use Rattle.answers.specs.Answers.{refuse, orElse}
+use Rattle.answers.specs.Answers.{orElse, refuse}
 use Rattle.journal_reader.specs.Judged.{placeRefusal}
 use Rattle.journal_reader.proofs.place_refusal.Statement.{statement}
 use Rattle.journal_reader.proofs.place_refusal.Tie as tie

@@ -3,7 +3,7 @@ use Rattle.wire.proofs.Prelude.{[], _∙_, _≡_, arith, needs, sym, ℕ}
 use Rattle.answers.proofs.Answers.{passed-zero, refused-instead}
 use Rattle.journal_blocks.specs.Blocks.{recordPart}
 use Rattle.journal_reader.proofs.Judging.{placed}
-use Rattle.journal_reader.specs.Judged.{recordRefusal, partOf}
+use Rattle.journal_reader.specs.Judged.{partOf, recordRefusal}
 use Rattle.journal_reader.proofs.record_part.Statement.{statement}
 use Rattle.journal_reader.proofs.record_part.Tie as tie
 

@@ -1,8 +1,8 @@
 -- `journal_writer::write` meets its contract. Assumes nothing.
 use Rattle.wire.proofs.Prelude.{List, _++_, _-_, _/_, _∙_, _≡_, ap, arith, length, needs, replicate, sym, take, ℕ}
 use Rattle.journal_blocks.proofs.Sizes.{block-bounds}
-use Rattle.journal_writer.proofs.Allowing.{allowed-facts, allowed-room, allowed-answer, refused-answer}
-use Rattle.journal_writer.specs.Written.{header, body, journalBlock, written}
+use Rattle.journal_writer.proofs.Allowing.{allowed-answer, allowed-facts, allowed-room, refused-answer}
+use Rattle.journal_writer.specs.Written.{body, header, journalBlock, written}
 use Rattle.sha256.specs.Sha256.{sha256}
 use Rattle.journal_writer.proofs.write.Statement.{statement}
 use Rattle.journal_writer.proofs.write.Tie as tie

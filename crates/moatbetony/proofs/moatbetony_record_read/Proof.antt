@@ -1,7 +1,7 @@
 -- `moatbetony::moatbetony_record_read` meets its contract. Assumes nothing.
 use Rattle.wire.proofs.Prelude.{_∙_, ap, needs, sym}
 use Rattle.moatbetony.proofs.Telling.{record-unread}
-use Rattle.moatbetony.specs.Plain.{plainRecord, plainAnswer}
+use Rattle.moatbetony.specs.Plain.{plainAnswer, plainRecord}
 use Rattle.moatbetony.proofs.moatbetony_record_read.Statement.{statement}
 use Rattle.moatbetony.proofs.moatbetony_record_read.Tie as tie
 

@@ -1,7 +1,7 @@
 -- `pair_core::is_held` meets its contract. Assumes nothing.
 use Rattle.wire.proofs.Prelude.{_+_, _-_, arith, needs}
 use Rattle.pair_core.proofs.Ledgers.{accounts-fit, bounds-of, index-within, records-within}
-use Rattle.pair_core.specs.Layout.{pairIndexLength, indexOn}
+use Rattle.pair_core.specs.Layout.{indexOn, pairIndexLength}
 use Rattle.table.proofs.Growing.{kept-longer}
 use Rattle.pair_core.proofs.is_held.Statement.{statement}
 use Rattle.pair_core.proofs.is_held.Tie as tie

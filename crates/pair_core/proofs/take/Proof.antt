@@ -1,6 +1,6 @@
 -- `pair_core::take` meets its contract. Assumes nothing.
 use Rattle.wire.proofs.Prelude.{_*_, needs, not-false, refl}
-use Rattle.pair_core.specs.Layout.{pairIndexLength, indexOn, pairWordsChecker, recordsStart}
+use Rattle.pair_core.specs.Layout.{indexOn, pairIndexLength, pairWordsChecker, recordsStart}
 use Rattle.rules.proofs.Parts.{gives-one, gives-unaccepted}
 use Rattle.rules.specs.Calls.{one}
 use Rattle.table.proofs.Numbers.{index-none}

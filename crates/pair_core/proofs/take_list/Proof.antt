@@ -1,7 +1,7 @@
 -- `pair_core::take_list` meets its contract. Assumes nothing.
 use Rattle.wire.proofs.Prelude.{_*_, _-_, arith, length, needs, refl}
-use Rattle.pair_core.specs.Layout.{PairReady, pairIndexLength, indexOn, pairWordsChecker, recordsStart}
-use Rattle.rules.proofs.Parts.{Taking, taking-end, taking-first, taking-next, taking-refused, gives-unaccepted}
+use Rattle.pair_core.specs.Layout.{PairReady, indexOn, pairIndexLength, pairWordsChecker, recordsStart}
+use Rattle.rules.proofs.Parts.{Taking, gives-unaccepted, taking-end, taking-first, taking-next, taking-refused}
 use Rattle.rules.specs.Calls.{list}
 use Rattle.table.proofs.Numbers.{index-none}
 use Rattle.pair_core.proofs.take_list.Statement.{statement}

@@ -1,6 +1,6 @@
 -- `pair_rows::next_row` meets its contract. Assumes nothing.
 use Rattle.ledgers.specs.Ledgers.{ledgerOf}
-use Rattle.pair_core.specs.Layout.{pairWordsChecker, pairSupplyOf}
+use Rattle.pair_core.specs.Layout.{pairSupplyOf, pairWordsChecker}
 use Rattle.pair_rows.proofs.Rows.{RowMoves, read-or-refused, row-passed, row-refused, row-tells, rowAfter}
 use Rattle.places.specs.Entries.{givenBy, takenBy}
 use Rattle.wire.proofs.Prelude.{_∙_, _≡_, needs, sym}

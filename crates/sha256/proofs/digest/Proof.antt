@@ -1,7 +1,7 @@
 -- `sha256::digest` meets its contract. Assumes nothing.
 use Rattle.wire.proofs.Prelude.{List, _%_, _*_, _+_, _/_, _∙_, _≡_, _≤_, ap, arith, drop, length, length-take-le, needs, sym, take, ℕ}
 use Rattle.sha256.proofs.Padding.{block-count, block-last, hashed-next}
-use Rattle.sha256.specs.Sha256.{zeroCount, padded, block, hashed, hashBytes, sha256}
+use Rattle.sha256.specs.Sha256.{block, hashBytes, hashed, padded, sha256, zeroCount}
 use Rattle.sha256.proofs.digest.Statement.{statement}
 use Rattle.sha256.proofs.digest.Tie as tie
 

@@ -1,7 +1,7 @@
 -- `sha256::whole_blocks` meets its contract. Assumes nothing.
 use Rattle.wire.proofs.Prelude.{_*_, _+_, _-_, _/_, _∙_, _≡_, _≤_, ap, arith, drop, length, needs, take, ℕ}
-use Rattle.sha256.proofs.Padding.{hashed-next, block-within}
-use Rattle.sha256.specs.Sha256.{padded, hashed}
+use Rattle.sha256.proofs.Padding.{block-within, hashed-next}
+use Rattle.sha256.specs.Sha256.{hashed, padded}
 use Rattle.sha256.proofs.whole_blocks.Statement.{statement}
 use Rattle.sha256.proofs.whole_blocks.Tie as tie
 

@@ -1,6 +1,6 @@
 -- `wire::u16_at` meets its contract. Assumes nothing.
 use Rattle.wire.proofs.Prelude.{_+_, arith, needs}
-use Rattle.wire.proofs.Numbers.{field-split, field-one}
+use Rattle.wire.proofs.Numbers.{field-one, field-split}
 use Rattle.wire.proofs.u16_at.Statement.{statement}
 use Rattle.wire.proofs.u16_at.Tie as tie
 

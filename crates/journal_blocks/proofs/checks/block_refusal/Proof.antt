@@ -1,9 +1,9 @@
 -- `journal_blocks::checks::block_refusal` meets its contract. Assumes nothing.
 use Rattle.wire.proofs.Prelude.{Bool, _∙_, ap, ap₂, eq-eqb, eqb, ltb, ne-eqb, needs, not, ℕ}
-use Rattle.answers.specs.Answers.{refuse, orElse}
+use Rattle.answers.specs.Answers.{orElse, refuse}
 use Rattle.journal_blocks.proofs.Checking.{in-order}
-use Rattle.journal_blocks.specs.Blocks.{maxBlock, blockNumber, blockFormed}
-use Rattle.journal_blocks.specs.Checked.{checked, blockRefusal}
+use Rattle.journal_blocks.specs.Blocks.{blockFormed, blockNumber, maxBlock}
+use Rattle.journal_blocks.specs.Checked.{blockRefusal, checked}
 use Rattle.journal_blocks.proofs.checks.block_refusal.Statement.{statement}
 use Rattle.journal_blocks.proofs.checks.block_refusal.Tie as tie
 

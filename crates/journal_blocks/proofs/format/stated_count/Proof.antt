@@ -1,6 +1,6 @@
 -- `journal_blocks::format::stated_count` meets its contract. Assumes nothing.
 use Rattle.wire.proofs.Prelude.{_∙_, arith, needs, sym}
-use Rattle.wire.proofs.Numbers.{field-one, field-none}
+use Rattle.wire.proofs.Numbers.{field-none, field-one}
 use Rattle.journal_blocks.proofs.format.stated_count.Statement.{statement}
 use Rattle.journal_blocks.proofs.format.stated_count.Tie as tie
 

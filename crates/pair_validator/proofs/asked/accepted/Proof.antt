@@ -1,6 +1,6 @@
 -- `pair_validator::asked::accepted` meets its contract. Assumes nothing.
 use Rattle.wire.proofs.Prelude.{_*_, needs, refl}
-use Rattle.pair_core.specs.Layout.{pairIndexLength, indexOn, recordsStart}
+use Rattle.pair_core.specs.Layout.{indexOn, pairIndexLength, recordsStart}
 use Rattle.table.proofs.Numbers.{index-none}
 use Rattle.pair_validator.proofs.asked.accepted.Statement.{statement}
 use Rattle.pair_validator.proofs.asked.accepted.Tie as tie
