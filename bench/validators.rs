@@ -70,7 +70,7 @@ pub struct Answer {
 }
 
 #[repr(C)]
-pub struct PlainAnswer<S> {
+pub struct Outcome<S> {
     number: u32,
     passed: u32,
     place: u64,
@@ -99,30 +99,30 @@ pub struct HomeFigures {
 // A slice is a pointer and a length. A returned struct is written where a pointer before the arguments says, as the calling convention
 // has it; where it is named here, the caller chooses the place.
 extern "C" {
-    fn moatbetony_pair_open(homes: *const u64, h: usize, fars: *const u64, f: usize) -> PlainAnswer<Pair>;
+    fn moatbetony_pair_open(homes: *const u64, h: usize, fars: *const u64, f: usize) -> Outcome<Pair>;
     fn moatbetony_pair_take(state: *mut Pair, bytes: *const u8, n: usize) -> Answer;
     fn moatbetony_pair_take_list(state: *mut Pair, bytes: *const u8, n: usize) -> Answer;
-    fn moatbetony_pair_check_record(out: *mut PlainAnswer<Pair>, state: Pair, bytes: *const u8, n: usize) -> *mut PlainAnswer<Pair>;
-    fn moatbetony_pair_check_list(out: *mut PlainAnswer<Pair>, state: Pair, bytes: *const u8, n: usize) -> *mut PlainAnswer<Pair>;
+    fn moatbetony_pair_check_record(out: *mut Outcome<Pair>, state: Pair, bytes: *const u8, n: usize) -> *mut Outcome<Pair>;
+    fn moatbetony_pair_check_list(out: *mut Outcome<Pair>, state: Pair, bytes: *const u8, n: usize) -> *mut Outcome<Pair>;
     fn moatbetony_pair_figures(state: Pair) -> PairFigures;
-    fn bench_pair_echo(out: *mut PlainAnswer<Pair>, state: Pair) -> *mut PlainAnswer<Pair>;
-    fn moatbetony_home_open(balances: *const u64, h: usize, fars: usize, far_total: u64) -> PlainAnswer<Home>;
+    fn bench_pair_echo(out: *mut Outcome<Pair>, state: Pair) -> *mut Outcome<Pair>;
+    fn moatbetony_home_open(balances: *const u64, h: usize, fars: usize, far_total: u64) -> Outcome<Home>;
     fn moatbetony_home_take(state: *mut Home, bytes: *const u8, n: usize) -> Answer;
     fn moatbetony_home_take_list(state: *mut Home, bytes: *const u8, n: usize) -> Answer;
-    fn moatbetony_home_check_record(out: *mut PlainAnswer<Home>, state: Home, bytes: *const u8, n: usize) -> *mut PlainAnswer<Home>;
-    fn moatbetony_home_check_list(out: *mut PlainAnswer<Home>, state: Home, bytes: *const u8, n: usize) -> *mut PlainAnswer<Home>;
+    fn moatbetony_home_check_record(out: *mut Outcome<Home>, state: Home, bytes: *const u8, n: usize) -> *mut Outcome<Home>;
+    fn moatbetony_home_check_list(out: *mut Outcome<Home>, state: Home, bytes: *const u8, n: usize) -> *mut Outcome<Home>;
     fn moatbetony_home_figures(state: Home) -> HomeFigures;
-    fn bench_home_echo(out: *mut PlainAnswer<Home>, state: Home) -> *mut PlainAnswer<Home>;
+    fn bench_home_echo(out: *mut Outcome<Home>, state: Home) -> *mut Outcome<Home>;
 }
 
 trait Validator: Copy {
     const NAME: &'static str;
-    fn open() -> PlainAnswer<Self>;
-    fn one(&self, out: &mut MaybeUninit<PlainAnswer<Self>>, bytes: &[u8]);
-    fn list(&self, out: &mut MaybeUninit<PlainAnswer<Self>>, bytes: &[u8]);
+    fn open() -> Outcome<Self>;
+    fn one(&self, out: &mut MaybeUninit<Outcome<Self>>, bytes: &[u8]);
+    fn list(&self, out: &mut MaybeUninit<Outcome<Self>>, bytes: &[u8]);
     fn take(&mut self, bytes: &[u8]) -> Answer;
     fn take_list(&mut self, bytes: &[u8]) -> Answer;
-    fn echo(&self, out: &mut MaybeUninit<PlainAnswer<Self>>);
+    fn echo(&self, out: &mut MaybeUninit<Outcome<Self>>);
     // The sum of its figures, and the refusal.
     fn figures(&self) -> (u64, u32);
     // The records that it is handed.
@@ -135,16 +135,16 @@ const BALANCE: u64 = 1 << 40;
 
 impl Validator for Pair {
     const NAME: &'static str = "pair";
-    fn open() -> PlainAnswer<Pair> {
+    fn open() -> Outcome<Pair> {
         let balances = [BALANCE; ACCOUNTS];
         unsafe { moatbetony_pair_open(balances.as_ptr(), ACCOUNTS, balances.as_ptr(), ACCOUNTS) }
     }
     #[inline(always)]
-    fn one(&self, out: &mut MaybeUninit<PlainAnswer<Pair>>, bytes: &[u8]) {
+    fn one(&self, out: &mut MaybeUninit<Outcome<Pair>>, bytes: &[u8]) {
         unsafe { moatbetony_pair_check_record(out.as_mut_ptr(), *self, bytes.as_ptr(), bytes.len()) };
     }
     #[inline(always)]
-    fn list(&self, out: &mut MaybeUninit<PlainAnswer<Pair>>, bytes: &[u8]) {
+    fn list(&self, out: &mut MaybeUninit<Outcome<Pair>>, bytes: &[u8]) {
         unsafe { moatbetony_pair_check_list(out.as_mut_ptr(), *self, bytes.as_ptr(), bytes.len()) };
     }
     #[inline(always)]
@@ -156,7 +156,7 @@ impl Validator for Pair {
         unsafe { moatbetony_pair_take_list(self, bytes.as_ptr(), bytes.len()) }
     }
     #[inline(always)]
-    fn echo(&self, out: &mut MaybeUninit<PlainAnswer<Pair>>) {
+    fn echo(&self, out: &mut MaybeUninit<Outcome<Pair>>) {
         unsafe { bench_pair_echo(out.as_mut_ptr(), *self) };
     }
     #[inline(always)]
@@ -197,16 +197,16 @@ fn numbers(records: &[Held]) -> [u64; CAPACITY] {
 
 impl Validator for Home {
     const NAME: &'static str = "home";
-    fn open() -> PlainAnswer<Home> {
+    fn open() -> Outcome<Home> {
         let balances = [BALANCE; ACCOUNTS];
         unsafe { moatbetony_home_open(balances.as_ptr(), ACCOUNTS, ACCOUNTS, ACCOUNTS as u64 * BALANCE) }
     }
     #[inline(always)]
-    fn one(&self, out: &mut MaybeUninit<PlainAnswer<Home>>, bytes: &[u8]) {
+    fn one(&self, out: &mut MaybeUninit<Outcome<Home>>, bytes: &[u8]) {
         unsafe { moatbetony_home_check_record(out.as_mut_ptr(), *self, bytes.as_ptr(), bytes.len()) };
     }
     #[inline(always)]
-    fn list(&self, out: &mut MaybeUninit<PlainAnswer<Home>>, bytes: &[u8]) {
+    fn list(&self, out: &mut MaybeUninit<Outcome<Home>>, bytes: &[u8]) {
         unsafe { moatbetony_home_check_list(out.as_mut_ptr(), *self, bytes.as_ptr(), bytes.len()) };
     }
     #[inline(always)]
@@ -218,7 +218,7 @@ impl Validator for Home {
         unsafe { moatbetony_home_take_list(self, bytes.as_ptr(), bytes.len()) }
     }
     #[inline(always)]
-    fn echo(&self, out: &mut MaybeUninit<PlainAnswer<Home>>) {
+    fn echo(&self, out: &mut MaybeUninit<Outcome<Home>>) {
         unsafe { bench_home_echo(out.as_mut_ptr(), *self) };
     }
     #[inline(always)]
@@ -384,18 +384,18 @@ impl<V> Room<V> {
     const PAGE: usize = 512;
 
     fn new() -> Room<V> {
-        let words = vec![0; Self::PAGE + size_of::<PlainAnswer<V>>().div_ceil(8)];
+        let words = vec![0; Self::PAGE + size_of::<Outcome<V>>().div_ceil(8)];
         Room { words, at: 0, what: PhantomData }
     }
 
     // The next place, 272 bytes on.
-    fn next(&mut self) -> &mut MaybeUninit<PlainAnswer<V>> {
+    fn next(&mut self) -> &mut MaybeUninit<Outcome<V>> {
         self.at = (self.at + 34) % Self::PAGE;
         black_box(unsafe { &mut *self.words[self.at..].as_mut_ptr().cast() })
     }
 
     // What stands at the last place, once a call has written there.
-    fn told(&self) -> &PlainAnswer<V> {
+    fn told(&self) -> &Outcome<V> {
         unsafe { &*self.words[self.at..].as_ptr().cast() }
     }
 }

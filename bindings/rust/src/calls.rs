@@ -26,7 +26,7 @@ pub(crate) fn state_version() -> u32 {
     unsafe { ffi::moatbetony_state_version() }
 }
 
-pub(crate) fn pair_open(home_balances: &[u64], far_balances: &[u64]) -> ffi::PairOutcome {
+pub(crate) fn pair_open(home_balances: &[u64], far_balances: &[u64]) -> ffi::PlainPairOutcome {
     belongs();
     // SAFETY: both slices are lent with their lengths.
     unsafe { ffi::moatbetony_pair_open(home_balances.as_ptr(), home_balances.len(), far_balances.as_ptr(), far_balances.len()) }
@@ -44,13 +44,13 @@ pub(crate) fn pair_take_list(state: &mut ffi::PairValidator, bytes: &[u8]) -> ff
     unsafe { ffi::moatbetony_pair_take_list(state, bytes.as_ptr(), bytes.len()) }
 }
 
-pub(crate) fn pair_check_record(state: &ffi::PairValidator, bytes: &[u8]) -> ffi::PairOutcome {
+pub(crate) fn pair_check_record(state: &ffi::PairValidator, bytes: &[u8]) -> ffi::PlainPairOutcome {
     belongs();
     // SAFETY: the slice is lent with its length.
     unsafe { ffi::moatbetony_pair_check_record(*state, bytes.as_ptr(), bytes.len()) }
 }
 
-pub(crate) fn pair_check_list(state: &ffi::PairValidator, bytes: &[u8]) -> ffi::PairOutcome {
+pub(crate) fn pair_check_list(state: &ffi::PairValidator, bytes: &[u8]) -> ffi::PlainPairOutcome {
     belongs();
     // SAFETY: the slice is lent with its length.
     unsafe { ffi::moatbetony_pair_check_list(*state, bytes.as_ptr(), bytes.len()) }
@@ -74,7 +74,7 @@ pub(crate) fn pair_places_left(state: &ffi::PairValidator) -> ffi::PlainPairPlac
     unsafe { ffi::moatbetony_pair_places_left(*state) }
 }
 
-pub(crate) fn home_open(home_balances: &[u64], far_accounts: usize, far_total: u64) -> ffi::HomeOutcome {
+pub(crate) fn home_open(home_balances: &[u64], far_accounts: usize, far_total: u64) -> ffi::PlainHomeOutcome {
     belongs();
     // SAFETY: the slice is lent with its length.
     unsafe { ffi::moatbetony_home_open(home_balances.as_ptr(), home_balances.len(), far_accounts, far_total) }
@@ -92,13 +92,13 @@ pub(crate) fn home_take_list(state: &mut ffi::HomeValidator, bytes: &[u8]) -> ff
     unsafe { ffi::moatbetony_home_take_list(state, bytes.as_ptr(), bytes.len()) }
 }
 
-pub(crate) fn home_check_record(state: &ffi::HomeValidator, bytes: &[u8]) -> ffi::HomeOutcome {
+pub(crate) fn home_check_record(state: &ffi::HomeValidator, bytes: &[u8]) -> ffi::PlainHomeOutcome {
     belongs();
     // SAFETY: the slice is lent with its length.
     unsafe { ffi::moatbetony_home_check_record(*state, bytes.as_ptr(), bytes.len()) }
 }
 
-pub(crate) fn home_check_list(state: &ffi::HomeValidator, bytes: &[u8]) -> ffi::HomeOutcome {
+pub(crate) fn home_check_list(state: &ffi::HomeValidator, bytes: &[u8]) -> ffi::PlainHomeOutcome {
     belongs();
     // SAFETY: the slice is lent with its length.
     unsafe { ffi::moatbetony_home_check_list(*state, bytes.as_ptr(), bytes.len()) }

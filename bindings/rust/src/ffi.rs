@@ -40,7 +40,7 @@ pub(crate) struct HomeValidator {
 }
 
 #[repr(C)]
-pub(crate) struct PairOutcome {
+pub(crate) struct PlainPairOutcome {
     pub(crate) answer: PlainAnswer,
     pub(crate) state: PairValidator,
 }
@@ -61,7 +61,7 @@ pub(crate) struct PlainPairPlaces {
 }
 
 #[repr(C)]
-pub(crate) struct HomeOutcome {
+pub(crate) struct PlainHomeOutcome {
     pub(crate) answer: PlainAnswer,
     pub(crate) state: HomeValidator,
 }
@@ -136,11 +136,11 @@ extern "C" {
         home_balances_len: usize,
         far_balances: *const u64,
         far_balances_len: usize,
-    ) -> PairOutcome;
+    ) -> PlainPairOutcome;
     pub(crate) fn moatbetony_pair_take(state: *mut PairValidator, bytes: *const u8, bytes_len: usize) -> PlainAnswer;
     pub(crate) fn moatbetony_pair_take_list(state: *mut PairValidator, bytes: *const u8, bytes_len: usize) -> PlainAnswer;
-    pub(crate) fn moatbetony_pair_check_record(state: PairValidator, bytes: *const u8, bytes_len: usize) -> PairOutcome;
-    pub(crate) fn moatbetony_pair_check_list(state: PairValidator, bytes: *const u8, bytes_len: usize) -> PairOutcome;
+    pub(crate) fn moatbetony_pair_check_record(state: PairValidator, bytes: *const u8, bytes_len: usize) -> PlainPairOutcome;
+    pub(crate) fn moatbetony_pair_check_list(state: PairValidator, bytes: *const u8, bytes_len: usize) -> PlainPairOutcome;
     pub(crate) fn moatbetony_pair_figures(state: PairValidator) -> PlainPairFigures;
     pub(crate) fn moatbetony_pair_balance(state: PairValidator, ledger: u8, account: u16) -> PlainBalance;
     pub(crate) fn moatbetony_pair_places_left(state: PairValidator) -> PlainPairPlaces;
@@ -149,11 +149,11 @@ extern "C" {
         home_balances_len: usize,
         far_accounts: usize,
         far_total: u64,
-    ) -> HomeOutcome;
+    ) -> PlainHomeOutcome;
     pub(crate) fn moatbetony_home_take(state: *mut HomeValidator, bytes: *const u8, bytes_len: usize) -> PlainAnswer;
     pub(crate) fn moatbetony_home_take_list(state: *mut HomeValidator, bytes: *const u8, bytes_len: usize) -> PlainAnswer;
-    pub(crate) fn moatbetony_home_check_record(state: HomeValidator, bytes: *const u8, bytes_len: usize) -> HomeOutcome;
-    pub(crate) fn moatbetony_home_check_list(state: HomeValidator, bytes: *const u8, bytes_len: usize) -> HomeOutcome;
+    pub(crate) fn moatbetony_home_check_record(state: HomeValidator, bytes: *const u8, bytes_len: usize) -> PlainHomeOutcome;
+    pub(crate) fn moatbetony_home_check_list(state: HomeValidator, bytes: *const u8, bytes_len: usize) -> PlainHomeOutcome;
     pub(crate) fn moatbetony_home_figures(state: HomeValidator) -> PlainHomeFigures;
     pub(crate) fn moatbetony_home_balance(state: HomeValidator, account: u16) -> PlainBalance;
     pub(crate) fn moatbetony_home_places_left(state: HomeValidator) -> PlainHomePlaces;

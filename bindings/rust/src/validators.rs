@@ -160,7 +160,7 @@ macro_rules! validator {
 
 validator!(
     PairValidator,
-    PairOutcome,
+    PlainPairOutcome,
     pair_take,
     pair_take_list,
     pair_check_record,
@@ -169,7 +169,7 @@ validator!(
 );
 validator!(
     HomeValidator,
-    HomeOutcome,
+    PlainHomeOutcome,
     home_take,
     home_take_list,
     home_check_record,
@@ -345,12 +345,12 @@ mod tests {
         pair_stores_what_passed,
         PairValidator::open(&[100, 50], &[20]),
         PairValidator::open(&[99, 51], &[20]),
-        PairOutcome
+        PlainPairOutcome
     );
     stores_what_passed!(
         home_stores_what_passed,
         HomeValidator::open(&[100, 50], 1, 20),
         HomeValidator::open(&[99, 51], 1, 20),
-        HomeOutcome
+        PlainHomeOutcome
     );
 }

@@ -2,19 +2,19 @@
 // answer, as every call does, and does nothing else.
 ghost use mathlib.Core.Path.{_≡_};
 ghost use Rattle.answers.specs.declared.Answer.the-variants.{Passed};
-ghost use Rattle.moatbetony.specs.Plain.{pairOutcome, homeOutcome};
+ghost use Rattle.moatbetony.specs.Plain.{plainPairOutcome, plainHomeOutcome};
 use home_validator::HomeValidator;
-use moatbetony::HomeOutcome;
-use moatbetony::PairOutcome;
 use moatbetony::PlainAnswer;
+use moatbetony::PlainHomeOutcome;
+use moatbetony::PlainPairOutcome;
 use pair_validator::PairValidator;
 
 // The pair validator's echo.
 #[no_mangle]
-pub extern "C" fn bench_pair_echo(state: PairValidator) -> PairOutcome
-    ensures { λ r. ⌜ r ≡ pairOutcome Passed state ⌝ }
+pub extern "C" fn bench_pair_echo(state: PairValidator) -> PlainPairOutcome
+    ensures { λ r. ⌜ r ≡ plainPairOutcome Passed state ⌝ }
 {
-    PairOutcome {
+    PlainPairOutcome {
         answer: PlainAnswer {
             number: 0,
             passed: 1,
@@ -26,10 +26,10 @@ pub extern "C" fn bench_pair_echo(state: PairValidator) -> PairOutcome
 
 // The home validator's echo.
 #[no_mangle]
-pub extern "C" fn bench_home_echo(state: HomeValidator) -> HomeOutcome
-    ensures { λ r. ⌜ r ≡ homeOutcome Passed state ⌝ }
+pub extern "C" fn bench_home_echo(state: HomeValidator) -> PlainHomeOutcome
+    ensures { λ r. ⌜ r ≡ plainHomeOutcome Passed state ⌝ }
 {
-    HomeOutcome {
+    PlainHomeOutcome {
         answer: PlainAnswer {
             number: 0,
             passed: 1,

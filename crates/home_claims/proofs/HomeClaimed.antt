@@ -1,7 +1,7 @@
 -- The claims about the home validator's calls: runs over the program's states are runs over the rules' states. Assumes nothing.
 use Rattle.wire.proofs.Prelude.{List, _-_, _∙_, _≡_, ap, arith, dichotomy, inl, inr, leb, leb-false, leb-true, length, refl, sym, true, ℕ}
 use Rattle.answers.specs.Answers.{answer}
-use Rattle.home_claims.specs.Claims.{HomeCallsAsRules, HomeFullWhenNoneLeft, HomeInPlaceAsByValue, HomeListsAndRefusals}
+use Rattle.home_claims.specs.Claims.{HomeCallsAsRules, HomeFullWhenNoneLeft, HomeInPlaceAsByValue, HomeListsAndRefusals, HomeRunsInPlaceAsByValue}
 use Rattle.home_claims.specs.Claims.{HomeOpenedAsRules, HomePlacesLeft, HomeStatesAnswer, HomeStatesStayAccepted, HomeStatesWithin}
 use Rattle.home_claims.specs.Claims.{HomeThreeExactly, HomeZeroRefused, homePassedOfRun, homePlacesLeft, homeStateOfRun}
 use Rattle.home_core.proofs.Accept.{length-held, sound-accepts, sound-of}
@@ -71,6 +71,14 @@ home-in-place-as-by-value s d =
     let g = agree-call homeChecker homeWordsChecker (λ (x : HomeValidator). x .words) (λ (x : HomeValidator). Unit {0}) (λ x i. refl)
     (λ x b i. refl) (λ x b i j. (tt, refl)) s d tt in
     (sym (g .answers), sym (g .states))
+
+-- a run of them
+pub home-runs-in-place-as-by-value : HomeRunsInPlaceAsByValue
+unfolding HomeRunsInPlaceAsByValue
+home-runs-in-place-as-by-value s ds =
+    let f = simulation homeChecker homeWordsChecker (λ (x : HomeValidator). x .words) (λ (x : HomeValidator). Unit {0}) (λ x i. refl)
+    (λ x b i. refl) (λ x b i j. (tt, refl)) ds s (s .words) refl tt in
+    (sym (f .states), sym (f .records))
 
 -- no judgement is 3
 judge-never-3 : (s : HomeValidator) (b : List ℕ) → homeChecker .judge s b ≡ 3 → ⊥

@@ -41,13 +41,20 @@ HomeCallsAsRules =
     → (call homeChecker s d .answer ≡ call (homeValidator capacity) (homeViewOfState s) d .answer)
     × (homeViewOfState (call homeChecker s d .state) ≡ call (homeValidator capacity) (homeViewOfState s) d .state)
 
--- a call in place has the answer of the call by value and leaves in the words what that hands back: so what is claimed here of the calls is
--- claimed of those in place too, alone or in any order with the others
+-- a call in place has the answer of the call by value and leaves in the words what that hands back
 unfoldable pub HomeInPlaceAsByValue : Type 0
 HomeInPlaceAsByValue =
     (s : HomeValidator) (d : Call)
     → (call homeWordsChecker (s .words) d .answer ≡ call homeChecker s d .answer)
     × (call homeWordsChecker (s .words) d .state ≡ call homeChecker s d .state .words)
+
+-- and so a run of calls in place leaves the words of the run by value and passes the same records: what is claimed here of runs is claimed
+-- of those in place too
+unfoldable pub HomeRunsInPlaceAsByValue : Type 0
+HomeRunsInPlaceAsByValue =
+    (s : HomeValidator) (ds : List Call)
+    → (run homeWordsChecker (s .words) ds ≡ run homeChecker s ds .words)
+    × (passedRecords homeWordsChecker (s .words) ds ≡ passedRecords homeChecker s ds)
 
 -- 3 is answered in its condition, with the state as it came, and not otherwise
 unfoldable pub HomeThreeExactly : Type 0

@@ -1,8 +1,8 @@
 -- What accepted words have, and that what is tested of words is what refusal 3 asks of them. Assumes nothing.
 use Rattle.wire.proofs.Prelude.{Bool, List, [], _&&_, _+_, _-_, _∙_, _∷_, _≡_, _≤_, arith, drop, eq-eqb, eqb, eqb-true, false, getD, le-leb}
 use Rattle.wire.proofs.Prelude.{leb-true, length, length-drop, length-take-le, refl, subst, sym, true, ℕ}
-use Rattle.home_core.specs.Layout.{HomeReady, acceptsHome, balancesFrom, farsOf, homeBounds, homeCountOf, homeViewOf, homeWords}
-use Rattle.home_core.specs.Layout.{homesOf}
+use Rattle.home_core.specs.Layout.{HomeReady, acceptsHome, homeBalancesWord, farAccountsOf, homeBounds, homeCountOf, homeViewOf, homeWords}
+use Rattle.home_core.specs.Layout.{homeAccountsOf}
 use Rattle.home_core.specs.Layout.{homeSupplyOf, poolOf}
 use Rattle.ledgers.specs.Limits.{accountLimit, capacity, maxAmount}
 use Rattle.places.proofs.BalanceTotals.{balances-sum}
@@ -12,25 +12,25 @@ use Rattle.places.specs.OverPlaces.{allAt, apartAt, sumAt}
 use Rattle.records.specs.Records.{formed}
 use Rattle.rules.proofs.Clashes.{distinct-unshared, unshared-distinct}
 use Rattle.rules.proofs.HomeAccepted.{HomeFacts, home-accepts-facts, home-facts-accepts}
-use Rattle.rules.proofs.Lists.{never-both-tests, same-tests}
+use Rattle.rules.proofs.Lists.{never-both-tests}
 use Rattle.rules.specs.HomeValidator.{homeAccepts, homeAccounts}
 use Rattle.rules.specs.Lists.{total}
 use Rattle.rules.specs.PairValidator.{supplyAllowed}
 use Rattle.rules.specs.Rules.{Far, Home, Ledger}
 use Rattle.table.proofs.Numbers.{apart-records}
-use Rattle.table.proofs.Records.{AllHeld, all-held, held-all, length-records}
+use Rattle.table.proofs.Records.{AllHeld, all-held, held-all, length-held-records}
 use Rattle.table.specs.Table.{accountsBy, ledgerIn, mayHoldAt, numberAt, wordsAt}
-use Rattle.wire.proofs.Lists.{and-both, every-both, every-first, every-none}
+use Rattle.wire.proofs.Lists.{and-both, every-both, every-first, every-none, same-tests}
 use Rattle.wire.specs.BigEndian.{every}
 
 -- ## The bounds
 
 -- what the test of the bounds says
 pub record HomeBounds (s : List ℕ) : Type 0 where
-  pub home-some : 1 ≤ homesOf s
-  pub home-fits : homesOf s ≤ accountLimit
-  pub far-some : 1 ≤ farsOf s
-  pub far-fits : farsOf s ≤ accountLimit
+  pub home-some : 1 ≤ homeAccountsOf s
+  pub home-fits : homeAccountsOf s ≤ accountLimit
+  pub far-some : 1 ≤ farAccountsOf s
+  pub far-fits : farAccountsOf s ≤ accountLimit
   pub room : homeCountOf s ≤ capacity
   pub supply-fits : homeSupplyOf s ≤ maxAmount
 
@@ -43,10 +43,10 @@ bounds-facts s h =
     let c = every-first _ _ (b .1) in
     let d = every-first _ _ (c .1) in
     record {
-      home-some = count-facts (homesOf s) (a .0) .0;
-      home-fits = count-facts (homesOf s) (a .0) .1;
-      far-some = count-facts (farsOf s) (b .0) .0;
-      far-fits = count-facts (farsOf s) (b .0) .1;
+      home-some = count-facts (homeAccountsOf s) (a .0) .0;
+      home-fits = count-facts (homeAccountsOf s) (a .0) .1;
+      far-some = count-facts (farAccountsOf s) (b .0) .0;
+      far-fits = count-facts (farAccountsOf s) (b .0) .1;
       room = leb-true (homeCountOf s) capacity (c .0);
       supply-fits = leb-true (homeSupplyOf s) maxAmount (d .0);
     }
@@ -55,8 +55,8 @@ bounds-facts s h =
 pub facts-bounds : (s : List ℕ) → HomeBounds s → homeBounds s ≡ true
 unfolding homeBounds supplyAllowed
 facts-bounds s b =
-    every-both _ _ (facts-count (homesOf s) (b .home-some) (b .home-fits))
-    (every-both _ _ (facts-count (farsOf s) (b .far-some) (b .far-fits))
+    every-both _ _ (facts-count (homeAccountsOf s) (b .home-some) (b .home-fits))
+    (every-both _ _ (facts-count (farAccountsOf s) (b .far-some) (b .far-fits))
     (every-both _ _ (le-leb (homeCountOf s) capacity (b .room))
     (every-both _ _ (le-leb (homeSupplyOf s) maxAmount (b .supply-fits))
     every-none)))
@@ -67,7 +67,7 @@ facts-bounds s b =
 pub record HomeSound (s : List ℕ) : Type 0 where
   pub long : length s ≡ homeWords
   pub bounds : HomeBounds s
-  pub zeros : zerosAt s (balancesFrom + homesOf s) (accountLimit - homesOf s) ≡ true
+  pub zeros : zerosAt s (homeBalancesWord + homeAccountsOf s) (accountLimit - homeAccountsOf s) ≡ true
   pub reads : allAt (λ (i : ℕ). formed (wordsAt s 0 i)) 0 (homeCountOf s) ≡ true
   pub accepted : homeAccepts capacity (homeViewOf s) ≡ true
 
@@ -104,32 +104,32 @@ sound-accepts s h =
 -- it has as many held records as the count says
 pub length-held : (s : List ℕ) → length (homeViewOf s .home .passed) ≡ homeCountOf s
 unfolding ledgerIn
-length-held s = length-records s 0 (homeCountOf s)
+length-held s = length-held-records s 0 (homeCountOf s)
 
-module _ (s : List ℕ) (z : length s ≡ homeWords) (fits : homesOf s ≤ accountLimit) where
+module _ (s : List ℕ) (z : length s ≡ homeWords) (fits : homeAccountsOf s ≤ accountLimit) where
   -- it has as many balances as accounts
-  pub length-balances : length (homeViewOf s .home .balances) ≡ homesOf s
+  pub length-balances : length (homeViewOf s .home .balances) ≡ homeAccountsOf s
   unfolding ledgerIn
-  length-balances = length-take-le (homesOf s) (drop balancesFrom s) (rw (length-drop balancesFrom s, z) (omega (arith, fits)))
+  length-balances = length-take-le (homeAccountsOf s) (drop homeBalancesWord s) (rw (length-drop homeBalancesWord s, z) (omega (arith, fits)))
 
   -- the rules count its accounts, and the far ones
-  pub accounts-are : homeAccounts (homeViewOf s) ≡ accountsBy Home (homesOf s) (farsOf s)
+  pub accounts-are : homeAccounts (homeViewOf s) ≡ accountsBy Home (homeAccountsOf s) (farAccountsOf s)
   accounts-are = λ i. λ l. go l i
     where
-      go : (l : Ledger) → homeAccounts (homeViewOf s) l ≡ accountsBy Home (homesOf s) (farsOf s) l
+      go : (l : Ledger) → homeAccounts (homeViewOf s) l ≡ accountsBy Home (homeAccountsOf s) (farAccountsOf s) l
       go Home = length-balances
       go Far = refl
 
   -- the total of its balances
-  total-is : total (homeViewOf s .home .balances) ≡ sumAt (λ (i : ℕ). getD s i 0) balancesFrom (homesOf s)
+  total-is : total (homeViewOf s .home .balances) ≡ sumAt (λ (i : ℕ). getD s i 0) homeBalancesWord (homeAccountsOf s)
   unfolding ledgerIn
-  total-is = balances-sum s balancesFrom (homesOf s) (omega (arith, z, fits))
+  total-is = balances-sum s homeBalancesWord (homeAccountsOf s) (omega (arith, z, fits))
 
 -- ## The whole test
 
 -- the test of the held records
 abbrev holdsAll : List ℕ → Bool
-holdsAll s = allAt (mayHoldAt s 0 Home (accountsBy Home (homesOf s) (farsOf s))) 0 (homeCountOf s)
+holdsAll s = allAt (mayHoldAt s 0 Home (accountsBy Home (homeAccountsOf s) (farAccountsOf s))) 0 (homeCountOf s)
 
 -- the test of their numbers
 abbrev apartAll : List ℕ → Bool
@@ -137,7 +137,7 @@ apartAll s = apartAt (numberAt s 0) 0 (homeCountOf s)
 
 -- the sum of the balances and of the far pool
 abbrev sumAll : List ℕ → ℕ
-sumAll s = sumAt (λ (i : ℕ). getD s i 0) balancesFrom (homesOf s) + poolOf s
+sumAll s = sumAt (λ (i : ℕ). getD s i 0) homeBalancesWord (homeAccountsOf s) + poolOf s
 
 -- the tests of words, in the order of the code
 unfoldable pub testsHome : List ℕ → Bool
@@ -145,7 +145,7 @@ testsHome s =
     every
     (eqb (length s) homeWords
     ∷ homeBounds s
-    ∷ zerosAt s (balancesFrom + homesOf s) (accountLimit - homesOf s)
+    ∷ zerosAt s (homeBalancesWord + homeAccountsOf s) (accountLimit - homeAccountsOf s)
     ∷ (holdsAll s && apartAll s)
     ∷ eqb (sumAll s) (homeSupplyOf s)
     ∷ []
@@ -156,12 +156,12 @@ module _ (s : List ℕ) (z : length s ≡ homeWords) (b : HomeBounds s) where
   held-there : holdsAll s ≡ true → AllHeld s 0 (homeCountOf s) Home (homeAccounts (homeViewOf s))
   held-there h =
       subst (AllHeld s 0 (homeCountOf s) Home) (sym (accounts-are s z (b .home-fits)))
-      (all-held s 0 (homeCountOf s) Home (accountsBy Home (homesOf s) (farsOf s)) h)
+      (all-held s 0 (homeCountOf s) Home (accountsBy Home (homeAccountsOf s) (farAccountsOf s)) h)
 
   -- and back
   held-back : AllHeld s 0 (homeCountOf s) Home (homeAccounts (homeViewOf s)) → holdsAll s ≡ true
   held-back h =
-      held-all s 0 (homeCountOf s) Home (accountsBy Home (homesOf s) (farsOf s))
+      held-all s 0 (homeCountOf s) Home (accountsBy Home (homeAccountsOf s) (farAccountsOf s))
       (subst (AllHeld s 0 (homeCountOf s) Home) (accounts-are s z (b .home-fits)) h)
 
   -- what is tested gives the facts of an accepted state
@@ -170,8 +170,8 @@ module _ (s : List ℕ) (z : length s ≡ homeWords) (b : HomeBounds s) where
   tested-facts holds apart adds =
       let h = held-there holds in
       record {
-        home-count = rw (length-balances s z (b .home-fits)) (facts-count (homesOf s) (b .home-some) (b .home-fits));
-        far-count = facts-count (farsOf s) (b .far-some) (b .far-fits);
+        home-count = rw (length-balances s z (b .home-fits)) (facts-count (homeAccountsOf s) (b .home-some) (b .home-fits));
+        far-count = facts-count (farAccountsOf s) (b .far-some) (b .far-fits);
         room = rw (length-held s) (b .room);
         supply-fits = le-leb (homeSupplyOf s) maxAmount (b .supply-fits);
         allowed = h .allowed;

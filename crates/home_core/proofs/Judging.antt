@@ -3,7 +3,7 @@ use Rattle.wire.proofs.Prelude.{Bool, List, _∙_, _≡_, false, leb, refl, sym
 use Rattle.answers.proofs.Answers.{refuse-later}
 use Rattle.answers.specs.Answers.{orElse, refuse}
 use Rattle.home_core.proofs.Accept.{length-held}
-use Rattle.home_core.specs.Layout.{balancesFrom, homeCountOf, homeViewOf, homesOf, poolOf}
+use Rattle.home_core.specs.Layout.{homeBalancesWord, homeCountOf, homeViewOf, homeAccountsOf, poolOf}
 use Rattle.ledgers.specs.Ledgers.{ledgerOf, receiverLedger, senderLedger}
 use Rattle.ledgers.specs.Limits.{capacity}
 use Rattle.places.proofs.Refusals.{funds-at, judged-by}
@@ -24,10 +24,10 @@ module _ (s : List ℕ) (r : Record) where
   last-pooled (Receiving l) h = refl
 
   -- a local or sending is paid
-  pub last-paid : (k : Kind) → isReceiving k ≡ false → fundsAt s balancesFrom (homesOf s) r ≡ homeLastRefusal (homeViewOf s) r k
+  pub last-paid : (k : Kind) → isReceiving k ≡ false → fundsAt s homeBalancesWord (homeAccountsOf s) r ≡ homeLastRefusal (homeViewOf s) r k
   unfolding ledgerIn
-  last-paid (Local l) h = sym (funds-at s balancesFrom (homesOf s) r)
-  last-paid (Sending l) h = sym (funds-at s balancesFrom (homesOf s) r)
+  last-paid (Local l) h = sym (funds-at s homeBalancesWord (homeAccountsOf s) r)
+  last-paid (Sending l) h = sym (funds-at s homeBalancesWord (homeAccountsOf s) r)
   last-paid (Receiving l) h = absurd (never-both-tests h)
 
   -- the refusals in order are the home validator's

@@ -3,8 +3,8 @@
 use Rattle.wire.proofs.Prelude.{List, [], _*_, _++_, _+_, _∙_, _∷_, _≡_, _≤_, ap, arith, drop, false, getD, leb-true, length}
 use Rattle.wire.proofs.Prelude.{length-replicate, refl, replicate, replicate-append-replicate, set, take, ℕ}
 use Rattle.home_core.proofs.Accept.{HomeSound}
-use Rattle.home_core.specs.Layout.{acceptsHome, balancesFrom, farsWord, homeBounds, homeOpenedWords, homeViewOf, homeZeroWords}
-use Rattle.home_core.specs.Layout.{homeSupplyWord, homesWord, poolWord}
+use Rattle.home_core.specs.Layout.{acceptsHome, homeBalancesWord, farAccountsWord, homeBounds, homeOpenedWords, homeViewOf, homeZeroWords}
+use Rattle.home_core.specs.Layout.{homeSupplyWord, homeAccountsWord, poolWord}
 use Rattle.ledgers.specs.Limits.{accountLimit, capacity, maxAmount}
 use Rattle.places.proofs.Openings.{Stands, copied, count-facts, stands, stored-behind}
 use Rattle.places.specs.LedgerBalances.{zeroFilled}
@@ -24,27 +24,27 @@ zeros-split : (a b c : ℕ) → replicate {A = ℕ} (a + (b + c)) 0 ≡ replicat
 zeros-split a b c = simp replicate-append-replicate
 
 -- what the stores leave behind other words
-stores-leave : (z : List ℕ) → length z ≡ balancesFrom → (homes : List ℕ) → length homes ≤ accountLimit → (s first : List ℕ)
+stores-leave : (z : List ℕ) → length z ≡ homeBalancesWord → (homes : List ℕ) → length homes ≤ accountLimit → (s first : List ℕ)
     → (supply pool n m : ℕ) → s ≡ z ++ (replicate accountLimit 0 ++ replicate 5 0)
-    → first ≡ take balancesFrom s ++ (homes ++ drop (balancesFrom + length homes) s)
-    → set (set (set (set first homeSupplyWord supply) poolWord pool) homesWord n) farsWord m
+    → first ≡ take homeBalancesWord s ++ (homes ++ drop (homeBalancesWord + length homes) s)
+    → set (set (set (set first homeSupplyWord supply) poolWord pool) homeAccountsWord n) farAccountsWord m
     ≡ z ++ (zeroFilled homes ++ supply ∷ pool ∷ n ∷ m ∷ 0 ∷ [])
 stores-leave z e homes h s first supply pool n m q a =
     rw (
       a,
       q,
-      copied z balancesFrom e homes h (replicate 5 0),
-      stored-behind z balancesFrom e homes h (0 ∷ 0 ∷ 0 ∷ 0 ∷ 0 ∷ []) 0 supply,
-      stored-behind z balancesFrom e homes h (supply ∷ 0 ∷ 0 ∷ 0 ∷ 0 ∷ []) 1 pool,
-      stored-behind z balancesFrom e homes h (supply ∷ pool ∷ 0 ∷ 0 ∷ 0 ∷ []) 2 n,
-      stored-behind z balancesFrom e homes h (supply ∷ pool ∷ n ∷ 0 ∷ 0 ∷ []) 3 m,
+      copied z homeBalancesWord e homes h (replicate 5 0),
+      stored-behind z homeBalancesWord e homes h (0 ∷ 0 ∷ 0 ∷ 0 ∷ 0 ∷ []) 0 supply,
+      stored-behind z homeBalancesWord e homes h (supply ∷ 0 ∷ 0 ∷ 0 ∷ 0 ∷ []) 1 pool,
+      stored-behind z homeBalancesWord e homes h (supply ∷ pool ∷ 0 ∷ 0 ∷ 0 ∷ []) 2 n,
+      stored-behind z homeBalancesWord e homes h (supply ∷ pool ∷ n ∷ 0 ∷ 0 ∷ []) 3 m,
     )
 
 module _ (homes : List ℕ) (fars farTotal : ℕ) where
   -- the words of an opening are what the stores leave in words of zeros
   pub opened-by : length homes ≤ accountLimit → (s first : List ℕ) (supply : ℕ) → s ≡ homeZeroWords → supply ≡ total homes + farTotal
-      → first ≡ take balancesFrom s ++ (homes ++ drop (balancesFrom + length homes) s)
-      → set (set (set (set first homeSupplyWord supply) poolWord farTotal) homesWord (length homes)) farsWord fars
+      → first ≡ take homeBalancesWord s ++ (homes ++ drop (homeBalancesWord + length homes) s)
+      → set (set (set (set first homeSupplyWord supply) poolWord farTotal) homeAccountsWord (length homes)) farAccountsWord fars
       ≡ homeOpenedWords homes fars farTotal
   unfolding homeOpenedWords homeZeroWords
   opened-by h s first supply q u a =
@@ -68,10 +68,10 @@ module _ (homes : List ℕ) (fars farTotal : ℕ) where
     scalars = (total homes + farTotal) ∷ farTotal ∷ length homes ∷ fars ∷ 0 ∷ []
 
     -- the balances stand there
-    opened-stand : Stands opened balancesFrom homes scalars
+    opened-stand : Stands opened homeBalancesWord homes scalars
     unfolding homeOpenedWords
     opened-stand =
-        stands (replicate (4 * capacity) 0) balancesFrom (length-replicate {A = ℕ} (4 * capacity) 0) homes opened-count scalars
+        stands (replicate (4 * capacity) 0) homeBalancesWord (length-replicate {A = ℕ} (4 * capacity) 0) homes opened-count scalars
 
     -- each of the last five
     last : (k : ℕ) → getD opened (homeSupplyWord + k) 0 ≡ getD scalars k 0

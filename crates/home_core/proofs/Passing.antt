@@ -4,12 +4,12 @@ use Rattle.wire.proofs.Prelude.{List, _*_, _+_, _-_, _<_, _^_, _∙_, _≡_, _�
 use Rattle.wire.proofs.Prelude.{length-set, refl, set, sym, true, ℕ}
 use Rattle.answers.proofs.Answers.{or-else-zero}
 use Rattle.home_core.proofs.Accept.{HomeBounds, HomeSound, length-balances, length-held, sound-accepts, sound-of}
-use Rattle.home_core.specs.Layout.{HomeReady, acceptsHome, balancesFrom, farsOf, farsWord, homeCountOf, homeCountWord, homeViewOf}
+use Rattle.home_core.specs.Layout.{HomeReady, acceptsHome, homeBalancesWord, farAccountsOf, farAccountsWord, homeCountOf, homeCountWord, homeViewOf}
 use Rattle.home_core.specs.Layout.{homeWith}
-use Rattle.home_core.specs.Layout.{homeSupplyOf, homeSupplyWord, homesOf, homesWord, poolOf, poolWord}
+use Rattle.home_core.specs.Layout.{homeSupplyOf, homeSupplyWord, homeAccountsOf, homeAccountsWord, poolOf, poolWord}
 use Rattle.ledgers.specs.Limits.{accountLimit, capacity, maxAmount}
 use Rattle.places.proofs.PassedRecord.{Changes, zeros-kept}
-use Rattle.places.specs.Entries.{givenBy, takenBy}
+use Rattle.places.specs.Amounts.{givenBy, takenBy}
 use Rattle.places.specs.LedgerBalances.{zerosAt}
 use Rattle.places.specs.OverPlaces.{allAt}
 use Rattle.records.proofs.Formed.{read-formed}
@@ -34,32 +34,32 @@ module _ (s : List ℕ) (o : HomeSound s) where
   sums-fit = omega (arith, home-accepts-facts capacity (homeViewOf s) (o .accepted) .sums, o .bounds .supply-fits)
 
   -- any balance is at most the greatest amount
-  balance-most : (i : ℕ) → i < accountLimit → getD s (balancesFrom + i) 0 ≤ maxAmount
+  balance-most : (i : ℕ) → i < accountLimit → getD s (homeBalancesWord + i) 0 ≤ maxAmount
   balance-most i h =
-      balance-fits s balancesFrom (homesOf s) 0 (homeCountOf s) accountLimit (o .zeros) maxAmount (omega (arith, sums-fit)) i h
+      balance-fits s homeBalancesWord (homeAccountsOf s) 0 (homeCountOf s) accountLimit (o .zeros) maxAmount (omega (arith, sums-fit)) i h
 
 -- ## A pass
 
 -- what a pass says of a record of a kind
 pub record HomePasses (s : List ℕ) (r : Record) (k : Kind) : Type 0 where
   pub room : homeCountOf s < capacity
-  pub changes : Changes (homesOf s) r k
+  pub changes : Changes (homeAccountsOf s) r k
   pub sender : r .sender < accountLimit
   pub receiver : r .receiver < accountLimit
-  pub pays : takenBy k (r .amount) ≤ getD s (balancesFrom + r .sender) 0
+  pub pays : takenBy k (r .amount) ≤ getD s (homeBalancesWord + r .sender) 0
   pub pool-has : givenBy k (r .amount) ≤ poolOf s + takenBy k (r .amount)
   pub pool-fits : poolOf s + takenBy k (r .amount) ≤ maxAmount
 
 module _ (s : List ℕ) (o : HomeSound s) (r : Record) (space : homeCountOf s < capacity) where
   -- the rules count as many accounts
-  own : length (homeViewOf s .home .balances) ≡ homesOf s
+  own : length (homeViewOf s .home .balances) ≡ homeAccountsOf s
   own = length-balances s (o .long) (o .bounds .home-fits)
 
   -- the sender's balance, as the rules have it, is within the total
-  pays-by : r .sender < homesOf s → (getD s (balancesFrom + r .sender) 0 ≡ getD (homeViewOf s .home .balances) (r .sender) 0)
+  pays-by : r .sender < homeAccountsOf s → (getD s (homeBalancesWord + r .sender) 0 ≡ getD (homeViewOf s .home .balances) (r .sender) 0)
       × (getD (homeViewOf s .home .balances) (r .sender) 0 ≤ total (homeViewOf s .home .balances))
   pays-by x = (
-    balance-in s balancesFrom (homesOf s) 0 (homeCountOf s) (r .sender) x,
+    balance-in s homeBalancesWord (homeAccountsOf s) 0 (homeCountOf s) (r .sender) x,
     balance-total (homeViewOf s .home .balances) (r
         .sender),
   )
@@ -68,10 +68,10 @@ module _ (s : List ℕ) (o : HomeSound s) (r : Record) (space : homeCountOf s < 
   passes-by : (k : Kind) → HomePassable (homeViewOf s) r k → HomePasses s r k
   unfolding HomePassable Changes
   passes-by (Local Home) h =
-      let x : r .sender < homesOf s = rw own at (h .0 .sender-open) in
+      let x : r .sender < homeAccountsOf s = rw own at (h .0 .sender-open) in
       omega (arith, h .0 .receiver-open, own, o .bounds .home-fits, h .1, pays-by x, sums-fit s o)
   passes-by (Sending Home) h =
-      let x : r .sender < homesOf s = rw own at (h .0 .sender-open) in
+      let x : r .sender < homeAccountsOf s = rw own at (h .0 .sender-open) in
       omega (arith, h .0 .receiver-open, o .bounds .home-fits, o .bounds .far-fits, h .1, pays-by x, sums-fit s o)
   passes-by (Receiving Home) h =
       omega (arith, h .0 .sender-open, h .0 .receiver-open, own, o .bounds .home-fits, o .bounds .far-fits, h .1, sums-fit s o)
@@ -89,10 +89,10 @@ passes-of s o r j =
 
 -- what is given to an account stays in 64 bits
 pub paid-fits : (s : List ℕ) → HomeSound s → (r : Record) → HomePasses s r (r .kind) → r .amount ≤ maxAmount
-    → getD (lowered s (balancesFrom + r .sender) (takenBy (r .kind) (r .amount))) (balancesFrom + r .receiver) 0
+    → getD (lowered s (homeBalancesWord + r .sender) (takenBy (r .kind) (r .amount))) (homeBalancesWord + r .receiver) 0
     + givenBy (r .kind) (r .amount) < 2 ^ 64
 paid-fits s o r p m =
-    given-fits s balancesFrom r (omega (arith, o .long, p .sender)) (balance-most s o (r .sender) (p .sender))
+    given-fits s homeBalancesWord r (omega (arith, o .long, p .sender)) (balance-most s o (r .sender) (p .sender))
     (balance-most s o (r .receiver) (p .receiver)) m
 
 -- what a record takes from its sender enters the pool, and what it gives leaves it
@@ -106,11 +106,11 @@ pool-moved pool r (Receiving l) = omega arith
 -- words t are those after a pass: the ledger's by its store, the others by name
 pub record HomeWritten (s t : List ℕ) (w : Words) (r : Record) : Type 0 where
   pub long : length t ≡ length s
-  pub below : (i : ℕ) → i < homeSupplyWord → getD t i 0 ≡ getD (stored s balancesFrom (0 + 4 * homeCountOf s) w r) i 0
+  pub below : (i : ℕ) → i < homeSupplyWord → getD t i 0 ≡ getD (stored s homeBalancesWord (0 + 4 * homeCountOf s) w r) i 0
   pub supply : homeSupplyOf t ≡ homeSupplyOf s
   pub pool : poolOf t ≡ poolAfter (poolOf s) r (r .kind)
-  pub homes : homesOf t ≡ homesOf s
-  pub fars : farsOf t ≡ farsOf s
+  pub homes : homeAccountsOf t ≡ homeAccountsOf s
+  pub fars : farAccountsOf t ≡ farAccountsOf s
   pub count : homeCountOf t ≡ homeCountOf s + 1
 
 -- two words stored, seen elsewhere
@@ -120,12 +120,12 @@ set-two x j k a b i p q = getD-set-other (set x j a) k i b 0 q ∙ getD-set-othe
 module _ (s : List ℕ) (w : Words) (r : Record) (o : HomeSound s) (p : HomePasses s r (r .kind)) where
   -- the words after the store
   abbrev after : List ℕ
-  after = stored s balancesFrom (4 * homeCountOf s) w r
+  after = stored s homeBalancesWord (4 * homeCountOf s) w r
 
   -- the store
-  is-stored : Stored s balancesFrom (homesOf s) (4 * homeCountOf s) w r
+  is-stored : Stored s homeBalancesWord (homeAccountsOf s) (4 * homeCountOf s) w r
   is-stored =
-      stored-of s balancesFrom (homesOf s) (4 * homeCountOf s) w r (p .changes) (omega (arith, p .room))
+      stored-of s homeBalancesWord (homeAccountsOf s) (4 * homeCountOf s) w r (p .changes) (omega (arith, p .room))
       (omega (arith, o .long, o .bounds .home-fits))
 
   -- a word above the balances that is neither the pool nor the count
@@ -146,13 +146,13 @@ module _ (s : List ℕ) (w : Words) (r : Record) (o : HomeSound s) (p : HomePass
         below =
             λ i h.
             set-two after poolWord homeCountWord x (homeCountOf s + 1) i (λ q. omega arith) (λ q. omega arith)
-            ∙ ap (λ (a : ℕ). getD (stored s balancesFrom a w r) i 0) (sym z);
+            ∙ ap (λ (a : ℕ). getD (stored s homeBalancesWord a w r) i 0) (sym z);
         supply = above homeSupplyWord (omega arith) (λ q. omega arith) (λ q. omega arith);
         pool =
             getD-set-other (set after poolWord x) homeCountWord poolWord (homeCountOf s + 1) 0 (λ q. omega arith)
             ∙ getD-set-same after poolWord x 0 (omega (arith, is-stored .long, o .long));
-        homes = above homesWord (omega arith) (λ q. omega arith) (λ q. omega arith);
-        fars = above farsWord (omega arith) (λ q. omega arith) (λ q. omega arith);
+        homes = above homeAccountsWord (omega arith) (λ q. omega arith) (λ q. omega arith);
+        fars = above farAccountsWord (omega arith) (λ q. omega arith) (λ q. omega arith);
         count = getD-set-same (set after poolWord x) homeCountWord (homeCountOf s + 1) 0
             (omega (arith, length-set after poolWord x, is-stored .long, o .long));
       }
@@ -160,9 +160,9 @@ module _ (s : List ℕ) (w : Words) (r : Record) (o : HomeSound s) (p : HomePass
 module _ (s t : List ℕ) (w : Words) (r : Record) (o : HomeSound s) (p : HomePasses s r (r .kind)) (c : HomeWritten s t w r)
     (e : recordIn w ≡ r) where
   -- the ledger
-  ledger-after : LedgerStored s t balancesFrom (homesOf s) 0 (homeCountOf s) homeSupplyWord w r
+  ledger-after : LedgerStored s t homeBalancesWord (homeAccountsOf s) 0 (homeCountOf s) homeSupplyWord w r
   ledger-after =
-      ledger-stored-of s t balancesFrom (homesOf s) 0 (homeCountOf s) homeSupplyWord w r (p .changes) (omega (arith, p .room))
+      ledger-stored-of s t homeBalancesWord (homeAccountsOf s) 0 (homeCountOf s) homeSupplyWord w r (p .changes) (omega (arith, p .room))
       (omega (arith, o .bounds .home-fits)) (omega (arith, o .long)) (c .long) (c .below)
 
   -- the state, as the rules have it
@@ -171,7 +171,7 @@ module _ (s t : List ℕ) (w : Words) (r : Record) (o : HomeSound s) (p : HomePa
       rw (c .supply, c .pool, c .homes, c .fars, c .count)
       (ap
       (λ (l : LedgerState).
-      record { home = l; farAccounts = farsOf s; farPool = poolAfter (poolOf s) r (r .kind); supply = homeSupplyOf s })
+      record { home = l; farAccounts = farAccountsOf s; farPool = poolAfter (poolOf s) r (r .kind); supply = homeSupplyOf s })
       (ledger-after .ledger e))
 
   -- the bounds
@@ -179,10 +179,10 @@ module _ (s t : List ℕ) (w : Words) (r : Record) (o : HomeSound s) (p : HomePa
   bounds-after = omega (arith, c .homes, c .fars, c .count, c .supply, p .room, o .bounds)
 
   -- balances beyond the accounts stay zero
-  zeros-after : zerosAt t (balancesFrom + homesOf t) (accountLimit - homesOf t) ≡ true
+  zeros-after : zerosAt t (homeBalancesWord + homeAccountsOf t) (accountLimit - homeAccountsOf t) ≡ true
   zeros-after =
       rw (c .homes)
-      (zeros-kept s t (balancesFrom + homesOf s) (accountLimit - homesOf s)
+      (zeros-kept s t (homeBalancesWord + homeAccountsOf s) (accountLimit - homeAccountsOf s)
       (λ i a b. ledger-after .others i (omega (arith, b, o .bounds .home-fits)) (inr a) (inr (omega (arith, a, p .room))))
       ∙ o .zeros)
 

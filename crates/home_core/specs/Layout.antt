@@ -10,7 +10,6 @@ use lib.Dec.{eqb, leb}
 use lib.ListN.{getD, length, replicate, set}
 use Rattle.ledgers.specs.Limits.{accountLimit, capacity}
 use Rattle.places.specs.LedgerBalances.{zeroFilled, zerosAt}
-use Rattle.places.specs.NumberIndex.{chainCount}
 use Rattle.places.specs.OverPlaces.{allAt}
 use Rattle.records.specs.Records.{formed, reading, wordsOf}
 use Rattle.records.specs.declared.Reading.{Reading}
@@ -21,27 +20,27 @@ use Rattle.rules.specs.Calls.{Checker}
 use Rattle.rules.specs.HomeValidator.{HomeView, homeAccepts, homeJudge, poolAfter}
 use Rattle.rules.specs.Lists.{total}
 use Rattle.rules.specs.PairValidator.{countAllowed, supplyAllowed}
-use Rattle.table.specs.Table.{IndexOf, ledgerIn, stored, wordsAt}
+use Rattle.table.specs.Table.{IndexOf, indexLength, ledgerIn, stored, wordsAt}
 use Rattle.wire.specs.BigEndian.{every}
 
 -- ## The layout
 
 -- the first word of the balances; the records stand from word 0 on
-abbrev pub balancesFrom : ℕ
-balancesFrom = 4 * capacity
+abbrev pub homeBalancesWord : ℕ
+homeBalancesWord = 4 * capacity
 
 -- the words of the supply, the far pool, the numbers of accounts and of held records
 abbrev pub homeSupplyWord : ℕ
-homeSupplyWord = balancesFrom + accountLimit
+homeSupplyWord = homeBalancesWord + accountLimit
 
 abbrev pub poolWord : ℕ
 poolWord = homeSupplyWord + 1
 
-abbrev pub homesWord : ℕ
-homesWord = homeSupplyWord + 2
+abbrev pub homeAccountsWord : ℕ
+homeAccountsWord = homeSupplyWord + 2
 
-abbrev pub farsWord : ℕ
-farsWord = homeSupplyWord + 3
+abbrev pub farAccountsWord : ℕ
+farAccountsWord = homeSupplyWord + 3
 
 abbrev pub homeCountWord : ℕ
 homeCountWord = homeSupplyWord + 4
@@ -61,12 +60,12 @@ abbrev pub poolOf : List ℕ → ℕ
 poolOf s = getD s poolWord 0
 
 -- the number of home accounts
-abbrev pub homesOf : List ℕ → ℕ
-homesOf s = getD s homesWord 0
+abbrev pub homeAccountsOf : List ℕ → ℕ
+homeAccountsOf s = getD s homeAccountsWord 0
 
 -- of far accounts
-abbrev pub farsOf : List ℕ → ℕ
-farsOf s = getD s farsWord 0
+abbrev pub farAccountsOf : List ℕ → ℕ
+farAccountsOf s = getD s farAccountsWord 0
 
 -- of held records
 abbrev pub homeCountOf : List ℕ → ℕ
@@ -76,8 +75,8 @@ homeCountOf s = getD s homeCountWord 0
 abbrev pub homeViewOf : List ℕ → HomeView
 homeViewOf s =
     record {
-      home = ledgerIn s balancesFrom (homesOf s) 0 (homeCountOf s);
-      farAccounts = farsOf s;
+      home = ledgerIn s homeBalancesWord (homeAccountsOf s) 0 (homeCountOf s);
+      farAccounts = farAccountsOf s;
       farPool = poolOf s;
       supply = homeSupplyOf s;
     }
@@ -88,8 +87,8 @@ homeViewOf s =
 unfoldable pub homeBounds : List ℕ → Bool
 homeBounds s =
     every
-    (countAllowed (homesOf s)
-    ∷ countAllowed (farsOf s)
+    (countAllowed (homeAccountsOf s)
+    ∷ countAllowed (farAccountsOf s)
     ∷ leb (homeCountOf s) capacity
     ∷ supplyAllowed (homeSupplyOf s)
     ∷ []
@@ -102,7 +101,7 @@ acceptsHome s =
     every
     (eqb (length s) homeWords
     ∷ homeBounds s
-    ∷ zerosAt s (balancesFrom + homesOf s) (accountLimit - homesOf s)
+    ∷ zerosAt s (homeBalancesWord + homeAccountsOf s) (accountLimit - homeAccountsOf s)
     ∷ allAt (λ (i : ℕ). formed (wordsAt s 0 i)) 0 (homeCountOf s)
     ∷ homeAccepts capacity (homeViewOf s)
     ∷ []
@@ -113,7 +112,7 @@ acceptsHome s =
 -- the words once a record has passed: its balances and its own words, the pool, the number of held records
 unfoldable pub homeWith : List ℕ → Words → Record → List ℕ
 homeWith s w r =
-    set (set (stored s balancesFrom (4 * homeCountOf s) w r) poolWord (poolAfter (poolOf s) r (r .kind))) homeCountWord (homeCountOf s + 1)
+    set (set (stored s homeBalancesWord (4 * homeCountOf s) w r) poolWord (poolAfter (poolOf s) r (r .kind))) homeCountWord (homeCountOf s + 1)
 
 -- the words once what was read has passed
 abbrev pub homeAfterRead : List ℕ → Words → Reading → List ℕ
@@ -143,12 +142,8 @@ homeZeroWords = replicate homeWords 0
 
 -- ## For inner functions
 
--- the elements of the index of the numbers: the heads of the chains, then the places
-abbrev pub homeIndexLength : ℕ
-homeIndexLength = chainCount + capacity
-
 -- a state that is accepted, with the index of its numbers
 pub record HomeReady (s index : List ℕ) : Type 0 where
   pub accepted : acceptsHome s ≡ true
-  pub index-long : length index ≡ homeIndexLength
+  pub index-long : length index ≡ indexLength
   pub indexed : IndexOf s 0 index 0 (homeCountOf s)

@@ -6,8 +6,8 @@ ghost use mathlib.Core.Path.{_≡_};
 ghost use lib.Dec.{eqb};
 ghost use lib.ListN.{getD, length};
 ghost use Rattle.answers.specs.Answers.{unlessRefused};
-ghost use Rattle.home_core.specs.Layout.{HomeReady, acceptsHome, balancesFrom, homeBounds, homeViewOf, homeWith, homeWords};
-ghost use Rattle.home_core.specs.Layout.{homeOpenedWords, homeWordsChecker, homeZeroWords, homesOf, homeIndexLength, poolOf};
+ghost use Rattle.home_core.specs.Layout.{HomeReady, acceptsHome, homeBalancesWord, homeBounds, homeViewOf, homeWith, homeWords};
+ghost use Rattle.home_core.specs.Layout.{homeOpenedWords, homeWordsChecker, homeZeroWords, homeAccountsOf, poolOf};
 ghost use Rattle.home_core.specs.Layout.{homeSupplyOf};
 ghost use Rattle.ledgers.specs.Limits.{capacity};
 ghost use Rattle.places.specs.OverPlaces.{sumAt};
@@ -15,26 +15,26 @@ ghost use Rattle.records.specs.Records.{formed, recordIn};
 ghost use Rattle.records.specs.declared.Reading.the-variants.{Read};
 ghost use Rattle.rules.specs.Calls.{call, callOne, list, one};
 ghost use Rattle.rules.specs.HomeValidator.{homeAccounts, homeJudge, homeLastRefusal, homeOpeningRefusal, isFar, poolRefusal};
-ghost use Rattle.table.specs.Table.{IndexOf};
+ghost use Rattle.table.specs.Table.{IndexOf, indexLength};
 use answers::Answer;
 use answers::first_refusal;
 use answers::refusal_if;
 use ledgers::Ledger;
-use places::CHAINS;
 use places::Wide;
 use places::add_balances;
+use places::are_zero;
 use places::copy_numbers;
 use places::given_by;
 use places::is_count_allowed;
 use places::is_receiving;
 use places::taken_by;
-use places::zeros;
 use records::Reading;
 use records::Record;
 use records::Words;
 use refusals::first_refusals;
 use refusals::funds_refusal;
 use refusals::home_opening;
+use table::INDEX;
 use table::add_number;
 use table::hold_indexed;
 use table::is_used;
@@ -51,17 +51,14 @@ pub const SUPPLY_WORD: usize = BALANCES_WORD + Ledger::ACCOUNTS;
 
 pub const POOL_WORD: usize = SUPPLY_WORD + 1;
 
-pub const HOMES_WORD: usize = SUPPLY_WORD + 2;
+pub const HOME_ACCOUNTS_WORD: usize = SUPPLY_WORD + 2;
 
-pub const FARS_WORD: usize = SUPPLY_WORD + 3;
+pub const FAR_ACCOUNTS_WORD: usize = SUPPLY_WORD + 3;
 
 pub const COUNT_WORD: usize = SUPPLY_WORD + 4;
 
 // All words of a state.
 pub const WORDS: usize = SUPPLY_WORD + 5;
-
-// The elements of the index of its numbers.
-pub const INDEX: usize = CHAINS + Ledger::CAPACITY;
 
 // ## 3
 
@@ -70,10 +67,10 @@ fn is_bounded(s: &[u64]) -> bool
     requires { ⌜ length (now s) ≡ homeWords ⌝ }
     ensures { λ b. ⌜ b ≡ homeBounds (now (s .entry)) ⌝ }
 {
-    if !is_count_allowed(s[HOMES_WORD] as usize) {
+    if !is_count_allowed(s[HOME_ACCOUNTS_WORD] as usize) {
         return false;
     }
-    if !is_count_allowed(s[FARS_WORD] as usize) {
+    if !is_count_allowed(s[FAR_ACCOUNTS_WORD] as usize) {
         return false;
     }
     if Ledger::CAPACITY < s[COUNT_WORD] as usize {
@@ -85,11 +82,13 @@ fn is_bounded(s: &[u64]) -> bool
 // Balances and the far pool, against the supply.
 fn adds_up(s: &[u64]) -> bool
     requires { ⌜ (length (now s) ≡ homeWords) × (homeBounds (now s) ≡ true) ⌝ }
-    ensures { λ b. ⌜ b ≡ eqb (sumAt (λ (i : ℕ). getD (now (s .entry)) i 0) balancesFrom (homesOf (now (s .entry)))
+    ensures { λ b. ⌜ b ≡ eqb (sumAt (λ (i : ℕ). getD (now (s .entry)) i 0) homeBalancesWord (homeAccountsOf (now (s .entry)))
         + poolOf (now (s .entry))) (homeSupplyOf (now (s .entry))) ⌝ }
 {
     let zero = Wide { high: 0, low: 0 };
-    let sum = add_balances(s, BALANCES_WORD, s[HOMES_WORD] as usize, zero).add(s[POOL_WORD]);
+    let sum = add_balances(s, BALANCES_WORD, s[HOME_ACCOUNTS_WORD] as usize, zero).add(
+        s[POOL_WORD],
+    );
     if sum.high != 0 {
         return false;
     }
@@ -98,7 +97,7 @@ fn adds_up(s: &[u64]) -> bool
 
 // All that 3 asks of a state; where it holds, the index of its numbers is made in place of an empty one.
 pub fn is_accepted<'a, 'b>(s: &'a [u64], index: &'b mut [u16]) -> bool
-    requires { ⌜ (length (now index) ≡ homeIndexLength) × IndexOf (now s) 0 (now index) 0 0 ⌝ }
+    requires { ⌜ (length (now index) ≡ indexLength) × IndexOf (now s) 0 (now index) 0 0 ⌝ }
     ensures accepts { λ b. ⌜ b ≡ acceptsHome (now (s .entry)) ⌝ }
     ensures ready { λ b. ⌜ (b ≡ true → HomeReady (now (s .entry)) (now (index .exit))) ⌝ }
     ensures long { λ b. ⌜ length (now (index .exit)) ≡ length (now (index .entry)) ⌝ }
@@ -109,8 +108,8 @@ pub fn is_accepted<'a, 'b>(s: &'a [u64], index: &'b mut [u16]) -> bool
     if !is_bounded(s) {
         return false;
     }
-    let homes = s[HOMES_WORD] as usize;
-    if !zeros(s, BALANCES_WORD + homes, Ledger::ACCOUNTS - homes) {
+    let homes = s[HOME_ACCOUNTS_WORD] as usize;
+    if !are_zero(s, BALANCES_WORD + homes, Ledger::ACCOUNTS - homes) {
         return false;
     }
     if !hold_indexed(
@@ -120,8 +119,8 @@ pub fn is_accepted<'a, 'b>(s: &'a [u64], index: &'b mut [u16]) -> bool
         0,
         s[COUNT_WORD] as usize,
         0, // home's byte
-        s[HOMES_WORD],
-        s[FARS_WORD],
+        s[HOME_ACCOUNTS_WORD],
+        s[FAR_ACCOUNTS_WORD],
     ) {
         return false;
     }
@@ -146,8 +145,8 @@ fn accounts_on(s: &[u64], l: Ledger) -> usize
     ensures { λ n. ⌜ n ≡ homeAccounts (homeViewOf (now (s .entry))) l ⌝ }
 {
     match l {
-        Ledger::Home => s[HOMES_WORD] as usize,
-        Ledger::Far => s[FARS_WORD] as usize,
+        Ledger::Home => s[HOME_ACCOUNTS_WORD] as usize,
+        Ledger::Far => s[FAR_ACCOUNTS_WORD] as usize,
     }
 }
 
@@ -167,7 +166,7 @@ fn last_refusal(s: &[u64], r: Record) -> u32
     if is_receiving(kind) {
         return pool_refusal(s[POOL_WORD], r);
     }
-    funds_refusal(s, BALANCES_WORD, s[HOMES_WORD] as usize, r)
+    funds_refusal(s, BALANCES_WORD, s[HOME_ACCOUNTS_WORD] as usize, r)
 }
 
 // The refusals of a record that was read, 33 and 22 to 41 in order, or 0.
@@ -224,8 +223,8 @@ pub fn open<'a, 'b>(
     copy_numbers(balances, BALANCES_WORD, state);
     state[SUPPLY_WORD] = opening.supply;
     state[POOL_WORD] = far_total;
-    state[HOMES_WORD] = balances.len() as u64;
-    state[FARS_WORD] = far_accounts as u64;
+    state[HOME_ACCOUNTS_WORD] = balances.len() as u64;
+    state[FAR_ACCOUNTS_WORD] = far_accounts as u64;
     0
 }
 

@@ -5,7 +5,7 @@ use Rattle.answers.specs.Balances.{balanceAmong}
 use Rattle.answers.specs.declared.Answer.{Answer}
 use Rattle.answers.specs.declared.Answer.the-variants.{Passed}
 use Rattle.home_core.proofs.Accept.{length-held, sound-of}
-use Rattle.home_core.specs.Layout.{acceptsHome, balancesFrom, homeCountOf, homeSupplyOf, homeViewOf, homesOf, poolOf}
+use Rattle.home_core.specs.Layout.{acceptsHome, homeBalancesWord, homeCountOf, homeSupplyOf, homeViewOf, homeAccountsOf, poolOf}
 use Rattle.home_validator.specs.Figures.{homeBalanceOf, homeFiguresOf, homePlacesOf}
 use Rattle.home_validator.specs.declared.asked.HomeFigures.{HomeFigures}
 use Rattle.home_validator.specs.declared.asked.HomePlaces.{HomePlaces}
@@ -32,11 +32,11 @@ module _ (s : List ℕ) (h : acceptsHome s ≡ true) where
       rw h (λ i. record { answer = Passed; home = e i; pool = poolOf s })
 
   -- the accounts are within the words
-  pub home-on-ledger : balancesFrom + homesOf s ≤ length s
+  pub home-on-ledger : homeBalancesWord + homeAccountsOf s ≤ length s
   home-on-ledger = let o = sound-of s h in omega (arith, o .long, o .bounds .home-fits)
 
   -- the balance among those of the ledger
-  pub home-balance-passed : (a : ℕ) → balanceAmong (take (homesOf s) (drop balancesFrom s)) a ≡ homeBalanceOf (acceptsHome s) s a
+  pub home-balance-passed : (a : ℕ) → balanceAmong (take (homeAccountsOf s) (drop homeBalancesWord s)) a ≡ homeBalanceOf (acceptsHome s) s a
   unfolding ledgerIn
   home-balance-passed a = rw h
 

@@ -10,12 +10,12 @@ use answers::balance_among;
 use answers::balance_refused;
 use home_core::BALANCES_WORD;
 use home_core::COUNT_WORD;
-use home_core::HOMES_WORD;
-use home_core::INDEX;
+use home_core::HOME_ACCOUNTS_WORD;
 use home_core::POOL_WORD;
 use home_core::SUPPLY_WORD;
 use home_core::is_accepted;
 use ledgers::Ledger;
+use table::INDEX;
 
 // Whether the words of a state are accepted (3 where they are not).
 fn accepted(words: &[u64]) -> bool
@@ -62,7 +62,7 @@ pub fn balance(state: HomeValidator, account: u16) -> Balance
     if !accepted(&state.words) {
         return balance_refused(3);
     }
-    let open = state.words[HOMES_WORD] as usize;
+    let open = state.words[HOME_ACCOUNTS_WORD] as usize;
     balance_among(&state.words, BALANCES_WORD, open, account)
 }
 

@@ -9,7 +9,7 @@ use Rattle.journal.proofs.Items.{Wide, all-long, bytes-joined, joined-o
 use Rattle.journal.proofs.Items.{balances-fit, balances-joined, balances-only, bytes-balances, length-balance-bytes, record-at}
 use Rattle.journal.specs.Journal.{IsOpening, RecordBytes, WithinLimits, balanceBytes, blockCount, groups, joined, recordLimit}
 use Rattle.journal.specs.Journal.{itemsOf}
-use Rattle.journal.specs.Journal.{AllRecordsPass, Reads, ReadsBack, ReadsOnce, WrittenReads, allRecords, journalOf, numbered}
+use Rattle.journal.specs.Journal.{AllBlocksPass, Reads, ReadsBack, ReadsOnce, WrittenReads, allRecords, journalOf, numbered}
 use Rattle.journal.specs.Journal.{CallsRead}
 use Rattle.journal.specs.Journal.{AllAllowed, BlocksWritten}
 use Rattle.journal_blocks.proofs.Checking.{right-facts}
@@ -121,8 +121,8 @@ record-back b k before l y h =
     }
 
 -- no block from number 3 on is right after one of fewer than 14
-short-last : (k before : ℕ) (bs : List (List ℕ)) → 2 < k → before < 14 → AllRecordsPass k before bs → bs ≡ []
-unfolding AllRecordsPass
+short-last : (k before : ℕ) (bs : List (List ℕ)) → 2 < k → before < 14 → AllBlocksPass k before bs → bs ≡ []
+unfolding AllBlocksPass
 short-last k before [] l s h = refl
 short-last k before (b ∷ bs) l s h =
     let r = right-facts b k before (h .0) in
@@ -149,8 +149,8 @@ pub record RecordBlocks (bs : List (List ℕ)) (k : ℕ) : Type 0 where
   pub are : bs ≡ numbered k (groups (blockCount (allRecords bs)) (allRecords bs))
 
 -- from the bytes of the blocks
-records-back : (k before : ℕ) (bs : List (List ℕ)) → 2 ≤ k → All Bytes bs → AllRecordsPass k before bs → RecordBlocks bs k
-unfolding AllRecordsPass allRecords groups numbered All
+records-back : (k before : ℕ) (bs : List (List ℕ)) → 2 ≤ k → All Bytes bs → AllBlocksPass k before bs → RecordBlocks bs k
+unfolding AllBlocksPass allRecords groups numbered All
 records-back k before [] l y h = record { whole = tt; limit = omega arith; are = refl }
 records-back k before (b ∷ bs) l y h =
     let o = record-back b k before l (y .0) (h .0) in
@@ -178,14 +178,14 @@ records-back k before (b ∷ bs) l y h =
 
 -- what the blocks written from records are
 pub record RecordsWritten (records : List (List ℕ)) (n k before : ℕ) : Type 0 where
-  pub pass : AllRecordsPass k before (numbered k (groups n records))
+  pub pass : AllBlocksPass k before (numbered k (groups n records))
   pub read : allRecords (numbered k (groups n records)) ≡ records
   pub allow : AllAllowed k (groups n records)
 
 -- from the records
 records-forth : (n k before : ℕ) (rs : List (List ℕ)) → 2 ≤ k → k + n ≤ 65536 → All RecordBytes rs → n ≡ blockCount rs
     → (2 < k → 0 < n → 14 ≤ before) → RecordsWritten rs n k before
-unfolding AllRecordsPass allRecords groups numbered AllAllowed
+unfolding AllBlocksPass allRecords groups numbered AllAllowed
 records-forth zero k before [] l u w e f = record { pass = tt; read = refl; allow = tt }
 records-forth zero k before (r ∷ rs) l u w e f = absurd (omega arith)
 records-forth (suc n) k before rs l u w e f =
@@ -237,7 +237,7 @@ within-written home far records w =
 
 -- a written journal reads
 pub written-reads : WrittenReads
-unfolding WrittenReads journalOf itemsOf numbered AllRecordsPass
+unfolding WrittenReads journalOf itemsOf numbered AllBlocksPass
 written-reads home far records w =
     let h = opening-forth home 0 0 (omega arith) (w .home-opening) in
     let f = opening-forth far 1 (statedCount (journalBlock 0 (balanceBytes home))) (omega arith) (w .far-opening) in
@@ -262,7 +262,7 @@ all-bytes (b ∷ bs) h = let s = all-split (λ (x : ℕ). x < 256) b (joined bs)
 -- what reads is the written journal
 read-written : (home far : List ℕ) (records : List (List ℕ)) (j : List ℕ) → Bytes j → Reads j home far records
     → WithinLimits home far records × (j ≡ journalOf home far records)
-unfolding journalOf itemsOf numbered AllRecordsPass All
+unfolding journalOf itemsOf numbered AllBlocksPass All
 read-written home far records j y r =
     let bs : List (List ℕ) = r .first ∷ r .second ∷ r .others in
     let ys : All Bytes bs = all-bytes bs (subst Bytes (r .whole) y) in
@@ -293,7 +293,7 @@ reads-back home far records j y = (
 
 -- what each block of a written journal is to the calls
 pub blocks-written : BlocksWritten
-unfolding BlocksWritten itemsOf numbered AllRecordsPass AllAllowed
+unfolding BlocksWritten itemsOf numbered AllBlocksPass AllAllowed
 blocks-written home far records w =
     let h = opening-forth home 0 0 (omega arith) (w .home-opening) in
     let f = opening-forth far 1 (statedCount (journalBlock 0 (balanceBytes home))) (omega arith) (w .far-opening) in
@@ -301,8 +301,8 @@ blocks-written home far records w =
     ((h .allowed, (f .allowed, r .allow)), (h .passes, (f .passes, r .pass)))
 
 -- blocks that pass have 512 bytes
-all-512 : (k before : ℕ) (bs : List (List ℕ)) → AllRecordsPass k before bs → All (Wide 512) bs
-unfolding AllRecordsPass All
+all-512 : (k before : ℕ) (bs : List (List ℕ)) → AllBlocksPass k before bs → All (Wide 512) bs
+unfolding AllBlocksPass All
 all-512 k before [] h = tt
 all-512 k before (b ∷ bs) h = (right-facts b k before (h .0) .long, all-512 (suc k) (statedCount b) bs (h .1))
 

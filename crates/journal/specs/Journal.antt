@@ -74,9 +74,9 @@ journalOf home far records = joined (numbered 0 (itemsOf home far records))
 -- ## What is read
 
 -- each block is right in turn: the first as number k after a block of `before` items, each next one after it
-unfoldable pub AllRecordsPass : ℕ → ℕ → List (List ℕ) → Type 0
-AllRecordsPass k before [] = Unit {0}
-AllRecordsPass k before (b ∷ bs) = (blockRefusal b k before ≡ 0) × AllRecordsPass (suc k) (statedCount b) bs
+unfoldable pub AllBlocksPass : ℕ → ℕ → List (List ℕ) → Type 0
+AllBlocksPass k before [] = Unit {0}
+AllBlocksPass k before (b ∷ bs) = (blockRefusal b k before ≡ 0) × AllBlocksPass (suc k) (statedCount b) bs
 
 -- the records of blocks, one block after the other
 unfoldable pub allRecords : List (List ℕ) → List (List ℕ)
@@ -90,7 +90,7 @@ pub record Reads (j home far : List ℕ) (records : List (List ℕ)) : Type 0 wh
   pub second : List ℕ
   pub others : List (List ℕ)
   pub whole : j ≡ joined (first ∷ second ∷ others)
-  pub right : AllRecordsPass 0 0 (first ∷ second ∷ others)
+  pub right : AllBlocksPass 0 0 (first ∷ second ∷ others)
   pub home-balances : balancesOf first ≡ home
   pub far-balances : balancesOf second ≡ far
   pub record-list : allRecords others ≡ records
@@ -142,4 +142,4 @@ AllAllowed k (items ∷ others) =
 unfoldable pub BlocksWritten : Type 0
 BlocksWritten =
     (home far : List ℕ) (records : List (List ℕ)) → WithinLimits home far records
-    → AllAllowed 0 (itemsOf home far records) × AllRecordsPass 0 0 (numbered 0 (itemsOf home far records))
+    → AllAllowed 0 (itemsOf home far records) × AllBlocksPass 0 0 (numbered 0 (itemsOf home far records))

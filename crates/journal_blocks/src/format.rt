@@ -14,10 +14,10 @@ pub const BLOCK_SIZE: usize = 512;
 // The greatest block number.
 pub const MAX_BLOCK: u64 = 65535;
 // The most records of a block; all record blocks but the last have as many.
-pub const RECORDS: usize = 14;
+pub const RECORDS_PER_BLOCK: usize = 14;
 
 // A number of 8 bits in 64 bits.
-fn wide(x: u8) -> usize
+fn byte_as_number(x: u8) -> usize
     ensures { λ r. ⌜ (r ≡ x) × (r < 256) ⌝ }
 {
     x as usize
@@ -47,7 +47,11 @@ pub fn item_size(k: u64) -> usize
 pub fn item_limit(k: u64) -> usize
     ensures { λ r. ⌜ r ≡ itemLimit k ⌝ }
 {
-    if k < 2 { Ledger::ACCOUNTS } else { RECORDS }
+    if k < 2 {
+        Ledger::ACCOUNTS
+    } else {
+        RECORDS_PER_BLOCK
+    }
 }
 
 // The count that a block states: its byte 5, and 0 where it has none.
@@ -57,7 +61,7 @@ pub fn stated_count(block: &[u8]) -> u64
     if block.len() <= 5 {
         return 0;
     }
-    wide(block[5]) as u64
+    byte_as_number(block[5]) as u64
 }
 
 // The end of the items in the block with number k and a count that it can have.
@@ -79,7 +83,7 @@ fn follows(k: u64, before: u64) -> bool
     if k <= 2 {
         return true;
     }
-    RECORDS as u64 <= before
+    RECORDS_PER_BLOCK as u64 <= before
 }
 
 // Whether refusal 14 has nothing against the block with number k after a block of `before` items.
@@ -90,7 +94,7 @@ pub fn is_block_formed(block: &[u8], k: u64, before: u64) -> bool
     if block[4] != kind_of_block(k) {
         return false;
     }
-    let count = wide(block[5]);
+    let count = byte_as_number(block[5]);
     if count == 0 {
         return false;
     }

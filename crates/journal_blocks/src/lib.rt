@@ -5,7 +5,7 @@ pub mod checks; // checks.rt: refusals 11 to 14 in order
 pub use checks::block_refusal;
 pub use format::BLOCK_SIZE;
 pub use format::MAX_BLOCK;
-pub use format::RECORDS;
+pub use format::RECORDS_PER_BLOCK;
 pub use format::item_limit;
 pub use format::item_size;
 pub use format::kind_of_block;

@@ -14,9 +14,9 @@ pub record Placed (b : List ℕ) (place : ℕ) : Type 0 where
   pub low : place < 14
 
 -- from the refusal
-pub placed : (b : List ℕ) (k before place : ℕ) → recordRefusal b k before place ≡ 0 → Placed b place
+pub place-facts : (b : List ℕ) (k before place : ℕ) → recordRefusal b k before place ≡ 0 → Placed b place
 unfolding recordRefusal placeRefusal
-placed b k before place h =
+place-facts b k before place h =
     let o = or-else-zero (blockRefusal b k before) _ h in
     let r = right-facts b k before (o .0) in
     let h1 = refuse-zero (ltb k 2) 4 _ (omega arith) (o .1) in
@@ -25,9 +25,9 @@ placed b k before place h =
     omega (arith, r .long, m, records-limit k (ltb-false k 2 (h1 .0)), leb-false (statedCount b) place (h2 .0))
 
 -- a block whose opening balances are not refused
-pub opened : (b : List ℕ) (k before : ℕ) → balancesRefusal b k before ≡ 0 → (length b ≡ 512) × (statedCount b ≤ 56)
+pub balances-facts : (b : List ℕ) (k before : ℕ) → balancesRefusal b k before ≡ 0 → (length b ≡ 512) × (statedCount b ≤ 56)
 unfolding balancesRefusal
-opened b k before h =
+balances-facts b k before h =
     let o = or-else-zero (blockRefusal b k before) _ h in
     let r = right-facts b k before (o .0) in
     let m = formed-block-facts b k before (r .formed) .fits in

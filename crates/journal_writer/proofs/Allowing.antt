@@ -8,7 +8,7 @@ use Rattle.wire.proofs.Lists.{every-hold, hold-every}
 use Rattle.wire.specs.BigEndian.{All}
 
 -- the facts, one for each test
-pub record Allowed (o k kind n : ℕ) : Type 0 where
+pub record WriteAllowed (o k kind n : ℕ) : Type 0 where
   pub long : o ≡ 512
   pub low : k ≤ maxBlock
   pub right : kind ≡ kindOfBlock k
@@ -17,17 +17,17 @@ pub record Allowed (o k kind n : ℕ) : Type 0 where
   pub fits : n / itemSize k ≤ itemLimit k
 
 -- from the tests to the facts
-pub allowed-facts : (o k kind n : ℕ) → allowed o k kind n ≡ true → Allowed o k kind n
+pub allowed-facts : (o k kind n : ℕ) → allowed o k kind n ≡ true → WriteAllowed o k kind n
 unfolding allowed All
 allowed-facts o k kind n h = let t = every-hold _ h in omega (arith, eqb-true, ltb-true, leb-true)
 
 -- and back
-pub facts-allowed : (o k kind n : ℕ) → Allowed o k kind n → allowed o k kind n ≡ true
+pub facts-allowed : (o k kind n : ℕ) → WriteAllowed o k kind n → allowed o k kind n ≡ true
 unfolding allowed All
 facts-allowed o k kind n a = hold-every _ (omega (arith, eq-eqb, lt-ltb, le-leb))
 
 -- the items have room
-pub allowed-room : (o k kind n : ℕ) → Allowed o k kind n → n ≤ 448
+pub allowed-room : (o k kind n : ℕ) → WriteAllowed o k kind n → n ≤ 448
 allowed-room o k kind n a =
     omega (arith, div-add-mod' n (itemSize k), a .whole, items-room k (n / itemSize k) (a .fits))
 

@@ -152,29 +152,29 @@ block-stopped cursor s b p q end a number e r n = go (blockRefusal b (cursor .bl
     go zero x y z = absurd (omega (arith, refused-instead {A = ℕ} 0 (cursor .block) p q 0 1 (sym y)))
     go (suc m) x y z = rw z (record { text = rw x; stands = rw x })
 
--- what the lines of a right one's records need
-pub record Right (cursor : Cursor) (b : List ℕ) : Type 0 where
+-- what the lines of a passed one's records need
+pub record BlockPassed (cursor : Cursor) (b : List ℕ) : Type 0 where
   pub none : blockRefusal b (cursor .block) (cursor .before) ≡ 0
   pub low : cursor .block ≤ maxBlock
   pub long : length b ≡ 512
   pub count-fits : statedCount b ≤ 14
 
 -- by its refusal
-pub right-of : (cursor : Cursor) (b : List ℕ) → CursorBounds cursor → blockRefusal b (cursor .block) (cursor .before) ≡ 0 → Right cursor b
-right-of cursor b w e =
+pub passed-of : (cursor : Cursor) (b : List ℕ) → CursorBounds cursor → blockRefusal b (cursor .block) (cursor .before) ≡ 0 → BlockPassed cursor b
+passed-of cursor b w e =
     let r = right-facts b (cursor .block) (cursor .before) e in
     let f = formed-block-facts b (cursor .block) (cursor .before) (r .formed) .fits in
     record { none = e; low = r .low; long = r .long; count-fits = omega (arith, f, records-limit (cursor .block) (w .records)) }
 
 -- its text, and where the listing stands then, from those of its records
-pub right-listed : {cursor : Cursor} (r : Cursor) (s : List ℕ) {t b d e : List ℕ} {count : ℕ} {K : Type 0} → Right cursor b → count ≡
+pub passed-listed : {cursor : Cursor} (r : Cursor) (s : List ℕ) {t b d e : List ℕ} {count : ℕ} {K : Type 0} → BlockPassed cursor b → count ≡
     statedCount b
     → TextPut d (cursor .end) (recordLines pairWordsChecker stateFigures s (cursor .index) (firstRecords count b)) e (r .end)
     × ((progressOf r t ≡ progressAfter cursor count (stateListed pairWordsChecker s (firstRecords count b))) × K)
     → TextPut d (cursor .end) (blockText pairWordsChecker stateFigures (progressOf cursor s) b) e (r .end)
     × ((progressOf r t ≡ afterBlock pairWordsChecker (progressOf cursor s) b) × K)
 unfolding afterBlock blockText
-right-listed r s a n p = rw (a .none) (rw n at p)
+passed-listed r s a n p = rw (a .none) (rw n at p)
 
 -- ## The blocks of a chunk
 

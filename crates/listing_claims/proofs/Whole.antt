@@ -2,7 +2,7 @@
 use Rattle.wire.proofs.Prelude.{Bool, List, [], _++_, _∙_, _∷_, _≡_, ap, arith, drop, drop-at, drop-drop, length, length-append, refl, suc}
 use Rattle.wire.proofs.Prelude.{sym, take, take-at, true, zero-add, ℕ}
 use Rattle.journal.proofs.ReadBack.{written-reads}
-use Rattle.journal.specs.Journal.{AllRecordsPass, Reads, WrittenReads, allRecords, joined, journalOf}
+use Rattle.journal.specs.Journal.{AllBlocksPass, Reads, WrittenReads, allRecords, joined, journalOf}
 use Rattle.journal_blocks.proofs.Checking.{right-facts}
 use Rattle.journal_blocks.proofs.Items.{length-records}
 use Rattle.journal_blocks.specs.Blocks.{balancesOf, recordsOf, statedCount}
@@ -21,8 +21,8 @@ use Rattle.rules.specs.PairValidator.{pairOpened, pairOpeningRefusal, pairValid
 
 -- the lines of blocks that are right in turn are those of all their records
 lines-of-blocks : {S : Type 0} (c : Checker S) (f : S → List ℕ) (p : Progress S) (bs : List (List ℕ)) → p .going ≡ true
-    → AllRecordsPass (p .block) (p .before) bs → blocksText c f p bs ≡ recordLines c f (p .state) (p .index) (allRecords bs)
-unfolding AllRecordsPass afterBlock allRecords blockText blocksText recordLines
+    → AllBlocksPass (p .block) (p .before) bs → blocksText c f p bs ≡ recordLines c f (p .state) (p .index) (allRecords bs)
+unfolding AllBlocksPass afterBlock allRecords blockText blocksText recordLines
 lines-of-blocks c f p [] g h = refl
 lines-of-blocks c f p (b ∷ bs) g h =
     rw (lines-append c f (p .state) (p .index) (recordsOf b) (allRecords bs), length-records (statedCount b) b)
@@ -40,8 +40,8 @@ lines-of-records S c f s bs b cs = rw (state-last c s bs b, lines-append c f s 0
 -- ## The blocks of a journal
 
 -- blocks that are right in turn are what their bytes in a row are cut into
-blocks-back : (k before : ℕ) (bs : List (List ℕ)) → AllRecordsPass k before bs → blocksIn (joined bs) ≡ bs
-unfolding AllRecordsPass cut joined
+blocks-back : (k before : ℕ) (bs : List (List ℕ)) → AllBlocksPass k before bs → blocksIn (joined bs) ≡ bs
+unfolding AllBlocksPass cut joined
 blocks-back k before [] h = refl
 blocks-back k before (b ∷ bs) h =
     let l = right-facts b k before (h .0) .long in
@@ -58,7 +58,7 @@ listedBy n home far records =
 -- a journal that reads is listed by what it holds
 listed-by : (j home far : List ℕ) (records : List (List ℕ)) → Reads j home far records
     → listing j ≡ listedBy (pairOpeningRefusal home far) home far records
-unfolding AllRecordsPass joined listing openingText
+unfolding AllBlocksPass joined listing openingText
 listed-by j home far records r =
     let rest = joined (r .second ∷ r .others) in
     let later = joined (r .others) in

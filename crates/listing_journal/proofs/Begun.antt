@@ -11,10 +11,11 @@ use Rattle.listing_lines.specs.Lines.{headerLine}
 use Rattle.listing_opening.specs.Opened.{OpenedIn}
 use Rattle.listing_opening.specs.declared.Start.{Start}
 use Rattle.pair_core.proofs.Opened.{opened-ready, opened-view}
-use Rattle.pair_core.specs.Layout.{pairIndexLength, pairViewOf}
+use Rattle.pair_core.specs.Layout.{pairViewOf}
 use Rattle.pair_rows.specs.Rows.{RowReady, rowOf}
 use Rattle.pair_rows.specs.declared.Row.{Row}
 use Rattle.rules.proofs.Lists.{never-both-tests}
+use Rattle.table.specs.Table.{indexLength}
 
 -- n zeros have room for what is no more than n
 pub room-in : (n m : ℕ) → m ≤ n → m ≤ length (replicate {A = ℕ} n 0)
@@ -26,7 +27,7 @@ long-as n xs q = q ∙ length-replicate {A = ℕ} n 0
 
 -- the state of an accepted opening, with nothing held yet, is ready for the first record
 pub started : (home far : List ℕ) (start : Start) (state : List ℕ) → OpenedIn home far start state
-    → RowReady state (replicate (2 * pairIndexLength) 0) (start .row)
+    → RowReady state (replicate (2 * indexLength) 0) (start .row)
 started home far start state o =
     let n = ap (λ (x : Row). x .refusal) (o .row-is) in
     let v = opened-view (balancesOf home) (balancesOf far) (o .unrefused) in

@@ -10,10 +10,10 @@ ghost use Rattle.listing_blocks.specs.Cursors.{CursorBounds, progressOf};
 ghost use Rattle.listing_journal.specs.Turns.{LastTurnFrom, JournalListed, SomeLastTurn, TurnFrom, firstCursor, goesOn, noTurn};
 ghost use Rattle.listing_journal.specs.Turns.{openingAlone, resumedCursor};
 ghost use Rattle.listing_lines.specs.Hex.{pairTable};
-ghost use Rattle.pair_core.specs.Layout.{pairIndexLength};
 ghost use Rattle.pair_rows.specs.Rows.{RowReady};
+ghost use Rattle.table.specs.Table.{indexLength};
 use journal_blocks::BLOCK_SIZE;
-use journal_blocks::RECORDS;
+use journal_blocks::RECORDS_PER_BLOCK;
 use listing_blocks::Cursor;
 use listing_blocks::list_chunk;
 use listing_lines::LINE;
@@ -31,7 +31,7 @@ const CHUNK_BLOCKS: usize = 64;
 // The bytes of a chunk.
 const CHUNK: usize = CHUNK_BLOCKS * BLOCK_SIZE;
 // The room that a chunk's lines take.
-const TEXT: usize = CHUNK_BLOCKS * RECORDS * LINE;
+const TEXT: usize = CHUNK_BLOCKS * RECORDS_PER_BLOCK * LINE;
 // The most chunks after blocks 0 and 1.
 const CHUNKS: u64 = 1024;
 
@@ -177,7 +177,7 @@ fn list_opened<'a, 'b>(
     out: &'a mut [u8],
     state: &'b mut [u64; WORDS],
 ) -> TurnResult
-    requires { ⌜ (length (now out) ≡ chunkRoom) × RowReady (now state) (replicate (2 * pairIndexLength) 0) (start .row) ⌝ }
+    requires { ⌜ (length (now out) ≡ chunkRoom) × RowReady (now state) (replicate (2 * indexLength) 0) (start .row) ⌝ }
     ensures { λ r. ⌜ SomeLastTurn (openedProgress (now (state .entry)) (start .before)) r ⌝ }
 {
     let digits = pairs();

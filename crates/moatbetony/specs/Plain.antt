@@ -19,10 +19,10 @@ use Rattle.moatbetony.specs.declared.PlainCount.{PlainCount}
 use Rattle.moatbetony.specs.declared.PlainEncoded.{PlainEncoded}
 use Rattle.moatbetony.specs.declared.PlainHomeFigures.{PlainHomeFigures}
 use Rattle.moatbetony.specs.declared.PlainHomePlaces.{PlainHomePlaces}
-use Rattle.moatbetony.specs.declared.HomeOutcome.{HomeOutcome}
+use Rattle.moatbetony.specs.declared.PlainHomeOutcome.{PlainHomeOutcome}
 use Rattle.moatbetony.specs.declared.PlainPairFigures.{PlainPairFigures}
 use Rattle.moatbetony.specs.declared.PlainPairPlaces.{PlainPairPlaces}
-use Rattle.moatbetony.specs.declared.PairOutcome.{PairOutcome}
+use Rattle.moatbetony.specs.declared.PlainPairOutcome.{PlainPairOutcome}
 use Rattle.moatbetony.specs.declared.PlainPart.{PlainPart}
 use Rattle.moatbetony.specs.declared.PlainRecord.{PlainRecord}
 use Rattle.moatbetony.specs.declared.PlainAnswer.{PlainAnswer}
@@ -58,8 +58,8 @@ plainAnswer a = record { number = numberOf a; passed = passedOf a; place = place
 -- ## The validators
 
 -- an outcome of the pair validator
-abbrev pub pairOutcome : Answer → PairValidator → PairOutcome
-pairOutcome a s = record { answer = plainAnswer a; state = s }
+abbrev pub plainPairOutcome : Answer → PairValidator → PlainPairOutcome
+plainPairOutcome a s = record { answer = plainAnswer a; state = s }
 
 -- its figures
 abbrev pub plainPairFigures : PairFigures → PlainPairFigures
@@ -70,8 +70,8 @@ abbrev pub plainPairPlaces : PairPlaces → PlainPairPlaces
 plainPairPlaces p = record { answer = plainAnswer (p .answer); home = p .home; far = p .far }
 
 -- an outcome of the home validator
-abbrev pub homeOutcome : Answer → HomeValidator → HomeOutcome
-homeOutcome a s = record { answer = plainAnswer a; state = s }
+abbrev pub plainHomeOutcome : Answer → HomeValidator → PlainHomeOutcome
+plainHomeOutcome a s = record { answer = plainAnswer a; state = s }
 
 -- its figures
 abbrev pub plainHomeFigures : HomeFigures → PlainHomeFigures

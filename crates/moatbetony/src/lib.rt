@@ -11,7 +11,7 @@ ghost use Rattle.home_validator.specs.State.{homeChecker, homeOpenedState, home
 ghost use Rattle.journal_blocks.specs.Checked.{blockRefusal};
 ghost use Rattle.journal_reader.specs.Judged.{recordRefusal, partOf, countOf, openingOf};
 ghost use Rattle.journal_writer.specs.Written.{writeRefusal, written};
-ghost use Rattle.moatbetony.specs.Plain.{libraryVersion, stateVersion, plainAnswer, pairOutcome, plainPairFigures, homeOutcome};
+ghost use Rattle.moatbetony.specs.Plain.{libraryVersion, stateVersion, plainAnswer, plainPairOutcome, plainPairFigures, plainHomeOutcome};
 ghost use Rattle.moatbetony.specs.Plain.{plainHomeFigures, plainBalance, plainRecord, plainEncoded, plainPart};
 ghost use Rattle.moatbetony.specs.Plain.{plainCount, plainBalances, plainPairPlaces, plainHomePlaces};
 ghost use Rattle.pair_core.specs.Layout.{acceptsPair, pairWordsChecker};
@@ -83,7 +83,7 @@ fn plain(a: Answer) -> PlainAnswer
 
 // An answer, and the state to go on with.
 #[repr(C)]
-pub struct PairOutcome {
+pub struct PlainPairOutcome {
     pub answer: PlainAnswer,
     pub state: PairValidator,
 }
@@ -117,8 +117,8 @@ pub struct PlainBalance {
 pub extern "C" fn moatbetony_pair_open<'a>(
     home_balances: &'a [u64],
     far_balances: &'a [u64],
-) -> PairOutcome
-    ensures { λ r. ⌜ r ≡ pairOutcome (answer (pairOpeningRefusal (now («home_balances» .entry)) (now («far_balances» .entry))) 0)
+) -> PlainPairOutcome
+    ensures { λ r. ⌜ r ≡ plainPairOutcome (answer (pairOpeningRefusal (now («home_balances» .entry)) (now («far_balances» .entry))) 0)
         (unlessRefused (pairOpeningRefusal (now («home_balances» .entry)) (now («far_balances» .entry)))
         (pairOpenedState (now («home_balances» .entry)) (now («far_balances» .entry)))
         pairZeroState) ⌝ }
@@ -126,7 +126,7 @@ pub extern "C" fn moatbetony_pair_open<'a>(
     let o = PairValidator::open(home_balances, far_balances);
     let a = o.answer;
     let state = o.state;
-    PairOutcome {
+    PlainPairOutcome {
         answer: plain(a),
         state,
     }
@@ -137,12 +137,12 @@ pub extern "C" fn moatbetony_pair_open<'a>(
 pub extern "C" fn moatbetony_pair_check_record(
     mut state: PairValidator,
     bytes: &[u8],
-) -> PairOutcome
-    ensures { λ r. ⌜ r ≡ pairOutcome (call pairChecker state (one (now (bytes .entry))) .answer)
+) -> PlainPairOutcome
+    ensures { λ r. ⌜ r ≡ plainPairOutcome (call pairChecker state (one (now (bytes .entry))) .answer)
         (call pairChecker state (one (now (bytes .entry))) .state) ⌝ }
 {
     let answer = pair_core::take(&mut state.words, bytes);
-    PairOutcome {
+    PlainPairOutcome {
         answer: plain(answer),
         state, // after the record of the pair validator
     }
@@ -150,12 +150,15 @@ pub extern "C" fn moatbetony_pair_check_record(
 
 // A call with a list.
 #[no_mangle]
-pub extern "C" fn moatbetony_pair_check_list(mut state: PairValidator, bytes: &[u8]) -> PairOutcome
-    ensures { λ r. ⌜ r ≡ pairOutcome (call pairChecker state (list (now (bytes .entry))) .answer)
+pub extern "C" fn moatbetony_pair_check_list(
+    mut state: PairValidator,
+    bytes: &[u8],
+) -> PlainPairOutcome
+    ensures { λ r. ⌜ r ≡ plainPairOutcome (call pairChecker state (list (now (bytes .entry))) .answer)
         (call pairChecker state (list (now (bytes .entry))) .state) ⌝ }
 {
     let answer = pair_core::take_list(&mut state.words, bytes);
-    PairOutcome {
+    PlainPairOutcome {
         answer: plain(answer),
         state, // after the list of the pair validator
     }
@@ -235,7 +238,7 @@ pub extern "C" fn moatbetony_pair_places_left(state: PairValidator) -> PlainPair
 
 // An answer, and the state to go on with.
 #[repr(C)]
-pub struct HomeOutcome {
+pub struct PlainHomeOutcome {
     pub answer: PlainAnswer,
     pub state: HomeValidator,
 }
@@ -261,15 +264,15 @@ pub extern "C" fn moatbetony_home_open(
     home_balances: &[u64],
     far_accounts: usize,
     far_total: u64,
-) -> HomeOutcome
-    ensures { λ r. ⌜ r ≡ homeOutcome (answer (homeOpeningRefusal (now («home_balances» .entry)) «far_accounts» «far_total») 0)
+) -> PlainHomeOutcome
+    ensures { λ r. ⌜ r ≡ plainHomeOutcome (answer (homeOpeningRefusal (now («home_balances» .entry)) «far_accounts» «far_total») 0)
         (unlessRefused (homeOpeningRefusal (now («home_balances» .entry)) «far_accounts» «far_total»)
         (homeOpenedState (now («home_balances» .entry)) «far_accounts» «far_total») homeZeroState) ⌝ }
 {
     let o = HomeValidator::open(home_balances, far_accounts, far_total);
     let a = o.answer;
     let state = o.state;
-    HomeOutcome {
+    PlainHomeOutcome {
         answer: plain(a),
         state,
     }
@@ -280,12 +283,12 @@ pub extern "C" fn moatbetony_home_open(
 pub extern "C" fn moatbetony_home_check_record(
     mut state: HomeValidator,
     bytes: &[u8],
-) -> HomeOutcome
-    ensures { λ r. ⌜ r ≡ homeOutcome (call homeChecker state (one (now (bytes .entry))) .answer)
+) -> PlainHomeOutcome
+    ensures { λ r. ⌜ r ≡ plainHomeOutcome (call homeChecker state (one (now (bytes .entry))) .answer)
         (call homeChecker state (one (now (bytes .entry))) .state) ⌝ }
 {
     let answer = home_core::take(&mut state.words, bytes);
-    HomeOutcome {
+    PlainHomeOutcome {
         answer: plain(answer),
         state, // after the record of the home validator
     }
@@ -293,12 +296,15 @@ pub extern "C" fn moatbetony_home_check_record(
 
 // A call with a list.
 #[no_mangle]
-pub extern "C" fn moatbetony_home_check_list(mut state: HomeValidator, bytes: &[u8]) -> HomeOutcome
-    ensures { λ r. ⌜ r ≡ homeOutcome (call homeChecker state (list (now (bytes .entry))) .answer)
+pub extern "C" fn moatbetony_home_check_list(
+    mut state: HomeValidator,
+    bytes: &[u8],
+) -> PlainHomeOutcome
+    ensures { λ r. ⌜ r ≡ plainHomeOutcome (call homeChecker state (list (now (bytes .entry))) .answer)
         (call homeChecker state (list (now (bytes .entry))) .state) ⌝ }
 {
     let answer = home_core::take_list(&mut state.words, bytes);
-    HomeOutcome {
+    PlainHomeOutcome {
         answer: plain(answer),
         state, // after the list of the home validator
     }

@@ -3,7 +3,7 @@ use Rattle.wire.proofs.Prelude.{List, _+_, _-_, _∙_, _≡_, _≤_, ap, arith,
 use Rattle.wire.proofs.Prelude.{true, ℕ}
 use Rattle.ledgers.specs.Ledgers.{ledgerByte, ledgerOf}
 use Rattle.ledgers.specs.Limits.{capacity}
-use Rattle.pair_claims.specs.Claims.{PairCallsAsRules, PairFullWhenNoneLeft, PairInPlaceAsByValue, PairListsAndRefusals}
+use Rattle.pair_claims.specs.Claims.{PairCallsAsRules, PairFullWhenNoneLeft, PairInPlaceAsByValue, PairListsAndRefusals, PairRunsInPlaceAsByValue}
 use Rattle.pair_claims.specs.Claims.{PairOpenedAsRules, PairPlacesLeft, PairStatesConserved, PairStatesFollowRules}
 use Rattle.pair_claims.specs.Claims.{PairStatesStayAccepted, PairThreeExactly, PairZeroRefused, leftOn, pairPassedOfRun}
 use Rattle.pair_claims.specs.Claims.{pairPlacesLeft, pairStateOfRun}
@@ -76,6 +76,14 @@ pair-in-place-as-by-value s d =
     let g = agree-call pairChecker pairWordsChecker (λ (x : PairValidator). x .words) (λ (x : PairValidator). Unit {0}) (λ x i. refl)
     (λ x b i. refl) (λ x b i j. (tt, refl)) s d tt in
     (sym (g .answers), sym (g .states))
+
+-- a run of them
+pub pair-runs-in-place-as-by-value : PairRunsInPlaceAsByValue
+unfolding PairRunsInPlaceAsByValue
+pair-runs-in-place-as-by-value s ds =
+    let f = simulation pairChecker pairWordsChecker (λ (x : PairValidator). x .words) (λ (x : PairValidator). Unit {0}) (λ x i. refl)
+    (λ x b i. refl) (λ x b i j. (tt, refl)) ds s (s .words) refl tt in
+    (sym (f .states), sym (f .records))
 
 -- no judgement is 3
 judge-never-3 : (s : PairValidator) (b : List ℕ) → pairChecker .judge s b ≡ 3 → ⊥

@@ -40,13 +40,20 @@ PairCallsAsRules =
     → (call pairChecker s d .answer ≡ call (pairValidator capacity) (pairViewOfState s) d .answer)
     × (pairViewOfState (call pairChecker s d .state) ≡ call (pairValidator capacity) (pairViewOfState s) d .state)
 
--- a call in place has the answer of the call by value and leaves in the words what that hands back: so what is claimed here of the calls is
--- claimed of those in place too, alone or in any order with the others
+-- a call in place has the answer of the call by value and leaves in the words what that hands back
 unfoldable pub PairInPlaceAsByValue : Type 0
 PairInPlaceAsByValue =
     (s : PairValidator) (d : Call)
     → (call pairWordsChecker (s .words) d .answer ≡ call pairChecker s d .answer)
     × (call pairWordsChecker (s .words) d .state ≡ call pairChecker s d .state .words)
+
+-- and so a run of calls in place leaves the words of the run by value and passes the same records: what is claimed here of runs is claimed
+-- of those in place too
+unfoldable pub PairRunsInPlaceAsByValue : Type 0
+PairRunsInPlaceAsByValue =
+    (s : PairValidator) (ds : List Call)
+    → (run pairWordsChecker (s .words) ds ≡ run pairChecker s ds .words)
+    × (passedRecords pairWordsChecker (s .words) ds ≡ passedRecords pairChecker s ds)
 
 -- 3 is answered in its condition, with the state as it came, and not otherwise
 unfoldable pub PairThreeExactly : Type 0

@@ -1,14 +1,14 @@
 -- What is tested of the words is what refusal 3 asks of both ledgers. Assumes nothing.
-use Rattle.wire.proofs.Prelude.{Bool, List, _&&_, _+_, _<_, _^_, _∙_, _≡_, arith, eq-eqb, eqb-true, false, getD, inl, inr, length, refl}
+use Rattle.wire.proofs.Prelude.{Bool, List, [], _&&_, _+_, _<_, _^_, _∙_, _∷_, _≡_, arith, eq-eqb, eqb, eqb-true, false, getD, inl, inr, length, refl}
 use Rattle.wire.proofs.Prelude.{sym, true, ℕ}
 use Rattle.ledgers.specs.Ledgers.{counterpart, ledgerByte}
 use Rattle.ledgers.specs.Limits.{capacity}
 use Rattle.pair_core.proofs.Ledgers.{PairBounds, accounts-same, balances-within, bounds-of, by-byte, by-ledger, byte-below}
 use Rattle.pair_core.proofs.Ledgers.{length-balances, length-held, of-bounds, state-on}
-use Rattle.pair_core.specs.Layout.{PairReady, acceptsPair, accountsOn, balancesStart, countOn, formedOn, indexOn, pairIndexLength}
+use Rattle.pair_core.specs.Layout.{PairReady, acceptsPair, accountsOn, balancesStart, countOn, formedOn, indexOn}
 use Rattle.pair_core.specs.Layout.{ledgerOn}
 use Rattle.pair_core.specs.Layout.{pairBounds, pairSupplyOf, pairViewOf, pairWords, recordsStart, zeroBeyond}
-use Rattle.pair_core.specs.Testing.{backedOn, balanceSum, flowSum, heldOn, sumsAgree, testsOf}
+use Rattle.pair_core.specs.Testing.{backedOn, balanceSum, flowSum, heldOn, sumsAgree}
 use Rattle.places.proofs.BalanceTotals.{balances-sum}
 use Rattle.places.proofs.OverPlaces.{all-each, all-list}
 use Rattle.places.specs.NumberIndex.{Kept}
@@ -16,23 +16,40 @@ use Rattle.places.specs.OverPlaces.{allAt, apartAt}
 use Rattle.records.specs.Records.{formed}
 use Rattle.rules.proofs.Clashes.{distinct-unshared, unshared-distinct}
 use Rattle.rules.proofs.Ledgers.{Clean, crossing}
-use Rattle.rules.proofs.Lists.{never-both-tests, same-tests}
-use Rattle.rules.proofs.PairAccepted.{Accepted, LedgerFacts, accepts-facts, facts-accepts}
+use Rattle.rules.proofs.Lists.{never-both-tests}
+use Rattle.rules.proofs.PairAccepted.{AcceptedFacts, LedgerFacts, accepts-facts, facts-accepts}
 use Rattle.rules.specs.Lists.{all, total}
 use Rattle.rules.specs.PairValidator.{matched, pairAccepts, standsUnder}
 use Rattle.rules.specs.Rules.{Far, Home, Ledger, accountsOf, inFlight}
-use Rattle.table.proofs.Crossings.{Standing, all-backed-is, received-sum, sent-sum}
+use Rattle.table.proofs.Crossings.{FormedUnder, all-backed-is, received-sum, sent-sum}
 use Rattle.table.proofs.Growing.{index-beside}
 use Rattle.table.proofs.Numbers.{apart-records}
 use Rattle.table.proofs.Records.{AllHeld, all-held, held-all}
-use Rattle.table.specs.Table.{IndexOf, accountsBy, ledgerIn, mayHoldAt, numberAt, recordAt, recordsFrom, wordsAt}
-use Rattle.wire.proofs.Lists.{and-both, every-both, every-first, every-none}
+use Rattle.table.specs.Table.{IndexOf, accountsBy, indexLength, ledgerIn, mayHoldAt, numberAt, recordAt, recordsFrom, wordsAt}
+use Rattle.wire.proofs.Lists.{and-both, every-both, every-first, every-none, same-tests}
+use Rattle.wire.specs.BigEndian.{every}
 
 -- both of two tests
 both-tests : (t u : Bool) → t ≡ true → u ≡ true → (t && u) ≡ true
 both-tests t u a b = rw (a, b)
 
 -- ## The tests, ledger by ledger
+
+-- all that is tested, the length first
+unfoldable pub testsOf : List ℕ → Bool
+testsOf s =
+    every
+    (eqb (length s) pairWords
+    ∷ pairBounds s
+    ∷ zeroBeyond s 0
+    ∷ zeroBeyond s 1
+    ∷ heldOn s 0
+    ∷ heldOn s 1
+    ∷ backedOn s 0
+    ∷ backedOn s 1
+    ∷ sumsAgree s
+    ∷ []
+    )
 
 -- what is tested of each ledger, and of the sums
 pub record Tested (s : List ℕ) : Type 0 where
@@ -83,7 +100,7 @@ facts-tests s z b t =
 module _ (s : List ℕ) (z : length s ≡ pairWords) (b : PairBounds s) (small : (i : ℕ) → getD s i 0 < 2 ^ 64) where
   -- a ledger's records, read and under it
   standing-of : (L : Ledger) → formedOn s (ledgerByte L) ≡ true → all (standsUnder L) (ledgerOn s (ledgerByte L) .passed) ≡ true
-      → Standing s (recordsStart (ledgerByte L)) (countOn s (ledgerByte L)) L
+      → FormedUnder s (recordsStart (ledgerByte L)) (countOn s (ledgerByte L)) L
   unfolding ledgerIn recordsFrom formedOn
   standing-of L f h =
       let l = ledgerByte L in
@@ -160,7 +177,7 @@ module _ (s : List ℕ) (z : length s ≡ pairWords) (b : PairBounds s) (small :
   on-held Far h = by-held Far h
 
   -- the arrivals of a ledger
-  backed-on : (L : Ledger) → Standing s (recordsStart (ledgerByte (counterpart L))) (countOn s (ledgerByte (counterpart L))) (counterpart L)
+  backed-on : (L : Ledger) → FormedUnder s (recordsStart (ledgerByte (counterpart L))) (countOn s (ledgerByte (counterpart L))) (counterpart L)
       → ((i : ℕ) → i < countOn s (ledgerByte L) → formed (wordsAt s (recordsStart (ledgerByte L)) i) ≡ true)
       → all (matched (ledgerOn s (ledgerByte (counterpart L)) .passed)) (ledgerOn s (ledgerByte L) .passed) ≡ backedOn s (ledgerByte L)
   unfolding ledgerIn
@@ -168,7 +185,7 @@ module _ (s : List ℕ) (z : length s ≡ pairWords) (b : PairBounds s) (small :
   backed-on Far h f = all-backed-is s (recordsStart 0) (countOn s 0) Home h (recordsStart 1) (countOn s 1) f
 
   -- the facts of an accepted state, and records that read
-  tested-facts : Tested s → Accepted capacity (pairViewOf s) × ((L : Ledger) → formedOn s (ledgerByte L) ≡ true)
+  tested-facts : Tested s → AcceptedFacts capacity (pairViewOf s) × ((L : Ledger) → formedOn s (ledgerByte L) ≡ true)
   unfolding ledgerIn formedOn
   tested-facts t = (accepted, formed-on)
     where
@@ -181,7 +198,7 @@ module _ (s : List ℕ) (z : length s ≡ pairWords) (b : PairBounds s) (small :
       under : (L : Ledger) → all (standsUnder L) (ledgerOn s (ledgerByte L) .passed) ≡ true
       under L = right L .records .stand
 
-      standing : (L : Ledger) → Standing s (recordsStart (ledgerByte L)) (countOn s (ledgerByte L)) L
+      standing : (L : Ledger) → FormedUnder s (recordsStart (ledgerByte L)) (countOn s (ledgerByte L)) L
       standing L = standing-of L (formed-on L) (under L)
 
       clean : (L : Ledger) → Clean (ledgerOn s (ledgerByte L)) (ledgerOn s (ledgerByte (counterpart L)))
@@ -203,7 +220,7 @@ module _ (s : List ℕ) (z : length s ≡ pairWords) (b : PairBounds s) (small :
             stand = under L;
           }
 
-      accepted : Accepted capacity (pairViewOf s)
+      accepted : AcceptedFacts capacity (pairViewOf s)
       accepted =
           record {
             ledgers = by-ledger _ (own Home) (own Far);
@@ -213,7 +230,7 @@ module _ (s : List ℕ) (z : length s ≡ pairWords) (b : PairBounds s) (small :
 
   -- and back
   facts-tested : ((L : Ledger) → zeroBeyond s (ledgerByte L) ≡ true) → ((L : Ledger) → formedOn s (ledgerByte L) ≡ true)
-      → Accepted capacity (pairViewOf s) → Tested s
+      → AcceptedFacts capacity (pairViewOf s) → Tested s
   unfolding ledgerIn formedOn
   facts-tested zeros formed-on a =
       record {
@@ -233,7 +250,7 @@ module _ (s : List ℕ) (z : length s ≡ pairWords) (b : PairBounds s) (small :
       own Home = a .ledgers Home
       own Far = a .ledgers Far
 
-      standing : (L : Ledger) → Standing s (recordsStart (ledgerByte L)) (countOn s (ledgerByte L)) L
+      standing : (L : Ledger) → FormedUnder s (recordsStart (ledgerByte L)) (countOn s (ledgerByte L)) L
       standing L = standing-of L (formed-on L) (own L .stand)
 
 -- ## The whole test
@@ -279,12 +296,12 @@ tests-refused s small h e = (sym h ∙ accepts-is s small, (λ q. absurd (never-
 -- ## The indexes, made one after the other
 
 -- the index of far is empty still where that of home is made
-pub second-empty : (s : List ℕ) {i j : List ℕ} → Kept (indexOn 0) (indexOn 0 + pairIndexLength) i j
+pub second-empty : (s : List ℕ) {i j : List ℕ} → Kept (indexOn 0) (indexOn 0 + indexLength) i j
     → IndexOf s (recordsStart 1) i (indexOn 1) 0 → IndexOf s (recordsStart 1) j (indexOn 1) 0
 second-empty s k h = index-beside s s (recordsStart 1) (indexOn 1) 0 k (inr (omega arith)) (λ n p. refl) h
 
 -- both are made where that of far is made beside that of home
-pub both-indexed : (s : List ℕ) → PairBounds s → {i j : List ℕ} → Kept (indexOn 1) (indexOn 1 + pairIndexLength) i j
+pub both-indexed : (s : List ℕ) → PairBounds s → {i j : List ℕ} → Kept (indexOn 1) (indexOn 1 + indexLength) i j
     → IndexOf s (recordsStart 0) i (indexOn 0) (countOn s 0) → IndexOf s (recordsStart 1) j (indexOn 1) (countOn s 1)
     → (l : ℕ) → l < 2 → IndexOf s (recordsStart l) j (indexOn l) (countOn s l)
 both-indexed s b {i} {j} k g h =
@@ -335,7 +352,7 @@ sound-accepts s o =
 
 -- a ledger's records read and stand under it
 pub standing-on : (s : List ℕ) → PairSound s → ((i : ℕ) → getD s i 0 < 2 ^ 64) → (L : Ledger)
-    → Standing s (recordsStart (ledgerByte L)) (countOn s (ledgerByte L)) L
+    → FormedUnder s (recordsStart (ledgerByte L)) (countOn s (ledgerByte L)) L
 standing-on s o small L =
     standing-of s (o .long) (o .bounds) small L (o .reads (ledgerByte L) (byte-below L))
     (rw (state-on s L) at (accepts-facts capacity (pairViewOf s) (o .accepted) .ledgers L .stand))

@@ -3,15 +3,15 @@ use Rattle.wire.proofs.Prelude.{List, _*_, _+_, _-_, _<_, _∙_, _≡_, _≤_, 
 use Rattle.wire.proofs.Prelude.{refl, suc, sym, true, zero, ℕ}
 use Rattle.ledgers.specs.Ledgers.{counterpart, ledgerByte}
 use Rattle.ledgers.specs.Limits.{accountLimit, capacity}
-use Rattle.pair_core.specs.Layout.{accountsOn, balancesStart, countOn, indexOn, ledgerOn, pairBounds, pairIndexLength, pairViewOf}
+use Rattle.pair_core.specs.Layout.{accountsOn, balancesStart, countOn, indexOn, ledgerOn, pairBounds, pairViewOf}
 use Rattle.pair_core.specs.Layout.{pairWords}
 use Rattle.pair_core.specs.Layout.{pairSupplyOf, recordsStart}
 use Rattle.places.proofs.Openings.{count-facts}
 use Rattle.places.specs.NumberIndex.{chainCount}
 use Rattle.rules.specs.PairValidator.{countAllowed, supplyAllowed}
 use Rattle.rules.specs.Rules.{Far, Home, Ledger, accountsOf, stateOf}
-use Rattle.table.proofs.Records.{length-records}
-use Rattle.table.specs.Table.{accountsBy, ledgerIn}
+use Rattle.table.proofs.Records.{length-held-records}
+use Rattle.table.specs.Table.{accountsBy, indexLength, ledgerIn}
 use Rattle.wire.proofs.Lists.{every-both, every-first, every-none}
 
 -- ## Ledger by ledger
@@ -85,7 +85,7 @@ state-on s Far = refl
 -- it has as many held records as its count says
 pub length-held : (s : List ℕ) (l : ℕ) → length (ledgerOn s l .passed) ≡ countOn s l
 unfolding ledgerIn
-length-held s l = length-records s _ (countOn s l)
+length-held s l = length-held-records s _ (countOn s l)
 
 module _ (s : List ℕ) (z : length s ≡ pairWords) (b : PairBounds s) where
   -- its balances lie within the words
@@ -98,7 +98,7 @@ module _ (s : List ℕ) (z : length s ≡ pairWords) (b : PairBounds s) where
   records-within l h = omega (arith, z, b .room l h, h)
 
   -- its index lies within both
-  pub index-within : (l : ℕ) → l < 2 → indexOn l + chainCount + countOn s l ≤ 2 * pairIndexLength
+  pub index-within : (l : ℕ) → l < 2 → indexOn l + chainCount + countOn s l ≤ 2 * indexLength
   index-within l h = omega (arith, b .room l h, h)
 
   -- it has as many balances as accounts

@@ -6,7 +6,7 @@ use Rattle.ledgers.specs.Limits.{accountLimit, capacity}
 use Rattle.pair_core.proofs.Accept.{PairSound, sound-accepts}
 use Rattle.pair_core.proofs.Ledgers.{by-byte}
 use Rattle.pair_core.specs.Layout.{PairReady, acceptsPair, accountsOn, accountsWord, balancesStart, countOn, formedOn}
-use Rattle.pair_core.specs.Layout.{indexOn, pairIndexLength}
+use Rattle.pair_core.specs.Layout.{indexOn}
 use Rattle.pair_core.specs.Layout.{pairBounds, pairOpenedWords, pairSupplyWord, pairViewOf, pairZeroWords, recordsStart, zeroBeyond}
 use Rattle.places.proofs.Openings.{Stands, copied, count-facts, front-long, stands, stored-behind}
 use Rattle.places.specs.LedgerBalances.{zeroFilled}
@@ -15,7 +15,7 @@ use Rattle.rules.proofs.PairConserved.{opening-none, pair-opened-accepted}
 use Rattle.rules.specs.Lists.{total}
 use Rattle.rules.specs.PairValidator.{countAllowed, pairAccepts, pairOpened, pairOpeningRefusal}
 use Rattle.table.proofs.Numbers.{index-none}
-use Rattle.table.specs.Table.{IndexOf, ledgerIn, recordsFrom}
+use Rattle.table.specs.Table.{IndexOf, indexLength, ledgerIn, recordsFrom}
 use Rattle.wire.proofs.Lists.{every-not}
 
 -- ## The words
@@ -130,13 +130,13 @@ module _ (homes fars : List ℕ) (n : pairOpeningRefusal homes fars ≡ 0) where
       }
 
   -- with indexes of zeros they are ready for a record
-  pub opened-ready : PairReady opened (replicate (2 * pairIndexLength) 0)
+  pub opened-ready : PairReady opened (replicate (2 * indexLength) 0)
   opened-ready =
       record {
         accepted = sound-accepts opened opened-sound;
-        index-long = length-replicate {A = ℕ} (2 * pairIndexLength) 0;
-        indexed = λ l h. subst (IndexOf opened (recordsStart l) (replicate (2 * pairIndexLength) 0) (indexOn l)) (sym (count-none l h))
-            (index-none opened (recordsStart l) (2 * pairIndexLength) (indexOn l));
+        index-long = length-replicate {A = ℕ} (2 * indexLength) 0;
+        indexed = λ l h. subst (IndexOf opened (recordsStart l) (replicate (2 * indexLength) 0) (indexOn l)) (sym (count-none l h))
+            (index-none opened (recordsStart l) (2 * indexLength) (indexOn l));
       }
 
 -- the all-zero words, beside a refused opening, are refused by every call

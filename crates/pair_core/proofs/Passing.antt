@@ -11,7 +11,7 @@ use Rattle.pair_core.proofs.Ledgers.{state-on}
 use Rattle.pair_core.specs.Layout.{PairReady, acceptsPair, accountsOn, accountsWord, balancesStart, countOn, formedOn, pairCountWord}
 use Rattle.pair_core.specs.Layout.{indexOn, ledgerOn, pairSupplyOf, pairSupplyWord, pairViewOf, pairWith, recordsStart, zeroBeyond}
 use Rattle.places.proofs.PassedRecord.{Changes, ledger-other, zeros-kept}
-use Rattle.places.specs.Entries.{givenBy, takenBy}
+use Rattle.places.specs.Amounts.{givenBy, takenBy}
 use Rattle.places.specs.NumberIndex.{chainCount}
 use Rattle.records.proofs.Formed.{read-formed}
 use Rattle.records.specs.Records.{formed, reading, recordIn, wordsOf}
@@ -23,7 +23,7 @@ use Rattle.rules.specs.PairValidator.{pairAccepts, pairJudge, supplyAllowed}
 use Rattle.rules.specs.Rules.{Far, Home, Kind, Ledger, Local, Read, Receiving, Record, Sending, after, afterBytes, held, judge}
 use Rattle.table.proofs.Balances.{balance-fits, balance-in, given-fits}
 use Rattle.table.proofs.Growing.{grown, grown-kept, index-beside, index-grown}
-use Rattle.table.proofs.Storing.{Agree, LedgerStored, Stored, formed-same, ledger-same, ledger-stored-of, number-same, stored-of}
+use Rattle.table.proofs.Storing.{SameWords, LedgerStored, Stored, formed-same, ledger-same, ledger-stored-of, number-same, stored-of}
 use Rattle.table.specs.Table.{IndexOf, stored}
 
 -- ## A ledger and the other one
@@ -186,7 +186,7 @@ module _ (s : List ℕ) (w : Words) (r : Record) (d : PairSound s) (L : Ledger) 
         (omega (arith, p .room, byte-below L)) (omega (arith, own-fits, byte-below L)) (omega (arith, d .long)) (c .long) (c .below)
 
     -- the other one's records
-    records-beside : Agree s t (recordsStart o) (4 * countOn s o)
+    records-beside : SameWords s t (recordsStart o) (4 * countOn s o)
     records-beside i a b =
         let m = d .bounds .room o (byte-below (counterpart L)) in
         let h = byte-below (counterpart L) in
@@ -196,7 +196,7 @@ module _ (s : List ℕ) (w : Words) (r : Record) (d : PairSound s) (L : Ledger) 
         (beside L 0 (4 * capacity) (4 * countOn s l + 4) i (omega (arith, p .room)) (omega arith) (omega arith)))
 
     -- its balances, open or not
-    balances-beside : Agree s t (balancesStart o) accountLimit
+    balances-beside : SameWords s t (balancesStart o) accountLimit
     balances-beside i a b =
         ledger-after .others i (omega (arith, byte-below (counterpart L)))
         (beside L (8 * capacity) accountLimit (accountsOn s l) i own-fits a b)

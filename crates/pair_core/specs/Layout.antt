@@ -11,7 +11,6 @@ use lib.ListN.{getD, length, replicate, set}
 use Rattle.ledgers.specs.Ledgers.{ledgerByte, ledgerOf}
 use Rattle.ledgers.specs.Limits.{accountLimit, capacity}
 use Rattle.places.specs.LedgerBalances.{zeroFilled, zerosAt}
-use Rattle.places.specs.NumberIndex.{chainCount}
 use Rattle.places.specs.OverPlaces.{allAt}
 use Rattle.records.specs.Records.{formed, reading, wordsOf}
 use Rattle.records.specs.declared.Reading.{Reading}
@@ -22,7 +21,7 @@ use Rattle.rules.specs.Calls.{Checker}
 use Rattle.rules.specs.Lists.{total}
 use Rattle.rules.specs.PairValidator.{PairView, countAllowed, pairAccepts, pairJudge, supplyAllowed}
 use Rattle.rules.specs.Rules.{LedgerState}
-use Rattle.table.specs.Table.{IndexOf, ledgerIn, stored, wordsAt}
+use Rattle.table.specs.Table.{IndexOf, indexLength, ledgerIn, stored, wordsAt}
 use Rattle.wire.specs.BigEndian.{every}
 
 -- ## The layout
@@ -142,16 +141,12 @@ pairZeroWords = replicate pairWords 0
 
 -- ## For inner functions
 
--- the elements of a ledger's index of numbers: the heads of the chains, then the places
-abbrev pub pairIndexLength : ℕ
-pairIndexLength = chainCount + capacity
-
 -- where a ledger's index starts
 abbrev pub indexOn : ℕ → ℕ
-indexOn l = l * pairIndexLength
+indexOn l = l * indexLength
 
 -- a state that is accepted, with the indexes of its numbers
 pub record PairReady (s index : List ℕ) : Type 0 where
   pub accepted : acceptsPair s ≡ true
-  pub index-long : length index ≡ 2 * pairIndexLength
+  pub index-long : length index ≡ 2 * indexLength
   pub indexed : (l : ℕ) → l < 2 → IndexOf s (recordsStart l) index (indexOn l) (countOn s l)

@@ -2,14 +2,13 @@
 -- published contract cites it. Assumes nothing.
 use Prim.Native.Nat.{_+_, _-_, ℕ}
 use mathlib.Core.Bool.{Bool, _&&_}
-use mathlib.Core.List.{List, [], _∷_}
+use mathlib.Core.List.{List}
 use lib.Dec.{eqb}
-use lib.ListN.{getD, length}
+use lib.ListN.{getD}
 use Rattle.ledgers.specs.Ledgers.{ledgerAt}
-use Rattle.pair_core.specs.Layout.{accountsOn, balancesStart, countOn, pairBounds, pairSupplyOf, pairWords, recordsStart, zeroBeyond}
+use Rattle.pair_core.specs.Layout.{accountsOn, balancesStart, countOn, pairSupplyOf, recordsStart}
 use Rattle.places.specs.OverPlaces.{allAt, apartAt, sumAt}
 use Rattle.table.specs.Table.{accountsBy, backedAt, flowAt, mayHoldAt, numberAt}
-use Rattle.wire.specs.BigEndian.{every}
 
 -- a ledger may hold each of its records, and their numbers are apart
 abbrev pub heldOn : List ℕ → ℕ → Bool
@@ -33,19 +32,3 @@ flowSum kind s l = sumAt (flowAt kind s (recordsStart l)) 0 (countOn s l)
 unfoldable pub sumsAgree : List ℕ → Bool
 sumsAgree s =
     eqb (balanceSum s 0 + balanceSum s 1 + (flowSum 2 s 0 + flowSum 2 s 1)) (pairSupplyOf s + (flowSum 3 s 0 + flowSum 3 s 1))
-
--- all of these, the length first
-unfoldable pub testsOf : List ℕ → Bool
-testsOf s =
-    every
-    (eqb (length s) pairWords
-    ∷ pairBounds s
-    ∷ zeroBeyond s 0
-    ∷ zeroBeyond s 1
-    ∷ heldOn s 0
-    ∷ heldOn s 1
-    ∷ backedOn s 0
-    ∷ backedOn s 1
-    ∷ sumsAgree s
-    ∷ []
-    )

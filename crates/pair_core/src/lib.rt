@@ -7,7 +7,7 @@ ghost use lib.ListN.{length};
 ghost use Rattle.answers.specs.Answers.{unlessRefused};
 ghost use Rattle.ledgers.specs.Ledgers.{ledgerByte, ledgerOf};
 ghost use Rattle.ledgers.specs.Limits.{capacity};
-ghost use Rattle.pair_core.specs.Layout.{PairReady, acceptsPair, countOn, pairIndexLength, indexOn, pairBounds, pairViewOf};
+ghost use Rattle.pair_core.specs.Layout.{PairReady, acceptsPair, countOn, indexOn, pairBounds, pairViewOf};
 ghost use Rattle.pair_core.specs.Layout.{pairOpenedWords, pairWith, pairWords, pairWordsChecker, pairZeroWords, recordsStart};
 ghost use Rattle.pair_core.specs.Layout.{zeroBeyond};
 ghost use Rattle.pair_core.specs.Testing.{backedOn, heldOn, sumsAgree};
@@ -17,19 +17,18 @@ ghost use Rattle.records.specs.declared.Reading.the-variants.{Read};
 ghost use Rattle.rules.specs.Calls.{call, callOne, list, one};
 ghost use Rattle.rules.specs.PairValidator.{pairJudge, pairOpeningRefusal};
 ghost use Rattle.rules.specs.Rules.{accountsOf, lastRefusal};
-ghost use Rattle.table.specs.Table.{FlowsAt, IndexOf};
+ghost use Rattle.table.specs.Table.{FlowsAt, IndexOf, indexLength};
 use answers::Answer;
 use answers::first_refusal;
 use answers::refusal_if;
 use ledgers::Ledger;
-use places::CHAINS;
 use places::Flows;
 use places::Wide;
 use places::add_balances;
+use places::are_zero;
 use places::copy_numbers;
 use places::is_count_allowed;
 use places::is_receiving;
-use places::zeros;
 use records::Reading;
 use records::Record;
 use records::Words;
@@ -37,6 +36,7 @@ use refusals::first_refusals;
 use refusals::funds_refusal;
 use refusals::pair_opening;
 use table::Crossed;
+use table::INDEX;
 use table::add_crossings;
 use table::add_number;
 use table::hold_indexed;
@@ -63,9 +63,7 @@ pub const COUNTS_WORD: usize = SUPPLY_WORD + 3;
 // All words of a state.
 pub const WORDS: usize = SUPPLY_WORD + 5;
 
-// The elements of a ledger's index of numbers, and of both.
-pub const INDEX: usize = CHAINS + Ledger::CAPACITY;
-
+// The elements of the indexes of both ledgers' numbers.
 pub const INDEXES: usize = 2 * INDEX;
 
 // A ledger's index among both.
@@ -106,7 +104,7 @@ fn is_zero_beyond(s: &[u64], l: usize) -> bool
     ensures { λ b. ⌜ b ≡ zeroBeyond (now (s .entry)) l ⌝ }
 {
     let accounts = s[ACCOUNTS_WORD + l] as usize;
-    zeros(
+    are_zero(
         s,
         BALANCES_WORD + l * Ledger::ACCOUNTS + accounts,
         Ledger::ACCOUNTS - accounts,
@@ -115,12 +113,12 @@ fn is_zero_beyond(s: &[u64], l: usize) -> bool
 
 // Each held record of a ledger by itself, and their numbers; where they hold, their index is made in place of an empty one.
 fn is_held<'a, 'b>(s: &'a [u64], index: &'b mut [u16], l: usize) -> bool
-    requires { ⌜ (length (now s) ≡ pairWords) × (pairBounds (now s) ≡ true) × (length (now index) ≡ 2 * pairIndexLength) × (l < 2)
+    requires { ⌜ (length (now s) ≡ pairWords) × (pairBounds (now s) ≡ true) × (length (now index) ≡ 2 * indexLength) × (l < 2)
         × IndexOf (now s) (recordsStart l) (now index) (indexOn l) 0 ⌝ }
     ensures holds { λ b. ⌜ b ≡ heldOn (now (s .entry)) l ⌝ }
     ensures indexed { λ b. ⌜ (b ≡ true → IndexOf (now (s .entry)) (recordsStart l) (now (index .exit)) (indexOn l)
         (countOn (now (s .entry)) l)) ⌝ }
-    ensures others { λ b. ⌜ Kept (indexOn l) (indexOn l + pairIndexLength) (now (index .entry)) (now (index .exit)) ⌝ }
+    ensures others { λ b. ⌜ Kept (indexOn l) (indexOn l + indexLength) (now (index .entry)) (now (index .exit)) ⌝ }
 {
     hold_indexed(
         s,
@@ -136,7 +134,7 @@ fn is_held<'a, 'b>(s: &'a [u64], index: &'b mut [u16], l: usize) -> bool
 
 // Whether the arrivals of a ledger have their sendings on the other one, and what its records sent and received.
 fn crossings_on<'a>(s: &'a [u64], index: &'a [u16], l: usize) -> Crossed
-    requires { ⌜ (length (now s) ≡ pairWords) × (pairBounds (now s) ≡ true) × (length (now index) ≡ 2 * pairIndexLength) × (l < 2)
+    requires { ⌜ (length (now s) ≡ pairWords) × (pairBounds (now s) ≡ true) × (length (now index) ≡ 2 * indexLength) × (l < 2)
         × ((m : ℕ) → m < 2 → IndexOf (now s) (recordsStart m) (now index) (indexOn m) (countOn (now s) m)) ⌝ }
     ensures backed { λ r. ⌜ r .backed ≡ backedOn (now (s .entry)) l ⌝ }
     ensures sums { λ r. ⌜ (r .backed ≡ true → FlowsAt (now (s .entry)) (recordsStart l) (countOn (now (s .entry)) l) (r .flows)) ⌝ }
@@ -181,7 +179,7 @@ fn adds_up(s: &[u64], home: Flows, far: Flows) -> bool
 
 // All that 3 asks of a state; where it holds, the indexes of its numbers are made in place of empty ones.
 pub fn is_accepted<'a, 'b>(s: &'a [u64], index: &'b mut [u16]) -> bool
-    requires { ⌜ (length (now index) ≡ 2 * pairIndexLength)
+    requires { ⌜ (length (now index) ≡ 2 * indexLength)
         × ((l : ℕ) → l < 2 → IndexOf (now s) (recordsStart l) (now index) (indexOn l) 0) ⌝ }
     ensures accepts { λ b. ⌜ b ≡ acceptsPair (now (s .entry)) ⌝ }
     ensures ready { λ b. ⌜ (b ≡ true → PairReady (now (s .entry)) (now (index .exit))) ⌝ }
@@ -219,7 +217,7 @@ pub fn is_accepted<'a, 'b>(s: &'a [u64], index: &'b mut [u16]) -> bool
 // ## Judging a record
 
 // The number of accounts of a ledger.
-fn accounts_of(s: &[u64], l: Ledger) -> usize
+fn accounts_on(s: &[u64], l: Ledger) -> usize
     requires { ⌜ acceptsPair (now s) ≡ true ⌝ }
     ensures { λ n. ⌜ n ≡ accountsOf (pairViewOf (now (s .entry)) .pair) l ⌝ }
 {
@@ -255,8 +253,8 @@ pub fn judge<'a>(s: &'a [u64], index: &'a [u16], w: Words, r: Record) -> u32
     let kind = r.kind;
     let l = ledger_index(kind.ledger());
     let count = s[COUNTS_WORD + l] as usize;
-    let senders = accounts_of(s, kind.sender_ledger());
-    let receivers = accounts_of(s, kind.receiver_ledger());
+    let senders = accounts_on(s, kind.sender_ledger());
+    let receivers = accounts_on(s, kind.receiver_ledger());
     let last = last_refusal(s, index, w, r);
     let full = refusal_if(Ledger::CAPACITY <= count, 41);
     let used = is_used(s, index, l * RECORD_WORDS, l * INDEX, count, r.number);

@@ -8,7 +8,7 @@ use Rattle.pair_core.proofs.Passing.{next-of}
 use Rattle.pair_core.specs.Layout.{PairReady, pairSupplyOf, pairViewOf, pairWith, pairWordsChecker}
 use Rattle.pair_rows.specs.Rows.{RowReady, movedRow, rowOf, totalIn}
 use Rattle.pair_rows.specs.declared.Row.{Row}
-use Rattle.places.specs.Entries.{givenBy, takenBy}
+use Rattle.places.specs.Amounts.{givenBy, takenBy}
 use Rattle.records.specs.Records.{reading, wordsOf}
 use Rattle.rules.proofs.Lists.{balance-total, length-lowered, total-lowered, total-raised}
 use Rattle.rules.proofs.PairAccepted.{accepts-facts}

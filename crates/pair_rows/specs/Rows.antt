@@ -20,6 +20,10 @@ rowOf refusal v =
       flight = inFlight (v .pair);
     }
 
+-- the row of an opening that is refused: there are no figures
+abbrev pub refusedRow : ℕ → Row
+refusedRow refusal = record { refusal = refusal; home = 0; far = 0; flight = 0 }
+
 -- ## For inner functions
 
 -- an accepted state with the indexes of its numbers, and the row beside it: whatever it refuses, its figures are the state's

@@ -3,8 +3,8 @@
 ghost use Prim.Native.Nat.{_+_, _≤_};
 ghost use mathlib.Core.Path.{_≡_};
 ghost use lib.ListN.{replicate};
-ghost use Rattle.pair_core.specs.Layout.{pairOpenedWords, pairViewOf, pairWords, pairWordsChecker};
-ghost use Rattle.pair_rows.specs.Rows.{RowReady, movedRow, rowOf, totalIn};
+ghost use Rattle.pair_core.specs.Layout.{pairOpenedWords, pairViewOf, pairWords, pairWordsChecker, pairZeroWords};
+ghost use Rattle.pair_rows.specs.Rows.{RowReady, movedRow, refusedRow, rowOf, totalIn};
 ghost use Rattle.rules.specs.Calls.{callOne};
 ghost use Rattle.rules.specs.PairValidator.{pairOpened, pairOpeningRefusal};
 use ledgers::Ledger;
@@ -30,12 +30,14 @@ pub struct Row {
 
 // ## The opening
 
-// The row of an opening: its refusal, or the totals with nothing in flight, and the opened state in words of zeros.
+// The row of an opening, in words of zeros: its refusal without figures, and the words stay zeros, or the totals with nothing in flight,
+// and the opened state in the words.
 pub fn first_row<'a, 'b>(homes: &'a [u64], fars: &'a [u64], state: &'b mut [u64; WORDS]) -> Row
     requires { ⌜ now state ≡ replicate pairWords 0 ⌝ }
     ensures refuses { λ r. ⌜ r .refusal ≡ pairOpeningRefusal (now (homes .entry)) (now (fars .entry)) ⌝ }
     ensures opens { λ r. ⌜ (r .refusal ≡ 0 → (r ≡ rowOf 0 (pairOpened (now (homes .entry)) (now (fars .entry))))
         × (now (state .exit) ≡ pairOpenedWords (now (homes .entry)) (now (fars .entry)))) ⌝ }
+    ensures closes { λ r. ⌜ ((r .refusal ≡ 0 → ⊥) → (r ≡ refusedRow (r .refusal)) × (now (state .exit) ≡ pairZeroWords)) ⌝ }
 {
     let refusal = open(homes, fars, state);
     if refusal != 0 {
@@ -102,7 +104,7 @@ pub fn next_row<'a, 'b>(
     let refusal = step(state, index, bytes);
     if refusal != 0 {
         return Row {
-            refusal,
+            refusal, // with the figures as they were
             home: last.home,
             far: last.far,
             flight: last.flight,

@@ -5,7 +5,7 @@ use Rattle.wire.proofs.Prelude.{length, length-set, length-take, ltb, ltb-false
 use Rattle.wire.proofs.Prelude.{true, zero, ℕ, ⊎-elim}
 use Rattle.ledgers.specs.Ledgers.{counterpart, ledgerByte}
 use Rattle.places.proofs.OverPlaces.{all-ext, list-ext}
-use Rattle.places.specs.Entries.{givenBy, takenBy}
+use Rattle.places.specs.Amounts.{givenBy, takenBy}
 use Rattle.places.specs.LedgerBalances.{balanceAt, movedAt, placed, zerosAt}
 use Rattle.places.specs.OverPlaces.{listAt}
 use Rattle.rules.specs.Lists.{lowered, raised}

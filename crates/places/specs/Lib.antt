@@ -2,6 +2,6 @@
 
 pub mod OverPlaces
 pub mod LedgerBalances
-pub mod Entries
+pub mod Amounts
 pub mod NumberIndex
 pub mod ExactSums

@@ -8,10 +8,10 @@ ghost use Rattle.places.specs.OverPlaces.{sumAt};
 use records::Record;
 
 // 2^32: the halves of a number are its quotient and its remainder by it.
-const HALF: u64 = 4294967296;
+pub const HALF: u64 = 4294967296;
 
 // 2^31: as many times HALF is 2^63.
-const HALVES: u64 = 2147483648;
+const HALVES_OF_HIGH: u64 = 2147483648;
 
 // A sum that may pass 64 bits: high * 2^63 + low, with low below 2^63.
 pub struct Wide {
@@ -58,10 +58,10 @@ impl Wide {
         ensures { λ r. ⌜ (wide r ≡ wide self + (high * 2 ^ 32 + low)) × (r .low < 2 ^ 63) ⌝ }
     {
         let w = Wide {
-            high: self.high + high / HALVES,
+            high: self.high + high / HALVES_OF_HIGH,
             low: self.low,
         };
-        let v = w.add_half(high % HALVES * HALF);
+        let v = w.add_half(high % HALVES_OF_HIGH * HALF);
         v.add_half(low)
     }
 }

@@ -97,7 +97,7 @@ kind-bounds (Sending l) = (omega arith, omega arith)
 kind-bounds (Receiving l) = (omega arith, omega arith)
 
 -- a ledger byte is 0 or 1
-ledger-bound : (l : Ledger) → ledgerByte l ≤ 1
+pub ledger-bound : (l : Ledger) → ledgerByte l ≤ 1
 ledger-bound Home = omega arith
 ledger-bound Far = omega arith
 

@@ -40,9 +40,9 @@ pub enum Reading {
 }
 
 // What a word is divided by for its first byte alone, and for its first two.
-const BYTE: u64 = 72057594037927936;
+pub const FIRST_BYTE: u64 = 72057594037927936;
 
-const TWO_BYTES: u64 = 281474976710656;
+pub const FIRST_TWO_BYTES: u64 = 281474976710656;
 
 fn ledger_at(byte: u64) -> Ledger
     ensures { λ r. ⌜ r ≡ ledgerAt byte ⌝ }
@@ -66,14 +66,14 @@ fn kind_at(byte: u64, l: Ledger) -> Kind
 fn are_formed(w: Words) -> bool
     ensures { λ r. ⌜ r ≡ formed w ⌝ }
 {
-    let kind = w.head / BYTE % 256;
+    let kind = w.head / FIRST_BYTE % 256;
     if kind == 0 {
         return false;
     }
     if 3 < kind {
         return false;
     }
-    if 1 < w.head / TWO_BYTES % 256 {
+    if 1 < w.head / FIRST_TWO_BYTES % 256 {
         return false;
     }
     if w.head % 65536 != 0 {
@@ -85,18 +85,21 @@ fn are_formed(w: Words) -> bool
     if Record::MAX_AMOUNT < w.amount {
         return false;
     }
-    if 1 < w.tail / BYTE % 256 {
+    if 1 < w.tail / FIRST_BYTE % 256 {
         return false;
     }
-    w.tail % BYTE == 0
+    w.tail % FIRST_BYTE == 0
 }
 
 // The record in its words.
 fn record_in(w: Words) -> Record
     ensures { λ r. ⌜ r ≡ recordIn w ⌝ }
 {
-    let kind = kind_at(w.head / BYTE % 256, ledger_at(w.head / TWO_BYTES % 256));
-    let verified = w.tail / BYTE % 256 == 1;
+    let kind = kind_at(
+        w.head / FIRST_BYTE % 256,
+        ledger_at(w.head / FIRST_TWO_BYTES % 256),
+    );
+    let verified = w.tail / FIRST_BYTE % 256 == 1;
     Record {
         kind,
         sender: (w.head / 4294967296 % 65536) as u16,

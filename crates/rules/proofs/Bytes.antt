@@ -16,11 +16,6 @@ byte-at zero h = refl
 byte-at (suc zero) h = refl
 byte-at (suc (suc l)) h = absurd (omega arith)
 
--- a ledger's byte is 0 or 1
-pub byte-most : (L : Ledger) → ledgerByte L ≤ 1
-byte-most Home = omega arith
-byte-most Far = omega arith
-
 -- a ledger is the same as itself
 pub same-own : (L : Ledger) → sameLedger L L ≡ true
 same-own Home = refl

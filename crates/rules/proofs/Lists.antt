@@ -159,12 +159,6 @@ lowered-same balances i a h = getD-set-same balances i (getD balances i 0 - a) 0
 
 -- ## Beside these
 
--- two tests that imply each other are the same
-pub same-tests : (p q : Bool) → (p ≡ true → q ≡ true) → (q ≡ true → p ≡ true) → p ≡ q
-same-tests true q f g = sym (f refl)
-same-tests false true f g = g refl
-same-tests false false f g = refl
-
 -- a balance is at most all of them
 pub balance-total : (xs : List ℕ) (i : ℕ) → getD xs i 0 ≤ total xs
 unfolding sum

@@ -28,13 +28,13 @@ pub record LedgerFacts (capacity : ℕ) (accounts : Ledger → ℕ) (l : Ledger)
   pub stand : all (standsUnder l) (own .passed) ≡ true
 
 -- of both, with the supply
-pub record Accepted (capacity : ℕ) (v : PairView) : Type 0 where
+pub record AcceptedFacts (capacity : ℕ) (v : PairView) : Type 0 where
   pub ledgers : (l : Ledger) → LedgerFacts capacity (accountsOf (v .pair)) l (stateOf l (v .pair)) (stateOf (counterpart l) (v .pair))
   pub supply-fits : supplyAllowed (v .supply) ≡ true
   pub sums : total (v .pair .home .balances) + total (v .pair .far .balances) + inFlight (v .pair) ≡ v .supply
 
 -- the test of refusal 3
-pub accepts-facts : (capacity : ℕ) (v : PairView) → pairAccepts capacity v ≡ true → Accepted capacity v
+pub accepts-facts : (capacity : ℕ) (v : PairView) → pairAccepts capacity v ≡ true → AcceptedFacts capacity v
 unfolding pairAccepts All
 accepts-facts capacity v h =
     let a = every-all _ h in
@@ -45,7 +45,7 @@ accepts-facts capacity v h =
     }
 
 -- and back
-pub facts-accepts : (capacity : ℕ) (v : PairView) → Accepted capacity v → pairAccepts capacity v ≡ true
+pub facts-accepts : (capacity : ℕ) (v : PairView) → AcceptedFacts capacity v → pairAccepts capacity v ≡ true
 unfolding pairAccepts All
 facts-accepts capacity v a =
     let h = a .ledgers Home in
@@ -107,8 +107,8 @@ sum-step own other r h c d =
 
 -- both ledgers
 accepted-after : (capacity : ℕ) (v : PairView) (r : Record) → (0 < r .amount) × (r .amount ≤ maxAmount) → judge (v .pair) r ≡ 0
-    → length (stateOf (ledgerOf (r .kind)) (v .pair) .passed) < capacity → Accepted capacity v
-    → Accepted capacity (record { pair = after (v .pair) r; supply = v .supply })
+    → length (stateOf (ledgerOf (r .kind)) (v .pair) .passed) < capacity → AcceptedFacts capacity v
+    → AcceptedFacts capacity (record { pair = after (v .pair) r; supply = v .supply })
 unfolding judge after inFlight
 accepted-after capacity v r m j room a =
     go (ledgerOf (r .kind)) (stands-own r) (judge-none (v .pair) r (r .kind) refl j) room
@@ -121,7 +121,7 @@ accepted-after capacity v r m j room a =
 
     go : (l : Ledger) → standsUnder l r ≡ true → Passable (stateOf l p) (stateOf (counterpart l) p) r (r .kind)
         → length (stateOf l p .passed) < capacity
-        → Accepted capacity (record { pair = withState l (held (stateOf l p) r) p; supply = v .supply })
+        → AcceptedFacts capacity (record { pair = withState l (held (stateOf l p) r) p; supply = v .supply })
     go Home s h room =
         record {
           ledgers = rw (accounts-with Home r p) (elim [

@@ -113,15 +113,15 @@ module _ {S : Type 0} (c : Checker S) where
     run-accepted s a ds = keep-run (λ s done. c .accepts s ≡ true) (λ s b done j h. step s b h j) ds s [] a
 
   -- a state that a run reaches is the one after its passed records, which pass in turn
-  pub record Reached (from to : S) (done : List (List ℕ)) : Type 0 where
+  pub record ReachedBy (from to : S) (done : List (List ℕ)) : Type 0 where
     pub state : to ≡ stateAfter c from done
     pub in-turn : InTurn c from done
 
   -- so it is of every run
-  pub reached-run : (from : S) (ds : List Call) → Reached from (run c from ds) (passedRecords c from ds)
+  pub reached-run : (from : S) (ds : List Call) → ReachedBy from (run c from ds) (passedRecords c from ds)
   unfolding stateAfter InTurn
   reached-run from ds =
-      keep-run (Reached from)
+      keep-run (ReachedBy from)
       (λ s b done j r.
       record {
         state = rw (after-append, ← r .state);

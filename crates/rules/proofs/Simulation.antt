@@ -38,13 +38,13 @@ module _ {S R : Type 0} (c : Checker S) (d : Checker R) (view : S → R) (Inv : 
       ])
 
   -- a run of c is one of d: the same passed records, and through the view the same state
-  pub record Follows (s : S) (r : R) (xs : List Call) : Type 0 where
+  pub record RunsAs (s : S) (r : R) (xs : List Call) : Type 0 where
     pub states : view (run c s xs) ≡ run d r xs
     pub records : passedRecords c s xs ≡ passedRecords d r xs
     pub invariant : Inv (run c s xs)
 
   -- so every run is
-  pub simulation : (xs : List Call) (s : S) (r : R) → view s ≡ r → Inv s → Follows s r xs
+  pub simulation : (xs : List Call) (s : S) (r : R) → view s ≡ r → Inv s → RunsAs s r xs
   unfolding run passedRecords
   simulation [] s r e i = record { states = e; records = refl; invariant = i }
   simulation (x ∷ xs) s r e i =

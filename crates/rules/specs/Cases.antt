@@ -18,21 +18,21 @@ use Rattle.wire.specs.BigEndian.{every, same}
 
 -- a row has the number of its case (0: none); a row of the pair starts from the rules' opening state, one of the home validator from its
 -- own, and both have the records that pass before
-pub data Row : Type 0 where
+pub data CaseRow : Type 0 where
   -- the record passes; then home balances, far balances and in flight
-  passRow : ℕ → List (List ℕ) → List ℕ → List ℕ → List ℕ → ℕ → Row
+  passRow : ℕ → List (List ℕ) → List ℕ → List ℕ → List ℕ → ℕ → CaseRow
   -- the record is refused with the number
-  refusalRow : ℕ → List (List ℕ) → List ℕ → ℕ → Row
+  refusalRow : ℕ → List (List ℕ) → List ℕ → ℕ → CaseRow
   -- the home validator gives the number (0: passed)
-  homeRow : ℕ → List (List ℕ) → List ℕ → ℕ → Row
+  homeRow : ℕ → List (List ℕ) → List ℕ → ℕ → CaseRow
   -- an opening with these balances gets the number (0: accepted)
-  openingRow : ℕ → List ℕ → List ℕ → ℕ → Row
+  openingRow : ℕ → List ℕ → List ℕ → ℕ → CaseRow
   -- an opening of the home validator, with home balances, far accounts and far total, gets the number
-  homeOpeningRow : ℕ → List ℕ → ℕ → ℕ → ℕ → Row
+  homeOpeningRow : ℕ → List ℕ → ℕ → ℕ → ℕ → CaseRow
   -- the pair validator with this capacity accepts the state, or does not
-  stateRow : ℕ → PairView → Bool → Row
+  stateRow : ℕ → PairView → Bool → CaseRow
   -- the home validator likewise
-  homeStateRow : ℕ → HomeView → Bool → Row
+  homeStateRow : ℕ → HomeView → Bool → CaseRow
 
 -- home has accounts with 100 and 50, far has one with 20 (Cases: opening)
 unfoldable pub caseOpening : PairState
@@ -72,7 +72,7 @@ sameTruth true t = t
 sameTruth false t = not t
 
 -- the rules give the row
-unfoldable pub holds : Row → Bool
+unfoldable pub holds : CaseRow → Bool
 holds (passRow n before now homes fars flying) =
     every
     (allPass caseOpening (before ++ now ∷ [])
@@ -107,7 +107,7 @@ unfoldable pub bad : Kind → ℕ → ℕ → ℕ → ℕ → List ℕ
 bad k s r n a = encoding (record { kind = k; sender = s; receiver = r; number = n; amount = a; verified = false })
 
 -- the starred cases, in document 01's order
-unfoldable pub cases : List Row
+unfoldable pub cases : List CaseRow
 cases =
     passRow 1 [] (good (Sending Home) 0 0 7 30) (70 ∷ 50 ∷ []) (20 ∷ []) 30
     ∷ passRow 2 (good (Sending Home) 0 0 7 30 ∷ []) (good (Receiving Far) 0 0 7 30) (70 ∷ 50 ∷ []) (50 ∷ []) 0
@@ -138,7 +138,7 @@ cases =
 -- ## Rows of our own
 
 -- neighbouring refusals where both are due: the earlier is given (Refusals: order)
-unfoldable pub orderRows : List Row
+unfoldable pub orderRows : List CaseRow
 orderRows =
     refusalRow 0 [] (good (Local Home) 2 2 1 0) 21
     ∷ refusalRow 0 [] (bad (Local Home) 2 0 1 1) 22
@@ -156,7 +156,7 @@ orderRows =
     ∷ []
 
 -- receivings that differ from the sending in one field, or find a local; number 0 is used like any other (Matches and sums)
-unfoldable pub nearRows : List Row
+unfoldable pub nearRows : List CaseRow
 nearRows =
     refusalRow 0 (good (Sending Home) 0 0 7 30 ∷ []) (good (Receiving Far) 1 0 7 30) 31
     ∷ refusalRow 0 (good (Sending Far) 0 0 7 20 ∷ []) (good (Receiving Home) 0 1 7 20) 31
@@ -172,7 +172,7 @@ nearRows =
     ∷ []
 
 -- 1 before 2: 1 to 56 accounts on each ledger
-unfoldable pub openingRows : List Row
+unfoldable pub openingRows : List CaseRow
 openingRows =
     openingRow 0 (replicate 56 1) (replicate 56 1) 0
     ∷ openingRow 0 (replicate 57 1) (1 ∷ []) 1
@@ -208,7 +208,7 @@ homeHolding homes farAccounts pool supply =
     record { home = record { balances = 100 ∷ 50 ∷ []; passed = homes }; farAccounts = farAccounts; farPool = pool; supply = supply }
 
 -- what refusal 3 has something against, one condition after the other, beside states that are accepted
-unfoldable pub stateRows : List Row
+unfoldable pub stateRows : List CaseRow
 stateRows =
     stateRow 2 (pairHolding [] [] 170) true
     ∷ stateRow 2 (pairHolding (heldRecord (Sending Home) 0 0 7 30 true ∷ []) [] 200) true

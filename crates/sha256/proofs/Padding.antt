@@ -9,12 +9,12 @@ use Rattle.wire.proofs.Numbers.{length-bytesOf}
 use Rattle.wire.specs.BigEndian.{bytesOf}
 
 -- zero bytes
-abbrev zeros : ℕ → List ℕ
-zeros k = replicate k 0
+abbrev zeroBytes : ℕ → List ℕ
+zeroBytes k = replicate k 0
 
 -- as many as are asked
-length-zeros : (k : ℕ) → length (zeros k) ≡ k
-length-zeros k = length-replicate k 0
+length-zero-bytes : (k : ℕ) → length (zeroBytes k) ≡ k
+length-zero-bytes k = length-replicate k 0
 
 -- ## Lengths
 
@@ -74,26 +74,26 @@ block-last m b i k e h ek f =
 
 -- ## The bytes after the whole blocks
 
--- a mark after bytes p in zeros
+-- a mark after bytes p in zeroBytes
 marked : (p : List ℕ) (z q x s : ℕ) → s ≡ length p + suc (z + q)
-    → set (p ++ drop (length p) (zeros s)) (length p) x ≡ (p ++ x ∷ zeros z) ++ zeros q
+    → set (p ++ drop (length p) (zeroBytes s)) (length p) x ≡ (p ++ x ∷ zeroBytes z) ++ zeroBytes q
 marked p z q x s h =
     let r : ℕ = length p in
-    let split : zeros s ≡ zeros r ++ 0 ∷ (zeros z ++ zeros q) =
-    ap zeros h
+    let split : zeroBytes s ≡ zeroBytes r ++ 0 ∷ (zeroBytes z ++ zeroBytes q) =
+    ap zeroBytes h
     ∙ sym (replicate-append-replicate r (suc (z + q)) 0)
-    ∙ ap (λ (l : List ℕ). zeros r ++ 0 ∷ l) (sym (replicate-append-replicate z q 0)) in
-    ap (λ (l : List ℕ). set (p ++ l) r x) (ap (drop r) split ∙ drop-at (zeros r) _ r (length-zeros r))
-    ∙ set-append-seam p 0 (zeros z ++ zeros q) x
-    ∙ sym (append-assoc p (x ∷ zeros z) (zeros q))
+    ∙ ap (λ (l : List ℕ). zeroBytes r ++ 0 ∷ l) (sym (replicate-append-replicate z q 0)) in
+    ap (λ (l : List ℕ). set (p ++ l) r x) (ap (drop r) split ∙ drop-at (zeroBytes r) _ r (length-zero-bytes r))
+    ∙ set-append-seam p 0 (zeroBytes z ++ zeroBytes q) x
+    ∙ sym (append-assoc p (x ∷ zeroBytes z) (zeroBytes q))
 
 -- a length in bits
 pub length-bits : (n : ℕ) → n % 2305843009213693952 * 8 ≡ 8 * n % 2 ^ 64
 length-bits n = omega arith
 
--- the rest p of a message of n bytes in zeros, a mark after it and the length l in its place: the rest and the padding
+-- the rest p of a message of n bytes in zeroBytes, a mark after it and the length l in its place: the rest and the padding
 pub rest-padded : (p : List ℕ) (n r : ℕ) {b l x : List ℕ} (t u : List ℕ)
-    → length p ≡ n % 64 → r ≡ length p → b ≡ take (length p) p ++ drop (length p) (zeros 128)
+    → length p ≡ n % 64 → r ≡ length p → b ≡ take (length p) p ++ drop (length p) (zeroBytes 128)
     → l ≡ bytesOf 8 (n % 2305843009213693952 * 8) → x ≡ take (length l) l ++ t
     → take (n % 64 + zeroCount n + 9) (take (r + 1 + (119 - r) % 64) (set b r 0x80) ++ (x ++ u)) ≡ p ++ padding n
 unfolding padding
@@ -102,22 +102,22 @@ rest-padded p n r {b = b} {l = l} {x = x} t u h er eb el ex =
     let at : ℕ = r + 1 + (119 - r) % 64 in
     let e : ℕ = n % 64 + z + 9 in
     let q : ℕ = 128 - at in
-    let f : List ℕ = p ++ 0x80 ∷ zeros z in
-    let length-f : length f ≡ at = omega (arith, length-append p (0x80 ∷ zeros z), length-zeros z) in
+    let f : List ℕ = p ++ 0x80 ∷ zeroBytes z in
+    let length-f : length f ≡ at = omega (arith, length-append p (0x80 ∷ zeroBytes z), length-zero-bytes z) in
     let bits : l ≡ bytesOf 8 (8 * n % 2 ^ 64) = el ∙ ap (bytesOf 8) (length-bits n) in
     let length-l : length l ≡ 8 = ap length el ∙ length-bytesOf 8 (n % 2305843009213693952 * 8) in
-    let begun : b ≡ p ++ drop (length p) (zeros 128) = eb ∙ ap (λ (k : List ℕ). k ++ drop (length p) (zeros 128)) (take-length p) in
+    let begun : b ≡ p ++ drop (length p) (zeroBytes 128) = eb ∙ ap (λ (k : List ℕ). k ++ drop (length p) (zeroBytes 128)) (take-length p) in
     let front : take at (set b r 0x80) ≡ f =
     (λ a. take at (set (begun a) (er a) 0x80))
     ∙ ap (take at) (marked p z q 0x80 128 (omega arith))
-    ∙ take-at f (zeros q) at length-f in
+    ∙ take-at f (zeroBytes q) at length-f in
     let back : x ++ u ≡ l ++ (t ++ u) =
     ap (λ (k : List ℕ). k ++ u) (ex ∙ ap (λ (k : List ℕ). k ++ t) (take-length l)) ∙ append-assoc l t u in
     (λ a. take e (front a ++ back a))
     ∙ ap (take e) (sym (append-assoc f l (t ++ u)))
     ∙ take-at (f ++ l) (t ++ u) e (omega (arith, length-append f l))
-    ∙ append-assoc p (0x80 ∷ zeros z) l
-    ∙ ap (λ (k : List ℕ). p ++ 0x80 ∷ (zeros z ++ k)) bits
+    ∙ append-assoc p (0x80 ∷ zeroBytes z) l
+    ∙ ap (λ (k : List ℕ). p ++ 0x80 ∷ (zeroBytes z ++ k)) bits
 
 -- ## The bytes of a hash value
 

@@ -2,9 +2,9 @@
 use Rattle.wire.proofs.Prelude.{List, List·getD-append, [], _++_, _+_, _-_, _<_, _∙_, _∷_, _≡_, _≤_, ap, arith, eq-or-lt-of-le, getD}
 use Rattle.wire.proofs.Prelude.{getD-at, length, length-append, ltb, ltb-true, refl, suc, sym, true, zero, ℕ, ⊎-elim}
 use Rattle.sha256.specs.Sha256.{K, compressed, nextWord, round, rounds, schedule, sums, word, words}
-use Rattle.sha256.specs.Sixteen.{Follows, nextOf, sixteenRounds, sixteenWordsOf, wordsFrom}
+use Rattle.sha256.specs.Sixteen.{NextSixteen, nextOf, sixteenRounds, sixteenWordsOf, wordsFrom}
 use Rattle.sha256.specs.declared.compression.Hash.{Hash}
-use Rattle.sha256.specs.declared.compression.Words.{Words}
+use Rattle.sha256.specs.declared.compression.SixteenWords.{SixteenWords}
 
 module _ (m : List ℕ) where
   -- ## The schedule, word by word
@@ -83,7 +83,7 @@ module _ (m : List ℕ) where
   -- ## Sixteen words at a time
 
   -- sixteen words by their index
-  abbrev sixteenOf : (ℕ → ℕ) → Words
+  abbrev sixteenOf : (ℕ → ℕ) → SixteenWords
   sixteenOf f =
       record {
         w0 = f 0;
@@ -109,7 +109,7 @@ module _ (m : List ℕ) where
   first-words = search first-word
 
   -- what follows the schedule's words from index i on are its words from index i + 16 on
-  next-words : (i : ℕ) → i ≤ 32 → {w v : Words} → w ≡ sixteenOf (λ k. W (i + k)) → Follows w v
+  next-words : (i : ℕ) → i ≤ 32 → {w v : SixteenWords} → w ≡ sixteenOf (λ k. W (i + k)) → NextSixteen w v
       → v ≡ sixteenOf (λ k. W (i + (16 + k)))
   next-words i h {v = v} e f =
       let x0 : v .w0 ≡ W (i + 16) = f .f0 ∙ (λ a. nextOf (e a .w14) (e a .w9) (e a .w1) (e a .w0)) ∙ later-word i 0 (omega arith) in
@@ -135,13 +135,13 @@ module _ (m : List ℕ) where
   -- ## Rounds
 
   -- constants that are K's
-  constants-are : (n : ℕ) {k : List ℕ} {c : Words} → k ≡ K → c ≡ wordsFrom k n → c ≡ wordsFrom K n
+  constants-are : (n : ℕ) {k : List ℕ} {c : SixteenWords} → k ≡ K → c ≡ wordsFrom k n → c ≡ wordsFrom K n
   constants-are n e h = h ∙ ap (λ (l : List ℕ). wordsFrom l n) e
 
   -- four times sixteen rounds, each with the next words and constants, compress a block
-  pub compressed-by-sixteen : (s : Hash) {k : List ℕ} {w0 w1 w2 w3 k0 k1 k2 k3 : Words} {s0 s1 s2 s3 : Hash}
+  pub compressed-by-sixteen : (s : Hash) {k : List ℕ} {w0 w1 w2 w3 k0 k1 k2 k3 : SixteenWords} {s0 s1 s2 s3 : Hash}
       → k ≡ K → k0 ≡ wordsFrom k 0 → k1 ≡ wordsFrom k 16 → k2 ≡ wordsFrom k 32 → k3 ≡ wordsFrom k 48
-      → w0 ≡ sixteenWordsOf m → Follows w0 w1 → Follows w1 w2 → Follows w2 w3
+      → w0 ≡ sixteenWordsOf m → NextSixteen w0 w1 → NextSixteen w1 w2 → NextSixteen w2 w3
       → s0 ≡ sixteenRounds s k0 w0 → s1 ≡ sixteenRounds s0 k1 w1 → s2 ≡ sixteenRounds s1 k2 w2 → s3 ≡ sixteenRounds s2 k3 w3
       → sums s s3 ≡ compressed s m
   unfolding compressed rounds sixteenRounds
@@ -158,7 +158,7 @@ module _ (m : List ℕ) where
       ap (sums s) r3
 
 -- sixteen rounds, one by one
-pub sixteen-by-one : (s : Hash) (k w : Words) {s1 s2 s3 s4 s5 s6 s7 s8 s9 s10 s11 s12 s13 s14 s15 s16 : Hash}
+pub sixteen-by-one : (s : Hash) (k w : SixteenWords) {s1 s2 s3 s4 s5 s6 s7 s8 s9 s10 s11 s12 s13 s14 s15 s16 : Hash}
     → s1 ≡ round s (k .w0) (w .w0) → s2 ≡ round s1 (k .w1) (w .w1) → s3 ≡ round s2 (k .w2) (w .w2)
     → s4 ≡ round s3 (k .w3) (w .w3) → s5 ≡ round s4 (k .w4) (w .w4) → s6 ≡ round s5 (k .w5) (w .w5)
     → s7 ≡ round s6 (k .w6) (w .w6) → s8 ≡ round s7 (k .w7) (w .w7) → s9 ≡ round s8 (k .w8) (w .w8)

@@ -5,14 +5,14 @@ use mathlib.Core.Path.{_≡_}
 use lib.ListN.{getD}
 use Rattle.sha256.specs.Sha256.{_⊞_, round, word, σ₀, σ₁}
 use Rattle.sha256.specs.declared.compression.Hash.{Hash}
-use Rattle.sha256.specs.declared.compression.Words.{Words}
+use Rattle.sha256.specs.declared.compression.SixteenWords.{SixteenWords}
 
 -- the schedule's next word, from those 2, 7, 15 and 16 places before it
 unfoldable pub nextOf : ℕ → ℕ → ℕ → ℕ → ℕ
 nextOf x2 x7 x15 x16 = σ₁ x2 ⊞ x7 ⊞ σ₀ x15 ⊞ x16
 
 -- the words of a block
-abbrev pub sixteenWordsOf : List ℕ → Words
+abbrev pub sixteenWordsOf : List ℕ → SixteenWords
 sixteenWordsOf m =
     record {
       w0 = word m 0;
@@ -34,7 +34,7 @@ sixteenWordsOf m =
     }
 
 -- v are the sixteen words of the schedule that follow w
-pub record Follows (w v : Words) : Type 0 where
+pub record NextSixteen (w v : SixteenWords) : Type 0 where
   pub f0 : v .w0 ≡ nextOf (w .w14) (w .w9) (w .w1) (w .w0)
   pub f1 : v .w1 ≡ nextOf (w .w15) (w .w10) (w .w2) (w .w1)
   pub f2 : v .w2 ≡ nextOf (v .w0) (w .w11) (w .w3) (w .w2)
@@ -53,7 +53,7 @@ pub record Follows (w v : Words) : Type 0 where
   pub f15 : v .w15 ≡ nextOf (v .w13) (v .w8) (v .w0) (w .w15)
 
 -- sixteen elements of a list from index i on
-abbrev pub wordsFrom : List ℕ → ℕ → Words
+abbrev pub wordsFrom : List ℕ → ℕ → SixteenWords
 wordsFrom k i =
     record {
       w0 = getD k i 0;
@@ -75,7 +75,7 @@ wordsFrom k i =
     }
 
 -- sixteen rounds with the words w and the constants k
-unfoldable pub sixteenRounds : Hash → Words → Words → Hash
+unfoldable pub sixteenRounds : Hash → SixteenWords → SixteenWords → Hash
 sixteenRounds s k w =
     let s1 = round s (k .w0) (w .w0) in
     let s2 = round s1 (k .w1) (w .w1) in

@@ -4,12 +4,12 @@ ghost use mathlib.Core.Path.{_≡_};
 ghost use Prim.Native.Nat.{_≤_};
 ghost use lib.ListN.{length};
 ghost use Rattle.sha256.specs.Sha256.{Ch, Maj, Σ₀, Σ₁, σ₀, σ₁, K, T₁, T₂, round, sums, compressed, initial};
-ghost use Rattle.sha256.specs.Sixteen.{nextOf, sixteenWordsOf, Follows, wordsFrom, sixteenRounds};
+ghost use Rattle.sha256.specs.Sixteen.{nextOf, sixteenWordsOf, NextSixteen, wordsFrom, sixteenRounds};
 use std::num::wrapping_add_u32;
 use wire::u32_at;
 
 // Sixteen words of the message schedule, or sixteen constants.
-pub struct Words {
+pub struct SixteenWords {
     pub w0: u32,
     pub w1: u32,
     pub w2: u32,
@@ -174,11 +174,11 @@ fn small_sigma1(x: u32) -> u32
 }
 
 // The words of a block of 64 bytes.
-fn load(block: &[u8]) -> Words
+fn load(block: &[u8]) -> SixteenWords
     requires { ⌜ length (now block) ≡ 64 ⌝ }
     ensures { λ r. ⌜ r ≡ sixteenWordsOf (now (block .entry)) ⌝ }
 {
-    Words {
+    SixteenWords {
         w0: u32_at(block, 0),
         w1: u32_at(block, 4),
         w2: u32_at(block, 8),
@@ -207,8 +207,8 @@ fn next_word(x2: u32, x7: u32, x15: u32, x16: u32) -> u32
 }
 
 // The sixteen words of the schedule that follow w.
-fn next_words(w: Words) -> Words
-    ensures { λ r. ⌜ Follows w r ⌝ }
+fn next_words(w: SixteenWords) -> SixteenWords
+    ensures { λ r. ⌜ NextSixteen w r ⌝ }
 {
     let n0 = next_word(w.w14, w.w9, w.w1, w.w0);
     let n1 = next_word(w.w15, w.w10, w.w2, w.w1);
@@ -226,7 +226,7 @@ fn next_words(w: Words) -> Words
     let n13 = next_word(n11, n6, w.w14, w.w13);
     let n14 = next_word(n12, n7, w.w15, w.w14);
     let n15 = next_word(n13, n8, n0, w.w15);
-    Words {
+    SixteenWords {
         w0: n0,
         w1: n1,
         w2: n2,
@@ -281,11 +281,11 @@ fn one_round(s: Hash, k: u32, w: u32) -> Hash
 }
 
 // Sixteen constants of k from index i on.
-fn constants_from(k: &[u32; 64], i: usize) -> Words
+fn constants_from(k: &[u32; 64], i: usize) -> SixteenWords
     requires { ⌜ i ≤ 48 ⌝ }
     ensures { λ r. ⌜ r ≡ wordsFrom (now (k .entry)) i ⌝ }
 {
-    Words {
+    SixteenWords {
         w0: k[i],
         w1: k[i + 1],
         w2: k[i + 2],
@@ -306,7 +306,7 @@ fn constants_from(k: &[u32; 64], i: usize) -> Words
 }
 
 // Sixteen rounds with the words w and the constants k.
-fn sixteen(s: Hash, w: Words, k: Words) -> Hash
+fn sixteen(s: Hash, w: SixteenWords, k: SixteenWords) -> Hash
     ensures { λ r. ⌜ r ≡ sixteenRounds s k w ⌝ }
 {
     let s1 = one_round(s, k.w0, w.w0);

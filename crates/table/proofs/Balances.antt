@@ -5,7 +5,7 @@ use Rattle.wire.proofs.Prelude.{getD-take, length, ltb, ltb-false, ltb-true, re
 use Rattle.ledgers.specs.Limits.{maxAmount}
 use Rattle.places.proofs.OverPlaces.{all-each}
 use Rattle.places.proofs.PassedRecord.{given-most, stored-fits}
-use Rattle.places.specs.Entries.{givenBy, takenBy}
+use Rattle.places.specs.Amounts.{givenBy, takenBy}
 use Rattle.places.specs.LedgerBalances.{zerosAt}
 use Rattle.records.specs.declared.Record.{Record}
 use Rattle.rules.proofs.Lists.{balance-total}

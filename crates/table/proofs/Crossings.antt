@@ -6,19 +6,18 @@ use Rattle.ledgers.specs.Ledgers.{ledgerAt, ledgerByte}
 use Rattle.places.proofs.KindBytes.{receiving-byte, sending-byte}
 use Rattle.places.proofs.OverPlaces.{all-ext, all-list, any-list, sum-ext, sum-list}
 use Rattle.places.specs.OverPlaces.{allAt, anyAt, sumAt}
-use Rattle.records.proofs.Exactly.{kind-ledger}
+use Rattle.records.proofs.Exactly.{kind-ledger, ledger-bound}
 use Rattle.records.proofs.Formed.{formed-facts}
 use Rattle.records.specs.Records.{formed, recordIn, within}
 use Rattle.records.specs.declared.Words.{Words}
-use Rattle.rules.proofs.Bytes.{byte-most, byte-only}
-use Rattle.rules.proofs.Lists.{same-tests}
+use Rattle.rules.proofs.Bytes.{byte-only}
 use Rattle.rules.specs.HomeValidator.{received, sent}
 use Rattle.rules.specs.Lists.{all, any}
 use Rattle.rules.specs.PairValidator.{matched, sameLedger, standsUnder}
 use Rattle.rules.specs.Rules.{Ledger, Record, isReceiving, isSending, matches}
 use Rattle.table.proofs.Limits.{Parts, parts-of}
 use Rattle.table.specs.Table.{amountAt, backedAt, backedBy, flowAt, headAt, recordAt, recordsFrom, sendingHead, sentAt, wordsAt}
-use Rattle.wire.proofs.Lists.{every-both, every-first, every-none}
+use Rattle.wire.proofs.Lists.{every-both, every-first, every-none, same-tests}
 use Rattle.wire.specs.BigEndian.{every}
 
 -- what is asked where a test holds
@@ -101,7 +100,7 @@ module _ (L : Ledger) (w v : Words) (fw : formed w ≡ true) (fv : formed v ≡ 
       let a = every-first _ _ h in
       let b = every-first _ _ (a .1) in
       let c = every-first _ _ (b .1) in
-      let s = head-same (w .head) (v .head) (ledgerByte L) _ _ _ _ _ _ _ _ own-parts other-parts (byte-most L) (eqb-true _ _ (b .0)) in
+      let s = head-same (w .head) (v .head) (ledgerByte L) _ _ _ _ _ _ _ _ own-parts other-parts (ledger-bound L) (eqb-true _ _ (b .0)) in
       let k : within 0 1 (v .head) ≡ 2 = omega (arith, s .0) in
       every-both _ _ (sending-byte (within 0 1 (v .head)) _ ∙ eq-eqb _ _ k)
       (every-both _ _ (a .0)
@@ -117,13 +116,13 @@ module _ (L : Ledger) (w v : Words) (fw : formed w ≡ true) (fv : formed v ≡ 
 -- ## A ledger's records
 
 -- each of n records is formed and stands under the ledger, in words of 64 bits
-pub record Standing (s : List ℕ) (from n : ℕ) (L : Ledger) : Type 0 where
+pub record FormedUnder (s : List ℕ) (from n : ℕ) (L : Ledger) : Type 0 where
   pub read : (i : ℕ) → i < n → formed (wordsAt s from i) ≡ true
   pub stands : (i : ℕ) → i < n → standsUnder L (recordAt s from i) ≡ true
   pub small : (i : ℕ) → getD s i 0 < 2 ^ 64
 
 -- an arrival has its sending among a ledger's records exactly where one of them has its number, head and amount
-pub sent-is : (s : List ℕ) (from n : ℕ) (L : Ledger) → Standing s from n L → (w : Words) → formed w ≡ true
+pub sent-is : (s : List ℕ) (from n : ℕ) (L : Ledger) → FormedUnder s from n L → (w : Words) → formed w ≡ true
     → any (matches (recordIn w)) (recordsFrom s from n)
     ≡ anyAt (sentAt (w .number) (sendingHead (ledgerByte L) (w .head)) (w .amount) s from) 0 n
 unfolding recordsFrom sentAt
@@ -140,13 +139,13 @@ arrival-is w f =
     receiving-byte (within 0 1 (w .head)) (ledgerAt (within 1 1 (w .head))) (omega (arith, g .kind-some)) (g .kind-most)
 
 -- so a record is matched where its words are backed
-pub backed-is : (s : List ℕ) (from n : ℕ) (L : Ledger) → Standing s from n L → (w : Words) → formed w ≡ true
+pub backed-is : (s : List ℕ) (from n : ℕ) (L : Ledger) → FormedUnder s from n L → (w : Words) → formed w ≡ true
     → matched (recordsFrom s from n) (recordIn w) ≡ backedBy s (ledgerByte L) from n w
 unfolding matched backedBy
 backed-is s from n L h w f = ap₂ (λ (t u : Bool). not t || u) (arrival-is w f) (sent-is s from n L h w f)
 
 -- all of them likewise
-pub all-backed-is : (s : List ℕ) (from n : ℕ) (L : Ledger) → Standing s from n L → (own m : ℕ)
+pub all-backed-is : (s : List ℕ) (from n : ℕ) (L : Ledger) → FormedUnder s from n L → (own m : ℕ)
     → ((i : ℕ) → i < m → formed (wordsAt s own i) ≡ true)
     → all (matched (recordsFrom s from n)) (recordsFrom s own m) ≡ allAt (backedAt s own (ledgerByte L) from n) 0 m
 unfolding recordsFrom

@@ -4,19 +4,19 @@ use Rattle.wire.proofs.Prelude.{eq-eqb, eqb, eqb-true, false, getD, le-leb, leb
 use Rattle.wire.proofs.Prelude.{zero, ℕ}
 use Rattle.ledgers.specs.Ledgers.{counterpart, kindAt, ledgerAt, ledgerByte, receiverLedger, senderLedger}
 use Rattle.ledgers.specs.Limits.{accountLimit, maxAmount}
-use Rattle.records.proofs.Exactly.{kind-ledger}
+use Rattle.records.proofs.Exactly.{kind-ledger, ledger-bound}
 use Rattle.records.proofs.Formed.{facts-formed, formed-facts}
 use Rattle.records.specs.Records.{formed, readingWords, recordIn, within}
 use Rattle.records.specs.declared.Words.{Words}
-use Rattle.rules.proofs.Bytes.{at-byte, byte-at, byte-most, byte-only, receiver-byte, same-own, sender-byte}
-use Rattle.rules.proofs.Lists.{never-both-tests, same-tests}
+use Rattle.rules.proofs.Bytes.{at-byte, byte-at, byte-only, receiver-byte, same-own, sender-byte}
+use Rattle.rules.proofs.Lists.{never-both-tests}
 use Rattle.rules.proofs.PairAccepted.{allowed-held, held-allowed}
 use Rattle.rules.specs.Lists.{any}
 use Rattle.rules.specs.PairValidator.{heldAllowed, sameLedger, standsUnder}
 use Rattle.rules.specs.Rules.{Far, Home, Ledger, Read}
 use Rattle.table.proofs.Limits.{Parts, below-head, below-receiver, head-below, parts-of, receiver-below}
 use Rattle.table.specs.Table.{accountsBy, headBases, mayHold, receiverLimits, senderLimits}
-use Rattle.wire.proofs.Lists.{and-both, every-both, every-first, every-none}
+use Rattle.wire.proofs.Lists.{and-both, every-both, every-first, every-none, same-tests}
 use Rattle.wire.specs.BigEndian.{every}
 
 -- ## Accounts
@@ -120,11 +120,11 @@ module _ (L : Ledger) (own other : ℕ) (ho : own ≤ accountLimit) (ht : other 
       let m = every-first _ _ (c .1) in
       let e = every-first _ _ (m .1) in
       let f = every-first _ _ (e .1) in
-      let x = below-head (ledgerByte L) own other (byte-most L) ho ht kind (w .head) ledger sender receiver zeros d (parts-of (w .head)) far
+      let x = below-head (ledgerByte L) own other (ledger-bound L) ho ht kind (w .head) ledger sender receiver zeros d (parts-of (w .head)) far
       (ltb-true _ _ (b .0)) in
       let byte : ledger ≡ ledgerByte L = x .2 in
       let on : ledgerAt ledger ≡ L = ap ledgerAt byte ∙ at-byte L in
-      let y = below-receiver (ledgerByte L) own other (byte-most L) ho ht kind receiver zeros (x .0) (x .1) (ltb-true _ _ (c .0)) in
+      let y = below-receiver (ledgerByte L) own other (ledger-bound L) ho ht kind receiver zeros (x .0) (x .1) (ltb-true _ _ (c .0)) in
       let tail : w .tail ≡ 2 ^ 56 = eqb-true _ _ (f .0) in
       let some : 0 < w .amount = ltb-true _ _ (m .0) in
       let most : w .amount ≤ maxAmount = leb-true _ _ (e .0) in
@@ -139,7 +139,7 @@ module _ (L : Ledger) (own other : ℕ) (ho : own ≤ accountLimit) (ht : other 
             (record {
               kind-some = rw k (x .0);
               kind-most = rw k (x .1);
-              ledger-most = omega (arith, byte, byte-most L);
+              ledger-most = omega (arith, byte, ledger-bound L);
               zeros-first = omega (arith, y .0);
               amount-some = some;
               amount-most = most;
@@ -179,10 +179,10 @@ module _ (L : Ledger) (own other : ℕ) (ho : own ≤ accountLimit) (ht : other 
       let tail : w .tail ≡ 2 ^ 56 = tail-one (eqb-true _ _ (x .0 .signed)) (f .zeros-last) in
       every-both _ _
       (lt-ltb _ _
-      (head-below (ledgerByte L) own other (byte-most L) ho ht kind (w .head) sender receiver zeros d (parts-at byte) far hd hh some most
+      (head-below (ledgerByte L) own other (ledger-bound L) ho ht kind (w .head) sender receiver zeros d (parts-at byte) far hd hh some most
       sends))
       (every-both _ _
-      (lt-ltb _ _ (receiver-below (ledgerByte L) own other (byte-most L) ho ht kind receiver zeros some most none receives))
+      (lt-ltb _ _ (receiver-below (ledgerByte L) own other (ledger-bound L) ho ht kind receiver zeros some most none receives))
       (every-both _ _ (lt-ltb _ _ (f .amount-some))
       (every-both _ _ (le-leb _ _ (f .amount-most))
       (every-both _ _ (eq-eqb _ _ tail)

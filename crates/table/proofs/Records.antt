@@ -13,9 +13,9 @@ use Rattle.table.proofs.Holding.{Holds, holds-of, of-holds}
 use Rattle.table.specs.Table.{mayHoldAt, recordAt, recordsFrom, wordsAt}
 
 -- as many records as places
-pub length-records : (s : List ℕ) (from n : ℕ) → length (recordsFrom s from n) ≡ n
+pub length-held-records : (s : List ℕ) (from n : ℕ) → length (recordsFrom s from n) ≡ n
 unfolding recordsFrom
-length-records s from n = length-list (recordAt s from) 0 n
+length-held-records s from n = length-list (recordAt s from) 0 n
 
 -- all records of a table read, stand under the ledger, and are ones that 21, 22 and 23 would not refuse
 pub record AllHeld (s : List ℕ) (from n : ℕ) (l : Ledger) (accounts : Ledger → ℕ) : Type 0 where

@@ -102,10 +102,10 @@ module _ (s : List ℕ) (balances accounts at : ℕ) (w : Words) (r : Record) wh
 -- ## Words that agree
 
 -- two lists of words agree at the n words from one on
-abbrev pub Agree : List ℕ → List ℕ → ℕ → ℕ → Type 0
-Agree s t from n = (i : ℕ) → from ≤ i → i < from + n → getD t i 0 ≡ getD s i 0
+abbrev pub SameWords : List ℕ → List ℕ → ℕ → ℕ → Type 0
+SameWords s t from n = (i : ℕ) → from ≤ i → i < from + n → getD t i 0 ≡ getD s i 0
 
-module _ (s t : List ℕ) (records n : ℕ) (same : Agree s t records (4 * n)) where
+module _ (s t : List ℕ) (records n : ℕ) (same : SameWords s t records (4 * n)) where
   -- the words of a place
   pub words-same : (i : ℕ) → i < n → wordsAt t records i ≡ wordsAt s records i
   words-same i h =
@@ -130,7 +130,7 @@ module _ (s t : List ℕ) (records n : ℕ) (same : Agree s t records (4 * n)) w
   number-same i h = same (records + 4 * i + 1) (omega arith) (omega arith)
 
   -- the ledger
-  pub ledger-same : (balances accounts : ℕ) → length t ≡ length s → balances + accounts ≤ length s → Agree s t balances accounts
+  pub ledger-same : (balances accounts : ℕ) → length t ≡ length s → balances + accounts ≤ length s → SameWords s t balances accounts
       → ledgerIn t balances accounts records n ≡ ledgerIn s balances accounts records n
   unfolding ledgerIn
   ledger-same balances accounts long within e =
@@ -169,7 +169,7 @@ module _ (s t : List ℕ) (balances accounts records count top : ℕ) (w : Words
   stored-other i h a b = agree i h ∙ is-stored .others i a b
 
   -- those of the places before
-  stored-before : Agree s t records (4 * count)
+  stored-before : SameWords s t records (4 * count)
   stored-before i a b = stored-other i (omega arith) (inl (omega arith)) (inl (omega arith))
 
   -- the place has the record's words

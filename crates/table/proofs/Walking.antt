@@ -7,8 +7,8 @@ use Rattle.table.specs.Table.{IndexOf, numberAt, numberedAt, sentAt}
 use Rattle.wire.proofs.Lists.{every-first}
 
 -- a place with a number has the number
-pub numbered : (x : ℕ) (s : List ℕ) (from j : ℕ) → numberedAt x s from j ≡ true → x ≡ numberAt s from j
-numbered x s from j h = eqb-true x (numberAt s from j) h
+pub number-found : (x : ℕ) (s : List ℕ) (from j : ℕ) → numberedAt x s from j ≡ true → x ≡ numberAt s from j
+number-found x s from j h = eqb-true x (numberAt s from j) h
 
 -- and so has a place with a number, a head and an amount
 pub sent-numbered : (x head amount : ℕ) (s : List ℕ) (from j : ℕ) → sentAt x head amount s from j ≡ true → x ≡ numberAt s from j

@@ -1,10 +1,11 @@
 -- A ledger's table in the words of a state: the record at place i is kept as the four words of its 32 bytes, from word `from + 4 * i` on,
--- and is what they read as. Assumes nothing.
+-- and is what they read as. Published contracts cite the first two parts alone. Assumes nothing.
 use Prim.Native.Nat.{ℕ, _+_, _*_, _%_, _^_}
 use mathlib.Core.Bool.{Bool, cond, false, not, _&&_, _||_}
 use mathlib.Core.List.{List, [], _∷_}
 use lib.Dec.{eqb}
 use lib.ListN.{drop, getD, set, take}
+use Rattle.ledgers.specs.Limits.{capacity}
 use Rattle.ledgers.specs.declared.Ledger.{Ledger}
 use Rattle.ledgers.specs.declared.Ledger.the-variants.{Far, Home}
 use Rattle.places.specs.ExactSums.{Halves}
@@ -41,7 +42,23 @@ recordAt s from i = recordIn (wordsAt s from i)
 unfoldable pub recordsFrom : List ℕ → ℕ → ℕ → List Record
 recordsFrom s from n = listAt (recordAt s from) 0 n
 
--- ## Refusal 3 of one record
+-- ## A ledger
+
+-- the ledger whose balances and whose held records stand from two words on, with as many of each as it has
+unfoldable pub ledgerIn : List ℕ → ℕ → ℕ → ℕ → ℕ → LedgerState
+ledgerIn s balances accounts records count =
+    record { balances = take accounts (drop balances s); passed = recordsFrom s records count }
+
+-- the words with a record's own from a word on
+abbrev pub withWords : List ℕ → ℕ → Words → List ℕ
+withWords s at w =
+    set (set (set (set s at (w .head)) (at + 1) (w .number)) (at + 2) (w .amount)) (at + 3) (w .tail)
+
+-- the words once a record has passed on the ledger whose balances stand from a word on, with the record's own from word `at` on
+unfoldable pub stored : List ℕ → ℕ → ℕ → Words → Record → List ℕ
+stored s balances at w r = withWords (movedAt s balances r) at w
+
+-- ## For inner functions: refusal 3 of one record
 
 -- the number of accounts of each ledger, with those of a ledger and of its counterpart
 abbrev pub accountsBy : Ledger → ℕ → ℕ → Ledger → ℕ
@@ -59,7 +76,7 @@ mayHold l accounts (Read r) = standsUnder l r && heldAllowed accounts r
 abbrev pub mayHoldAt : List ℕ → ℕ → Ledger → (Ledger → ℕ) → ℕ → Bool
 mayHoldAt s from l accounts i = mayHold l accounts (readingWords (wordsAt s from i))
 
--- ## The same by limits, for inner functions
+-- ## For inner functions: the same by limits
 
 -- of each kind, a local first, the head of a record of the ledger with no accounts yet; of no kind 0
 abbrev pub headBases : ℕ → List ℕ
@@ -73,7 +90,7 @@ senderLimits own other = 0 ∷ own * 2 ^ 32 ∷ own * 2 ^ 32 ∷ other * 2 ^ 32 
 abbrev pub receiverLimits : ℕ → ℕ → List ℕ
 receiverLimits own other = 0 ∷ own ∷ other ∷ own ∷ []
 
--- ## Numbers
+-- ## For inner functions: numbers
 
 -- the number of the record at a place
 abbrev pub numberAt : List ℕ → ℕ → ℕ → ℕ
@@ -83,12 +100,16 @@ numberAt s from i = getD s (from + 4 * i + 1) 0
 abbrev pub numberedAt : ℕ → List ℕ → ℕ → ℕ → Bool
 numberedAt x s from i = eqb x (numberAt s from i)
 
+-- the elements of the index of a ledger's numbers: the heads of the chains, then the places
+abbrev pub indexLength : ℕ
+indexLength = chainCount + capacity
+
 -- the index of the n numbers, from element `base` on: the heads of the chains, and after them of each place the one before it in its chain
 abbrev pub IndexOf : List ℕ → ℕ → List ℕ → ℕ → ℕ → Type 0
 IndexOf s from index base n =
     Chains (numberAt s from) (λ (h : ℕ). getD index (base + h) 0) (λ (k : ℕ). getD index (base + chainCount + k) 0) n
 
--- ## Arrivals and their sendings
+-- ## For inner functions: arrivals and their sendings
 
 -- the head of the record at a place
 abbrev pub headAt : List ℕ → ℕ → ℕ → ℕ
@@ -124,23 +145,7 @@ flowBy kind w = cond (eqb (within 0 1 (w .head)) kind) (w .amount) 0
 abbrev pub flowAt : ℕ → List ℕ → ℕ → ℕ → ℕ
 flowAt kind s from i = flowBy kind (wordsAt s from i)
 
--- what m records sent and received, for inner functions
+-- what m records sent and received
 pub record FlowsAt (s : List ℕ) (from m : ℕ) (f : Flows) : Type 0 where
   pub sent : Halves (sumAt (flowAt 2 s from) 0 m) m (f .sent .high) (f .sent .low)
   pub received : Halves (sumAt (flowAt 3 s from) 0 m) m (f .received .high) (f .received .low)
-
--- ## A ledger
-
--- the ledger whose balances and whose held records stand from two words on, with as many of each as it has
-unfoldable pub ledgerIn : List ℕ → ℕ → ℕ → ℕ → ℕ → LedgerState
-ledgerIn s balances accounts records count =
-    record { balances = take accounts (drop balances s); passed = recordsFrom s records count }
-
--- the words with a record's own from a word on
-abbrev pub withWords : List ℕ → ℕ → Words → List ℕ
-withWords s at w =
-    set (set (set (set s at (w .head)) (at + 1) (w .number)) (at + 2) (w .amount)) (at + 3) (w .tail)
-
--- the words once a record has passed on the ledger whose balances stand from a word on, with the record's own from word `at` on
-unfoldable pub stored : List ℕ → ℕ → ℕ → Words → Record → List ℕ
-stored s balances at w r = withWords (movedAt s balances r) at w

@@ -5,7 +5,7 @@ ghost use mathlib.Core.Path.{_≡_};
 ghost use lib.ListN.{getD, length, set};
 ghost use Rattle.ledgers.specs.Ledgers.{ledgerAt};
 ghost use Rattle.ledgers.specs.Limits.{accountLimit, capacity};
-ghost use Rattle.places.specs.Entries.{givenBy, takenBy};
+ghost use Rattle.places.specs.Amounts.{givenBy, takenBy};
 ghost use Rattle.places.specs.NumberIndex.{Kept, chainCount};
 ghost use Rattle.places.specs.OverPlaces.{allAt, anyAt, apartAt};
 ghost use Rattle.records.specs.Records.{readingWords};
@@ -13,24 +13,21 @@ ghost use Rattle.rules.specs.Lists.{lowered, raised};
 ghost use Rattle.table.specs.Table.{accountsBy, headBases, mayHold, mayHoldAt, receiverLimits, senderLimits, wordsAt};
 ghost use Rattle.table.specs.Table.{FlowsAt, IndexOf, backedAt, backedBy, flowBy, numberAt, numberedAt, sendingHead, sentAt};
 ghost use Rattle.table.specs.Table.{stored, withWords};
+use ledgers::Ledger;
 use places::CHAINS;
 use places::Flows;
+use places::HALF;
 use places::Halved;
 use places::as_index;
 use places::given_by;
 use places::low_bits;
 use places::next_place;
 use places::taken_by;
+use records::FIRST_BYTE;
+use records::FIRST_TWO_BYTES;
 use records::Record;
 use records::Words;
 use std::num::wrapping_sub_u64;
-
-// What a word is divided by for its first byte alone, for its first two, and for its first half.
-const BYTE: u64 = 72057594037927936;
-
-const TWO_BYTES: u64 = 281474976710656;
-
-const HALF: u64 = 4294967296;
 
 // ## Refusal 3 of one record
 
@@ -55,9 +52,9 @@ fn head_bases(l: u64) -> [u64; 4]
 {
     [
         0,
-        BYTE + l * TWO_BYTES,
-        2 * BYTE + l * TWO_BYTES,
-        3 * BYTE + l * TWO_BYTES,
+        FIRST_BYTE + l * FIRST_TWO_BYTES,
+        2 * FIRST_BYTE + l * FIRST_TWO_BYTES,
+        3 * FIRST_BYTE + l * FIRST_TWO_BYTES,
     ]
 }
 
@@ -80,7 +77,7 @@ fn receiver_limits(own: u64, other: u64) -> [u64; 4]
 fn kind_in(head: u64) -> usize
     ensures { λ r. ⌜ r ≡ head / 72057594037927936 % 4 ⌝ }
 {
-    (head / BYTE % 4) as usize
+    (head / FIRST_BYTE % 4) as usize
 }
 
 // The receiver of a head, with its zero bytes before it.
@@ -119,10 +116,13 @@ fn may_hold<'a>(
     if Record::MAX_AMOUNT < w.amount {
         return false;
     }
-    w.tail == BYTE
+    w.tail == FIRST_BYTE
 }
 
 // ## Numbers
+
+// The elements of the index of a ledger's numbers: the heads of the chains, then the places.
+pub const INDEX: usize = CHAINS + Ledger::CAPACITY;
 
 // The steps down a chain after which the places are scanned instead.
 const STEPS: usize = 3;
@@ -228,7 +228,7 @@ pub fn sending_head(o: u64, head: u64) -> u64
     requires { ⌜ o ≤ 1 ⌝ }
     ensures { λ r. ⌜ r ≡ sendingHead o head ⌝ }
 {
-    2 * BYTE + o * TWO_BYTES + head % TWO_BYTES
+    2 * FIRST_BYTE + o * FIRST_TWO_BYTES + head % FIRST_TWO_BYTES
 }
 
 // Whether the record at a place has a number, a head and an amount.
@@ -306,7 +306,7 @@ pub fn is_backed<'a>(
         × IndexOf (now words) others (now index) base n × (o ≤ 1) ⌝ }
     ensures { λ b. ⌜ b ≡ backedBy (now (words .entry)) o others n w ⌝ }
 {
-    if w.head / BYTE % 256 != 3 {
+    if w.head / FIRST_BYTE % 256 != 3 {
         return true;
     }
     let head = sending_head(o, w.head);
@@ -327,7 +327,7 @@ fn is_backed_first<'a>(
         × IndexOf (now words) others (now index) base n × (o ≤ 1) ⌝ }
     ensures { λ b. ⌜ (b ≡ true → backedBy (now (words .entry)) o others n w ≡ true) ⌝ }
 {
-    let kind = w.head / BYTE % 256;
+    let kind = w.head / FIRST_BYTE % 256;
     if kind != 3 {
         return true;
     }
@@ -346,7 +346,7 @@ fn add_flow(f: Flows, w: Words) -> Flows
     ensures received { λ r. ⌜ (r .received .high ≡ f .received .high + flowBy 3 w / 2 ^ 32)
         × (r .received .low ≡ f .received .low + flowBy 3 w % 2 ^ 32) ⌝ }
 {
-    let kind = w.head / BYTE % 256;
+    let kind = w.head / FIRST_BYTE % 256;
     let sent = f.sent;
     let received = f.received;
     if kind == 2 {

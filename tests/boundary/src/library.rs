@@ -89,11 +89,11 @@ fn home_back(state: &HomeValidator) -> HomeState {
     HomeState::from_words(words_of(state).try_into().expect("as many words"))
 }
 
-fn pair_out(told: ffi::PairOutcome) -> (Answer, Box<PairState>) {
+fn pair_out(told: ffi::PlainPairOutcome) -> (Answer, Box<PairState>) {
     (answer(told.answer), Box::new(pair_back(&told.state)))
 }
 
-fn home_out(told: ffi::HomeOutcome) -> (Answer, Box<HomeState>) {
+fn home_out(told: ffi::PlainHomeOutcome) -> (Answer, Box<HomeState>) {
     (answer(told.answer), Box::new(home_back(&told.state)))
 }
 

@@ -29,20 +29,20 @@ bounded-at c = sym (c .before .is-bounded .ensures) ∙ not-false _ (c .if2 .lef
 bounds-at : (c : tie.Else2) → HomeBounds (c .before .before .before .before .before .args .s .now)
 bounds-at c = bounds-facts (c .before .before .before .before .before .args .s .now) (bounded-at c)
 
-add-zeros : tie.Need-add-zeros
-add-zeros c = omega (arith, bounds-at (c .before) .home-fits)
+add-are-zero : tie.Need-add-are-zero
+add-are-zero c = omega (arith, bounds-at (c .before) .home-fits)
 
-sub-zeros : tie.Need-sub-zeros
-sub-zeros c = bounds-at (c .before) .home-fits
+sub-are-zero : tie.Need-sub-are-zero
+sub-are-zero c = bounds-at (c .before) .home-fits
 
-zeros-requires : tie.Need-zeros-requires
-zeros-requires c κs = omega (arith, bounds-at (c .before) .home-fits, c .before .before .before .if1 .left)
+are-zero-requires : tie.Need-are-zero-requires
+are-zero-requires c κs = omega (arith, bounds-at (c .before) .home-fits, c .before .before .before .if1 .left)
 
 returns-3 : tie.Need-returns-3
 unfolding testsHome
 returns-3 c =
     let a = c .before .before .before .before .before .before .before .before .args in
-    let e = tests-refused (a .s .now) (a .index .now) (every-not 2 _ (sym (c .before .zeros .ensures) ∙ not-true _ (c .if3 .taken))) in
+    let e = tests-refused (a .s .now) (a .index .now) (every-not 2 _ (sym (c .before .are-zero .ensures) ∙ not-true _ (c .if3 .taken))) in
     (e .0, (e .1, refl))
 
 hold-indexed-requires : tie.Need-hold-indexed-requires
@@ -87,7 +87,7 @@ returns-5 c =
     (every-skip _ _ (eq-eqb _ _ (c .before .before .before .before .before .before .before .before .before .before .before .before
     .before .before .if1 .left))
     ∙ every-skip _ _ (bounded-at (c .before .before .before .before .before .before .before .before .before .before .before .before))
-    ∙ every-skip _ _ (sym (c .before .before .before .before .before .before .before .before .before .before .zeros .ensures) ∙
+    ∙ every-skip _ _ (sym (c .before .before .before .before .before .before .before .before .before .before .are-zero .ensures) ∙
     not-false _ (c .before .before .before .before .before .before .before .before .before .if3 .left))
     ∙ every-skip _ _ (sym (h .ensures .0) ∙ holds)
     ∙ every-one _)
@@ -104,6 +104,6 @@ returns-5 c =
     )
 
 pub is-accepted-spec : {M : Type 1} → statement M
-is-accepted-spec = tie.close (tie.spec returns (λ c κs. search needs) returns-2 (λ c. search needs) add-zeros sub-zeros zeros-requires
+is-accepted-spec = tie.close (tie.spec returns (λ c κs. search needs) returns-2 (λ c. search needs) add-are-zero sub-are-zero are-zero-requires
     returns-3 (λ c. search needs) (λ c. search needs) (λ c. search needs) hold-indexed-requires (λ c. search needs) returns-4
     adds-up-requires (λ c. search needs) returns-5)

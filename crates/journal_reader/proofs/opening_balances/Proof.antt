@@ -4,7 +4,7 @@ use Rattle.answers.proofs.Answers.{instead-refused}
 use Rattle.answers.specs.Answers.{answer, orElse}
 use Rattle.answers.specs.declared.Answer.the-variants.{Passed}
 use Rattle.journal_blocks.specs.Blocks.{balanceTable, statedCount}
-use Rattle.journal_reader.proofs.Judging.{opened}
+use Rattle.journal_reader.proofs.Judging.{balances-facts}
 use Rattle.journal_reader.specs.Judged.{balancesRefusal, openingOf}
 use Rattle.ledgers.specs.Limits.{accountLimit}
 use Rattle.journal_reader.proofs.opening_balances.Statement.{statement}
@@ -27,6 +27,6 @@ opening-balances-spec = tie.close (tie.spec (λ c κs. search needs) (λ c κs. 
     let count = instead-refused _ (statedCount (a .block .now)) 0 r in
     let table = instead-refused _ (balanceTable (a .block .now)) (replicate accountLimit 0) r in
     λ i. record { answer = told i; count = count i; balances = table i })
-    (λ c κs. search needs) (λ c κs. opened _ _ _ (sym (refusal-at (c .before .before)) ∙ c .before .if1 .left)) (λ c.
+    (λ c κs. search needs) (λ c κs. balances-facts _ _ _ (sym (refusal-at (c .before .before)) ∙ c .before .if1 .left)) (λ c.
     rw (sym (refusal-at (c .before .before .before)) ∙ c .before .before .if1 .left)
     (λ i. record { answer = Passed; count = c .before .stated-count .ensures i; balances = c .judged-balances .ensures i })))

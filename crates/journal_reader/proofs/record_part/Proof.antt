@@ -2,7 +2,7 @@
 use Rattle.wire.proofs.Prelude.{[], _∙_, _≡_, arith, needs, sym, ℕ}
 use Rattle.answers.proofs.Answers.{passed-zero, refused-instead}
 use Rattle.journal_blocks.specs.Blocks.{recordPart}
-use Rattle.journal_reader.proofs.Judging.{placed}
+use Rattle.journal_reader.proofs.Judging.{place-facts}
 use Rattle.journal_reader.specs.Judged.{partOf, recordRefusal}
 use Rattle.journal_reader.proofs.record_part.Statement.{statement}
 use Rattle.journal_reader.proofs.record_part.Tie as tie
@@ -22,4 +22,4 @@ record-part-spec = tie.close (tie.spec (λ c κs. search needs) (λ c. search ne
     let b = a .block .now in
     let n : ℕ = recordRefusal b (a .k) (a .before) (a .place) in
     sym (refused-instead n (a .k) _ _ (recordPart b (a .place)) [] (sym (c3 .judge-record .ensures) ∙ c .before .enum-told2 .given .1)))
-    (λ c κs. omega (arith, placed _ _ _ _ (none-refused c))) (λ c. rw (none-refused (c .before), c .judged-part .ensures)))
+    (λ c κs. omega (arith, place-facts _ _ _ _ (none-refused c))) (λ c. rw (none-refused (c .before), c .judged-part .ensures)))

@@ -82,7 +82,7 @@ list-opening-spec = tie.close (tie.spec (λ c κs. search needs) (λ c κs. sear
     c .before .before .put-open .ensures .size ∙ h .put-header .ensures .size)
     (λ c. let z = c .before .before .before .before .if1 .left in let r = c .before .before .before .before .before .before in
     let p = r .before .before .before .before .before .before in let h = headed p in let a = home-at (p .before .before .before) in
-    let b = far-at p in let w = r .first-row .ensures .1 z in let row = w .0 ∙ ap₂ (λ (x y : List ℕ). rowOf 0 (pairOpened x y))
+    let b = far-at p in let w = r .first-row .ensures .1 .0 z in let row = w .0 ∙ ap₂ (λ (x y : List ℕ). rowOf 0 (pairOpened x y))
     (a .balances-are) (b .balances-are) in open-leaves (homeOf h) (farOf h) (r .first-row .result) (a .none) (b .none)
     (sym (refusal-at r) ∙ z) (h .put-header .ensures) (c .before .before .put-open .ensures) row (b .count-is) (w .1 ∙ ap₂ pairOpenedWords
     (a .balances-are) (b .balances-are))))

@@ -1,9 +1,8 @@
 -- `pair_core::is_accepted` meets its contract. Assumes nothing.
 use Rattle.wire.proofs.Prelude.{_<_, _^_, _∙_, _≡_, arith, eq-eqb, getD, length, ne-eqb, needs, not-false, not-true, refl, sym, true, ℕ}
-use Rattle.pair_core.proofs.Accept.{accepts-is, both-indexed, second-empty, tests-refused}
+use Rattle.pair_core.proofs.Accept.{accepts-is, both-indexed, second-empty, tests-refused, testsOf}
 use Rattle.pair_core.proofs.Ledgers.{bounds-of}
 use Rattle.pair_core.specs.Layout.{acceptsPair, countOn, indexOn, pairBounds, recordsStart}
-use Rattle.pair_core.specs.Testing.{testsOf}
 use Rattle.table.specs.Table.{IndexOf}
 use Rattle.wire.proofs.Lists.{every-not, every-one, every-skip}
 use Rattle.pair_core.proofs.is_accepted.Statement.{statement}

@@ -12,7 +12,7 @@ fits-at c = accounts-fit (c .args .s .now) (bounds-of (c .args .s .now) (c .pre 
 
 returns : tie.Need-returns
 unfolding zeroBeyond
-returns c = c .zeros .ensures
+returns c = c .are-zero .ensures
 
 pub is-zero-beyond-spec : {M : Type 1} → statement M
 is-zero-beyond-spec = tie.close (tie.spec (λ c. search needs) (λ c. search needs) (λ c. search needs) (λ c. search needs)

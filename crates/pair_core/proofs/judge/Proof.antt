@@ -42,8 +42,8 @@ returns c =
     let p = pairViewOf (a .s .now) .pair in
     judge-by (a .s .now) (a .r)
     (c10 .ledger-index .ensures .0 ∙ ap ledgerByte (c10 .before .ledger .ensures))
-    (c7 .accounts-of .ensures ∙ ap (accountsOf p) (c7 .before .sender-ledger .ensures))
-    (c5 .accounts-of2 .ensures ∙ ap (accountsOf p) (c5 .before .receiver-ledger .ensures))
+    (c7 .accounts-on .ensures ∙ ap (accountsOf p) (c7 .before .sender-ledger .ensures))
+    (c5 .accounts-on2 .ensures ∙ ap (accountsOf p) (c5 .before .receiver-ledger .ensures))
     (c .before .before .before .before .last-refusal .ensures)
     (c .before .before .before .refusal-if .ensures)
     (c .before .first-refusal .ensures)

@@ -1,9 +1,10 @@
 -- `pair_core::take` meets its contract. Assumes nothing.
 use Rattle.wire.proofs.Prelude.{_*_, needs, not-false, refl}
-use Rattle.pair_core.specs.Layout.{indexOn, pairIndexLength, pairWordsChecker, recordsStart}
+use Rattle.pair_core.specs.Layout.{indexOn, pairWordsChecker, recordsStart}
 use Rattle.rules.proofs.Parts.{gives-one, gives-unaccepted}
 use Rattle.rules.specs.Calls.{one}
 use Rattle.table.proofs.Numbers.{index-none}
+use Rattle.table.specs.Table.{indexLength}
 use Rattle.pair_core.proofs.take.Statement.{statement}
 use Rattle.pair_core.proofs.take.Tie as tie
 
@@ -11,7 +12,7 @@ is-accepted-requires : tie.Need-is-accepted-requires
 is-accepted-requires c κs = (
   refl,
   λ l p. index-none (c .before .before .before .before .args .state .now) (recordsStart l) (2 *
-      pairIndexLength) (indexOn l),
+      indexLength) (indexOn l),
 )
 
 returns : tie.Need-returns

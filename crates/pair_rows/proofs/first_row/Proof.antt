@@ -1,15 +1,22 @@
 -- `pair_rows::first_row` meets its contract. Assumes nothing.
+use Rattle.answers.proofs.Answers.{instead-refused}
 use Rattle.pair_core.proofs.Opened.{opened-counts}
 use Rattle.pair_core.specs.Layout.{pairZeroWords}
 use Rattle.pair_rows.proofs.Opened.{FirstRow, first-row}
 use Rattle.rules.specs.PairValidator.{pairOpeningRefusal}
-use Rattle.wire.proofs.Prelude.{_∙_, _≡_, arith, needs, sym}
+use Rattle.wire.proofs.Prelude.{_∙_, _≡_, arith, needs, refl, sym}
 use Rattle.pair_rows.proofs.first_row.Statement.{statement}
 use Rattle.pair_rows.proofs.first_row.Tie as tie
 
 open-requires : tie.Need-open-requires
 unfolding pairZeroWords
 open-requires c κs = c .before .before .before .pre
+
+-- beside a refusal the words stay zeros
+returns : tie.Need-returns
+returns c =
+    let o = c .before .open .ensures in
+    (o .0, (λ e. absurd (c .if1 .taken e), λ e. (refl, o .1 ∙ sym (instead-refused _ _ _ (λ z. c .if1 .taken (o .0 ∙ z))))))
 
 -- the opening is accepted
 none-at : (c : tie.Else1) → pairOpeningRefusal (c .before .before .before .before .before .args .homes .now) (c .before .before .before
@@ -31,8 +38,8 @@ row-at c =
 returns-2 : tie.Need-returns-2
 returns-2 c =
     let w = row-at (c .before .before) in
-    (sym (none-at (c .before .before .before)), λ e. (w .row, w .words))
+    (sym (none-at (c .before .before .before)), (λ e. (w .row, w .words), λ e. absurd (e refl)))
 
 pub first-row-spec : {M : Type 1} → statement M
-first-row-spec = tie.close (tie.spec open-requires (λ c. (c .before .open .ensures .0, λ e. absurd (c .if1 .taken e)))
+first-row-spec = tie.close (tie.spec open-requires returns
     add-balances-requires (λ c. search needs) (λ c. row-at (c .before .before) .fits) returns-2)

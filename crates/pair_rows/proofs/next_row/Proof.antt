@@ -2,7 +2,7 @@
 use Rattle.ledgers.specs.Ledgers.{ledgerOf}
 use Rattle.pair_core.specs.Layout.{pairSupplyOf, pairWordsChecker}
 use Rattle.pair_rows.proofs.Rows.{RowMoves, read-or-refused, row-passed, row-refused, row-tells, rowAfter}
-use Rattle.places.specs.Entries.{givenBy, takenBy}
+use Rattle.places.specs.Amounts.{givenBy, takenBy}
 use Rattle.wire.proofs.Prelude.{_∙_, _≡_, needs, sym}
 use Rattle.pair_rows.proofs.next_row.Statement.{statement}
 use Rattle.pair_rows.proofs.next_row.Tie as tie

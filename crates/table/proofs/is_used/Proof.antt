@@ -1,6 +1,6 @@
 -- `table::is_used` meets its contract. Assumes nothing.
 use Rattle.wire.proofs.Prelude.{arith, eq-eqb, ne-eqb, needs, sym}
-use Rattle.table.proofs.Walking.{WalkFor, numbered, walk-end, walk-first, walk-found, walk-lower, walk-next}
+use Rattle.table.proofs.Walking.{WalkFor, number-found, walk-end, walk-first, walk-found, walk-lower, walk-next}
 use Rattle.table.specs.Table.{numberedAt}
 use Rattle.table.proofs.is_used.Statement.{statement}
 use Rattle.table.proofs.is_used.Tie as tie
@@ -16,7 +16,7 @@ loop-holds c =
     let o = c .before .before .before .before .before in
     let a = o .args in
     let low = c .before .before .low-bits in
-    walk-first (a .words .now) (a .from) (a .index .now) (a .base) (a .n) (o .pre .2) _ (a .x) (numbered (a .x) (a .words .now) (a
+    walk-first (a .words .now) (a .from) (a .index .now) (a .base) (a .n) (o .pre .2) _ (a .x) (number-found (a .x) (a .words .now) (a
     .from)) _ (low .result) (low .ensures) (c
     .as-index .ensures)
 
@@ -25,7 +25,7 @@ returns c =
     let o = c .before .before .before .before .before .before .before .before .before in
     let a = o .args in
     let l = c .before .before .before .loop in
-    sym (walk-found (a .words .now) (a .from) (a .index .now) (a .base) (a .n) (o .pre .2) _ (a .x) (numbered (a .x) (a .words .now) (a
+    sym (walk-found (a .words .now) (a .from) (a .index .now) (a .base) (a .n) (o .pre .2) _ (a .x) (number-found (a .x) (a .words .now) (a
     .from)) (l .at) (l .inv) (c .before .before
     .loop-test .taken) (eq-eqb _ _ (c .if1 .taken)))
 
@@ -35,7 +35,7 @@ loop-less c =
     let l = t .before .loop in
     let o = t .before .before .before .before .before .before .before in
     let a = o .args in
-    walk-lower (a .words .now) (a .from) (a .index .now) (a .base) (a .n) (o .pre .2) _ (a .x) (numbered (a .x) (a .words .now) (a
+    walk-lower (a .words .now) (a .from) (a .index .now) (a .base) (a .n) (o .pre .2) _ (a .x) (number-found (a .x) (a .words .now) (a
     .from)) (l .at) (l .inv) _ (t .loop-test .taken)
     (c .as-index2 .ensures)
 
@@ -45,7 +45,7 @@ loop-again c =
     let l = t .before .loop in
     let o = t .before .before .before .before .before .before .before in
     let a = o .args in
-    walk-next (a .words .now) (a .from) (a .index .now) (a .base) (a .n) (o .pre .2) _ (a .x) (numbered (a .x) (a .words .now) (a
+    walk-next (a .words .now) (a .from) (a .index .now) (a .base) (a .n) (o .pre .2) _ (a .x) (number-found (a .x) (a .words .now) (a
     .from)) (l .at) (l .inv) _ (t .loop-test .taken)
     (ne-eqb _ _ (c .before .before .before .if1 .left)) (c .as-index2 .ensures)
 
@@ -54,7 +54,7 @@ returns-3 c =
     let o = c .before .before .before .before .before .before .before in
     let a = o .args in
     let l = c .before .loop in
-    sym (walk-end (a .words .now) (a .from) (a .index .now) (a .base) (a .n) (o .pre .2) _ (a .x) (numbered (a .x) (a .words .now) (a
+    sym (walk-end (a .words .now) (a .from) (a .index .now) (a .base) (a .n) (o .pre .2) _ (a .x) (number-found (a .x) (a .words .now) (a
     .from)) (l .at) (l .inv) (omega arith))
 
 pub is-used-spec : {M : Type 1} → statement M

@@ -1,10 +1,10 @@
 -- `home_validator::asked::accepted` meets its contract. Assumes nothing.
-use Rattle.home_core.specs.Layout.{homeIndexLength}
 use Rattle.table.proofs.Numbers.{index-none}
 use Rattle.wire.proofs.Prelude.{needs, refl}
+use Rattle.table.specs.Table.{indexLength}
 use Rattle.home_validator.proofs.asked.accepted.Statement.{statement}
 use Rattle.home_validator.proofs.asked.accepted.Tie as tie
 
 pub accepted-spec : {M : Type 1} → statement M
 accepted-spec = tie.close (tie.spec (λ c. search needs)
-    (λ c κs. (refl, index-none (c .before .before .args .words .now) 0 homeIndexLength 0)) (λ c. search needs))
+    (λ c κs. (refl, index-none (c .before .before .args .words .now) 0 indexLength 0)) (λ c. search needs))

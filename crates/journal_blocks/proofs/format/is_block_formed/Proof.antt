@@ -16,7 +16,7 @@ is-block-formed-spec = tie.close (tie.spec (λ c. search needs) (λ c κs. searc
     (λ c κs. search needs) (λ c.
     let c3 = c .before .before .before in
     let b = c3 .before .before .before .before .before .before .args .block .now in
-    let n = c3 .wide .ensures .0 ∙ sym (field-one 5 b (omega arith)) in
+    let n = c3 .byte-as-number .ensures .0 ∙ sym (field-one 5 b (omega arith)) in
     not-held _ (λ h. omega (arith, formed-block-facts _ _ _ h .fits, n, c .before .item-limit .ensures)))
     (λ c κs. search needs) (λ c.
     not-held _ (λ h. false≢true (sym (not-true _ (c .if4 .taken)) ∙ c .before .all-zero .ensures ∙ formed-block-facts _ _ _ h .head)))
@@ -24,7 +24,7 @@ is-block-formed-spec = tie.close (tie.spec (λ c. search needs) (λ c κs. searc
     let c8 = c .before .before .before .before .before .before .before .before in
     let a = c8 .before .before .before .before .before .before .args in
     let b = a .block .now in
-    let n = c8 .wide .ensures .0 ∙ sym (field-one 5 b (omega arith)) in
+    let n = c8 .byte-as-number .ensures .0 ∙ sym (field-one 5 b (omega arith)) in
     let z = c .before .all-zero2 .ensures ∙ tail-is b (a .k) _ _ n (c .before .before .items-end .ensures .0) in
     not-held _ (λ h. false≢true (sym (not-true _ (c .if5 .taken)) ∙ z ∙ formed-block-facts _ _ _ h .tail)))
     (λ c κs. search needs) (λ c.
@@ -34,7 +34,7 @@ is-block-formed-spec = tie.close (tie.spec (λ c. search needs) (λ c κs. searc
     let c12 = c9 .before .before .before in
     let a = c12 .before .before .before .args in
     let b = a .block .now in
-    let n = c9 .wide .ensures .0 ∙ sym (field-one 5 b (omega arith)) in
+    let n = c9 .byte-as-number .ensures .0 ∙ sym (field-one 5 b (omega arith)) in
     let z = sym (tail-is b (a .k) _ _ n (c3 .items-end .ensures .0)) in
     c .follows .ensures ∙ same-tests _ _ (λ h. facts-formed-block b (a .k) (a .before) (record {
       kind = field-one 4 b (omega arith) ∙ c9 .before .before .if1 .left ∙ c12 .kind-of-block .ensures;

@@ -7,11 +7,11 @@ use Rattle.pair_validator.proofs.asked.figures.Statement.{statement}
 use Rattle.pair_validator.proofs.asked.figures.Tie as tie
 
 -- the words that are asked
-abbrev wordsAt : tie.Else1 → List ℕ
-wordsAt c = c .before .before .before .before .before .args .t1 .words
+abbrev wordsThere : tie.Else1 → List ℕ
+wordsThere c = c .before .before .before .before .before .args .t1 .words
 
 -- they are accepted past the test
-accepted-at : (c : tie.Else1) → acceptsPair (wordsAt c) ≡ true
+accepted-at : (c : tie.Else1) → acceptsPair (wordsThere c) ≡ true
 accepted-at c = sym (c .before .accepted .ensures) ∙ not-false _ (c .if1 .left)
 
 -- home's sum comes past the test
@@ -19,7 +19,7 @@ abbrev pastHome : tie.After-add-balances → tie.Else1
 pastHome c = c .before .before .before .before .before .before .before
 
 -- it is home's total
-home-at : (c : tie.After-add-balances) → c .add-balances .result .low ≡ total (ledgerOn (wordsAt (pastHome c)) 0 .balances)
+home-at : (c : tie.After-add-balances) → c .add-balances .result .low ≡ total (ledgerOn (wordsThere (pastHome c)) 0 .balances)
 home-at c = pair-total _ (accepted-at (pastHome c)) 0 (omega arith) (c .add-balances .ensures)
 
 -- far's sum comes past home's
@@ -28,7 +28,7 @@ pastFar c = c .before .before .before .before
 
 -- it is far's total
 far-at : (c : tie.After-add-balances2)
-    → c .add-balances2 .result .low ≡ total (ledgerOn (wordsAt (pastHome (pastFar c))) 1 .balances)
+    → c .add-balances2 .result .low ≡ total (ledgerOn (wordsThere (pastHome (pastFar c))) 1 .balances)
 far-at c = pair-total _ (accepted-at (pastHome (pastFar c))) 1 (omega arith) (c .add-balances2 .ensures)
 
 sub-t16 : tie.Need-sub-t16

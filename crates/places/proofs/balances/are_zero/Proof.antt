@@ -1,10 +1,10 @@
--- `places::zero_balances::zeros` meets its contract. Assumes nothing.
+-- `places::balances::are_zero` meets its contract. Assumes nothing.
 use Rattle.wire.proofs.Prelude.{_+_, _-_, _∙_, _≡_, _≤_, arith, eq-eqb, eqb, getD, ne-eqb, needs, sym, ℕ}
 use Rattle.places.proofs.OverPlaces.{all-end, all-here, all-on, from-start}
 use Rattle.places.specs.LedgerBalances.{zerosAt}
 use Rattle.places.specs.OverPlaces.{allAt}
-use Rattle.places.proofs.zero_balances.zeros.Statement.{statement}
-use Rattle.places.proofs.zero_balances.zeros.Tie as tie
+use Rattle.places.proofs.balances.are_zero.Statement.{statement}
+use Rattle.places.proofs.balances.are_zero.Tie as tie
 
 abbrev Inv-loop : tie.InvT-loop
 Inv-loop balances from n end i₀ i =
@@ -40,6 +40,6 @@ returns-2 c =
     let l = c .before .loop in
     sym (l .inv .2 ∙ all-end _ (l .i) (a .from + a .n) (omega arith))
 
-pub zeros-spec : {M : Type 1} → statement M
-zeros-spec = tie.close (tie.spec Inv-loop μ-loop (λ c. search needs) loop-holds (λ c. search needs) (λ c. search needs) returns
+pub are-zero-spec : {M : Type 1} → statement M
+are-zero-spec = tie.close (tie.spec Inv-loop μ-loop (λ c. search needs) loop-holds (λ c. search needs) (λ c. search needs) returns
     (λ c. search needs) (λ c. search needs) loop-again returns-2)

@@ -1,8 +1,8 @@
--- `places::entries::copy_numbers` meets its contract. Assumes nothing.
+-- `places::balances::copy_numbers` meets its contract. Assumes nothing.
 use Rattle.wire.proofs.Prelude.{List, _++_, _+_, _-_, _∙_, _≡_, _≤_, add-one, ap, append-assoc, arith, drop, getD, length, length-set}
 use Rattle.wire.proofs.Prelude.{needs, paste, paste-suc, paste-zero, refl, set, take, take-length, ℕ}
-use Rattle.places.proofs.entries.copy_numbers.Statement.{statement}
-use Rattle.places.proofs.entries.copy_numbers.Tie as tie
+use Rattle.places.proofs.balances.copy_numbers.Statement.{statement}
+use Rattle.places.proofs.balances.copy_numbers.Tie as tie
 
 abbrev Inv-loop : tie.InvT-loop
 Inv-loop xs at out₀ n i₀ out i = (i ≤ length xs) × (length out ≡ length out₀) × (out ≡ paste out₀ at xs i)
