@@ -108,8 +108,8 @@ pub fn is_accepted<'a, 'b>(s: &'a [u64], index: &'b mut [u16]) -> bool
     if !is_bounded(s) {
         return false;
     }
-    let homes = s[HOME_ACCOUNTS_WORD] as usize;
-    if !are_zero(s, BALANCES_WORD + homes, Ledger::ACCOUNTS - homes) {
+    let accounts = s[HOME_ACCOUNTS_WORD] as usize;
+    if !are_zero(s, BALANCES_WORD + accounts, Ledger::ACCOUNTS - accounts) {
         return false;
     }
     if !hold_indexed(

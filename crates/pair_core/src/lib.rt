@@ -159,14 +159,14 @@ fn adds_up(s: &[u64], home: Flows, far: Flows) -> bool
     ensures { λ b. ⌜ b ≡ sumsAgree (now (s .entry)) ⌝ }
 {
     let zero = Wide { high: 0, low: 0 };
-    let homes = add_balances(s, BALANCES_WORD, s[ACCOUNTS_WORD] as usize, zero);
-    let held = add_balances(
+    let home_total = add_balances(s, BALANCES_WORD, s[ACCOUNTS_WORD] as usize, zero);
+    let balances = add_balances(
         s,
         BALANCES_WORD + Ledger::ACCOUNTS,
         s[ACCOUNTS_WORD + 1] as usize,
-        homes,
+        home_total,
     );
-    let sent = held.add_halves(home.sent.high + far.sent.high, home.sent.low + far.sent.low);
+    let sent = balances.add_halves(home.sent.high + far.sent.high, home.sent.low + far.sent.low);
     let received = zero.add(s[SUPPLY_WORD]).add_halves(
         home.received.high + far.received.high,
         home.received.low + far.received.low,
