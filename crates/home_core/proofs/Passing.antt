@@ -22,9 +22,9 @@ use Rattle.rules.specs.HomeValidator.{homeAccepts, homeAfter, homeJudge, homeJu
 use Rattle.rules.specs.Lists.{lowered, total}
 use Rattle.rules.specs.Rules.{Far, Home, Kind, LedgerState, Local, Read, Receiving, Record, Sending}
 use Rattle.table.proofs.Balances.{balance-fits, balance-in, given-fits}
-use Rattle.table.proofs.Growing.{grown, index-grown}
+use Rattle.table.proofs.Growing.{index-grown}
 use Rattle.table.proofs.Storing.{LedgerStored, Stored, ledger-stored-of, stored-of}
-use Rattle.table.specs.Table.{stored, wordsAt}
+use Rattle.table.specs.Table.{stored, withNumber, wordsAt}
 
 -- ## Balances stay in 64 bits
 
@@ -204,7 +204,7 @@ module _ (s t : List ℕ) (w : Words) (r : Record) (o : HomeSound s) (p : HomePa
 
   -- with the index of one number more
   ready-after : (index : List ℕ) → HomeReady s index → formed w ≡ true
-      → homeAccepts capacity (homeAfter (homeViewOf s) (Read r)) ≡ true → HomeReady t (grown index 0 (homeCountOf s) (r .number))
+      → homeAccepts capacity (homeAfter (homeViewOf s) (Read r)) ≡ true → HomeReady t (withNumber index 0 (homeCountOf s) (r .number))
   unfolding recordIn
   ready-after index d f h =
       let q : r .number ≡ w .number = ap (λ (x : Record). x .number) (sym e) in
@@ -221,7 +221,7 @@ module _ (s t : List ℕ) (w : Words) (r : Record) (o : HomeSound s) (p : HomePa
 pub record HomeNext (s : List ℕ) (w : Words) (r : Record) : Type 0 where
   pub accepted : acceptsHome (homeWith s w r) ≡ true
   pub view : homeViewOf (homeWith s w r) ≡ homeAfter (homeViewOf s) (Read r)
-  pub ready : (index : List ℕ) → HomeReady s index → HomeReady (homeWith s w r) (grown index 0 (homeCountOf s) (r .number))
+  pub ready : (index : List ℕ) → HomeReady s index → HomeReady (homeWith s w r) (withNumber index 0 (homeCountOf s) (r .number))
 
 -- bytes that pass
 pub next-of : (s : List ℕ) → acceptsHome s ≡ true → (b : List ℕ) (r : Record) → reading b ≡ Read r

@@ -9,7 +9,7 @@ use Rattle.records.specs.declared.Words.{Words}
 use Rattle.rules.proofs.Parts.{ReadsAs, Stepped, step-passed}
 use Rattle.rules.specs.HomeValidator.{homeJudge}
 use Rattle.rules.specs.Rules.{Read, Record}
-use Rattle.table.proofs.Growing.{grown}
+use Rattle.table.specs.Table.{withNumber}
 
 module _ {s index b : List ℕ} {w : Words} {r : Record} (h : HomeReady s index) (x : ReadsAs b w r)
     (j : homeJudge capacity (homeViewOf s) (Read r) ≡ 0) where
@@ -18,7 +18,7 @@ module _ {s index b : List ℕ} {w : Words} {r : Record} (h : HomeReady s index)
   number-room = let m = passes-of s (sound-of s (h .accepted)) r j .room in (omega (arith, h .index-long), m)
 
   -- what it leaves
-  pub step-leaves : {t i : List ℕ} → t ≡ homeWith s w r → i ≡ grown index 0 (homeCountOf s) (r .number)
+  pub step-leaves : {t i : List ℕ} → t ≡ homeWith s w r → i ≡ withNumber index 0 (homeCountOf s) (r .number)
       → Stepped homeWordsChecker HomeReady s b 0 t i
   step-leaves q g =
       let n = next-of s (h .accepted) b r (x .reads) j in

@@ -15,7 +15,7 @@ ghost use Rattle.records.specs.Records.{formed, recordIn};
 ghost use Rattle.records.specs.declared.Reading.the-variants.{Read};
 ghost use Rattle.rules.specs.Calls.{call, callOne, list, one};
 ghost use Rattle.rules.specs.HomeValidator.{homeAccounts, homeJudge, homeLastRefusal, homeOpeningRefusal, isFar, poolRefusal};
-ghost use Rattle.table.specs.Table.{IndexOf, indexLength};
+ghost use Rattle.table.specs.Table.{EmptyIndex, indexLength};
 use answers::Answer;
 use answers::first_refusal;
 use answers::refusal_if;
@@ -97,7 +97,7 @@ fn adds_up(s: &[u64]) -> bool
 
 // All that 3 asks of a state; where it holds, the index of its numbers is made in place of an empty one.
 pub fn is_accepted<'a, 'b>(s: &'a [u64], index: &'b mut [u16]) -> bool
-    requires { ⌜ (length (now index) ≡ indexLength) × IndexOf (now s) 0 (now index) 0 0 ⌝ }
+    requires { ⌜ (length (now index) ≡ indexLength) × EmptyIndex (now index) 0 ⌝ }
     ensures accepts { λ b. ⌜ b ≡ acceptsHome (now (s .entry)) ⌝ }
     ensures ready { λ b. ⌜ (b ≡ true → HomeReady (now (s .entry)) (now (index .exit))) ⌝ }
     ensures long { λ b. ⌜ length (now (index .exit)) ≡ length (now (index .entry)) ⌝ }

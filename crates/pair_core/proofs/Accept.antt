@@ -25,7 +25,7 @@ use Rattle.table.proofs.Crossings.{FormedUnder, all-backed-is, received-sum, se
 use Rattle.table.proofs.Growing.{index-beside}
 use Rattle.table.proofs.Numbers.{apart-records}
 use Rattle.table.proofs.Records.{AllHeld, all-held, held-all}
-use Rattle.table.specs.Table.{IndexOf, accountsBy, indexLength, ledgerIn, mayHoldAt, numberAt, recordAt, recordsFrom, wordsAt}
+use Rattle.table.specs.Table.{EmptyIndex, IndexOf, accountsBy, indexLength, ledgerIn, mayHoldAt, numberAt, recordAt, recordsFrom, wordsAt}
 use Rattle.wire.proofs.Lists.{and-both, every-both, every-first, every-none, same-tests}
 use Rattle.wire.specs.BigEndian.{every}
 
@@ -296,9 +296,9 @@ tests-refused s small h e = (sym h ∙ accepts-is s small, (λ q. absurd (never-
 -- ## The indexes, made one after the other
 
 -- the index of far is empty still where that of home is made
-pub second-empty : (s : List ℕ) {i j : List ℕ} → Kept (indexOn 0) (indexOn 0 + indexLength) i j
-    → IndexOf s (recordsStart 1) i (indexOn 1) 0 → IndexOf s (recordsStart 1) j (indexOn 1) 0
-second-empty s k h = index-beside s s (recordsStart 1) (indexOn 1) 0 k (inr (omega arith)) (λ n p. refl) h
+pub second-empty : {i j : List ℕ} → Kept (indexOn 0) (indexOn 0 + indexLength) i j → EmptyIndex i (indexOn 1)
+    → EmptyIndex j (indexOn 1)
+second-empty k h n p = k .after (indexOn 1 + n) (omega arith) ∙ h n p
 
 -- both are made where that of far is made beside that of home
 pub both-indexed : (s : List ℕ) → PairBounds s → {i j : List ℕ} → Kept (indexOn 1) (indexOn 1 + indexLength) i j

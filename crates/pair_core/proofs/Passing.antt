@@ -22,9 +22,9 @@ use Rattle.rules.specs.Lists.{lowered, total}
 use Rattle.rules.specs.PairValidator.{pairAccepts, pairJudge, supplyAllowed}
 use Rattle.rules.specs.Rules.{Far, Home, Kind, Ledger, Local, Read, Receiving, Record, Sending, after, afterBytes, held, judge}
 use Rattle.table.proofs.Balances.{balance-fits, balance-in, given-fits}
-use Rattle.table.proofs.Growing.{grown, grown-kept, index-beside, index-grown}
+use Rattle.table.proofs.Growing.{grown-kept, index-beside, index-grown}
 use Rattle.table.proofs.Storing.{SameWords, LedgerStored, Stored, formed-same, ledger-same, ledger-stored-of, number-same, stored-of}
-use Rattle.table.specs.Table.{IndexOf, stored}
+use Rattle.table.specs.Table.{IndexOf, stored, withNumber}
 
 -- ## A ledger and the other one
 
@@ -252,13 +252,13 @@ module _ (s : List ℕ) (w : Words) (r : Record) (d : PairSound s) (L : Ledger) 
 
     -- the index of one number more, and the other ledger's
     indexed-after : recordIn w ≡ r → (index : List ℕ) → PairReady s index
-        → (m : ℕ) → m < 2 → IndexOf t (recordsStart m) (grown index (indexOn l) (countOn s l) (r .number)) (indexOn m) (countOn t m)
+        → (m : ℕ) → m < 2 → IndexOf t (recordsStart m) (withNumber index (indexOn l) (countOn s l) (r .number)) (indexOn m) (countOn t m)
     unfolding recordIn
     indexed-after e index a =
         let h = byte-below (counterpart L) in
         let q : r .number ≡ w .number = ap (λ (x : Record). x .number) (sym e) in
         either
-        (λ (m : ℕ). IndexOf t (recordsStart m) (grown index (indexOn l) (countOn s l) (r .number)) (indexOn m) (countOn t m)) L
+        (λ (m : ℕ). IndexOf t (recordsStart m) (withNumber index (indexOn l) (countOn s l) (r .number)) (indexOn m) (countOn t m)) L
         (rw (c .count)
         (index-grown s t (recordsStart l) index (indexOn l) (countOn s l) (r .number) (a .indexed l (byte-below L))
         (omega (arith, a .index-long, p .room, byte-below L)) (ledger-after .numbers) (q ∙ ledger-after .number)))
@@ -280,7 +280,7 @@ view-after s t w r d Far q p c e = rw (own-after s w r d Far p t c e, other-afte
 pub record PairNext (s : List ℕ) (w : Words) (r : Record) (l : ℕ) : Type 0 where
   pub accepted : acceptsPair (pairWith s w r l) ≡ true
   pub view : pairViewOf (pairWith s w r l) ≡ record { pair = after (pairViewOf s .pair) r; supply = pairSupplyOf s }
-  pub ready : (index : List ℕ) → PairReady s index → PairReady (pairWith s w r l) (grown index (indexOn l) (countOn s l) (r .number))
+  pub ready : (index : List ℕ) → PairReady s index → PairReady (pairWith s w r l) (withNumber index (indexOn l) (countOn s l) (r .number))
 
 -- bytes that pass
 pub next-of : (s : List ℕ) → acceptsPair s ≡ true → (b : List ℕ) (r : Record) → reading b ≡ Read r

@@ -11,7 +11,7 @@ use Rattle.records.specs.declared.Words.{Words}
 use Rattle.rules.proofs.Parts.{ReadsAs, Stepped, step-passed}
 use Rattle.rules.specs.PairValidator.{pairJudge}
 use Rattle.rules.specs.Rules.{Read, Record}
-use Rattle.table.proofs.Growing.{grown}
+use Rattle.table.specs.Table.{withNumber}
 
 module _ {s index b : List ℕ} {w : Words} {r : Record} (h : PairReady s index) (x : ReadsAs b w r)
     (j : pairJudge capacity (pairViewOf s .pair) (Read r) ≡ 0) {l : ℕ} (e : l ≡ ledgerByte (ledgerOf (r .kind))) where
@@ -24,7 +24,7 @@ module _ {s index b : List ℕ} {w : Words} {r : Record} (h : PairReady s index)
 
   -- what it leaves
   pub step-leaves : {t i : List ℕ} → t ≡ pairWith s w r (ledgerByte (ledgerOf (r .kind)))
-      → i ≡ grown index (indexOn l) (countOn s l) (r .number) → Stepped pairWordsChecker PairReady s b 0 t i
+      → i ≡ withNumber index (indexOn l) (countOn s l) (r .number) → Stepped pairWordsChecker PairReady s b 0 t i
   step-leaves q g =
       let n = next-of s (h .accepted) b r (x .reads) j in
       step-passed pairWordsChecker PairReady s b (rw (x .reads) j) (rw (x .reads, ← x .words) q) (rw (q, g, e, x .words) (n .ready index h))

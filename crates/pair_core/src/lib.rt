@@ -17,7 +17,7 @@ ghost use Rattle.records.specs.declared.Reading.the-variants.{Read};
 ghost use Rattle.rules.specs.Calls.{call, callOne, list, one};
 ghost use Rattle.rules.specs.PairValidator.{pairJudge, pairOpeningRefusal};
 ghost use Rattle.rules.specs.Rules.{accountsOf, lastRefusal};
-ghost use Rattle.table.specs.Table.{FlowsAt, IndexOf, indexLength};
+ghost use Rattle.table.specs.Table.{EmptyIndex, FlowsAt, IndexOf, indexLength};
 use answers::Answer;
 use answers::first_refusal;
 use answers::refusal_if;
@@ -114,7 +114,7 @@ fn is_zero_beyond(s: &[u64], l: usize) -> bool
 // Each held record of a ledger by itself, and their numbers; where they hold, their index is made in place of an empty one.
 fn is_held<'a, 'b>(s: &'a [u64], index: &'b mut [u16], l: usize) -> bool
     requires { ⌜ (length (now s) ≡ pairWords) × (pairBounds (now s) ≡ true) × (length (now index) ≡ 2 * indexLength) × (l < 2)
-        × IndexOf (now s) (recordsStart l) (now index) (indexOn l) 0 ⌝ }
+        × EmptyIndex (now index) (indexOn l) ⌝ }
     ensures holds { λ b. ⌜ b ≡ heldOn (now (s .entry)) l ⌝ }
     ensures indexed { λ b. ⌜ (b ≡ true → IndexOf (now (s .entry)) (recordsStart l) (now (index .exit)) (indexOn l)
         (countOn (now (s .entry)) l)) ⌝ }
@@ -180,7 +180,7 @@ fn adds_up(s: &[u64], home: Flows, far: Flows) -> bool
 // All that 3 asks of a state; where it holds, the indexes of its numbers are made in place of empty ones.
 pub fn is_accepted<'a, 'b>(s: &'a [u64], index: &'b mut [u16]) -> bool
     requires { ⌜ (length (now index) ≡ 2 * indexLength)
-        × ((l : ℕ) → l < 2 → IndexOf (now s) (recordsStart l) (now index) (indexOn l) 0) ⌝ }
+        × ((l : ℕ) → l < 2 → EmptyIndex (now index) (indexOn l)) ⌝ }
     ensures accepts { λ b. ⌜ b ≡ acceptsPair (now (s .entry)) ⌝ }
     ensures ready { λ b. ⌜ (b ≡ true → PairReady (now (s .entry)) (now (index .exit))) ⌝ }
     ensures long { λ b. ⌜ length (now (index .exit)) ≡ length (now (index .entry)) ⌝ }

@@ -1,5 +1,5 @@
 -- The numbers of a table's records, and the index of none. Assumes nothing.
-use Rattle.wire.proofs.Prelude.{Bool, List, [], _&&_, _+_, _∙_, _∷_, _≡_, ap₂, false, not, refl, replicate, suc, sym, true, zero, ℕ}
+use Rattle.wire.proofs.Prelude.{Bool, List, [], _&&_, _+_, _∙_, _∷_, _≡_, ap₂, arith, false, not, refl, replicate, suc, sym, true, zero, ℕ}
 use Rattle.places.proofs.Chains.{chains-of-none}
 use Rattle.places.proofs.NumberIndex.{zero-at}
 use Rattle.places.proofs.OverPlaces.{any-list}
@@ -8,7 +8,7 @@ use Rattle.records.specs.Records.{recordIn}
 use Rattle.rules.specs.Lists.{any}
 use Rattle.rules.specs.PairValidator.{unshared}
 use Rattle.rules.specs.Rules.{Record, clashes}
-use Rattle.table.specs.Table.{IndexOf, numberAt, numberedAt, recordAt, recordsFrom}
+use Rattle.table.specs.Table.{EmptyIndex, IndexOf, numberAt, numberedAt, recordAt, recordsFrom}
 use Rattle.wire.specs.BigEndian.{every}
 
 -- ## Records with one number
@@ -47,6 +47,14 @@ module _ (s : List ℕ) (from : ℕ) where
 
 -- ## The index of none
 
+-- zeros are empty
+pub empty-zeros : (k base : ℕ) → EmptyIndex (replicate k 0) base
+empty-zeros k base j p = zero-at k (base + j)
+
+-- an empty one is it
+pub index-empty : (s : List ℕ) (from : ℕ) (index : List ℕ) (base : ℕ) → EmptyIndex index base → IndexOf s from index base 0
+index-empty s from index base e = chains-of-none _ _ _ (λ h b. e h (omega arith))
+
 -- zeros are one
 pub index-none : (s : List ℕ) (from k base : ℕ) → IndexOf s from (replicate k 0) base 0
-index-none s from k base = chains-of-none _ _ _ (λ h b. zero-at k (base + h))
+index-none s from k base = index-empty s from (replicate k 0) base (empty-zeros k base)

@@ -1,8 +1,9 @@
 -- A ledger's table in the words of a state: the record at place i is kept as the four words of its 32 bytes, from word `from + 4 * i` on,
 -- and is what they read as. Published contracts cite the first two parts alone. Assumes nothing.
-use Prim.Native.Nat.{ℕ, _+_, _*_, _%_, _^_}
+use Prim.Native.Nat.{ℕ, _+_, _*_, _%_, _<_, _^_}
 use mathlib.Core.Bool.{Bool, cond, false, not, _&&_, _||_}
 use mathlib.Core.List.{List, [], _∷_}
+use mathlib.Core.Path.{_≡_}
 use lib.Dec.{eqb}
 use lib.ListN.{drop, getD, set, take}
 use Rattle.ledgers.specs.Limits.{capacity}
@@ -108,6 +109,15 @@ indexLength = chainCount + capacity
 abbrev pub IndexOf : List ℕ → ℕ → List ℕ → ℕ → ℕ → Type 0
 IndexOf s from index base n =
     Chains (numberAt s from) (λ (h : ℕ). getD index (base + h) 0) (λ (k : ℕ). getD index (base + chainCount + k) 0) n
+
+-- the index of no number: its elements are zero
+abbrev pub EmptyIndex : List ℕ → ℕ → Type 0
+EmptyIndex index base = (k : ℕ) → k < indexLength → getD index (base + k) 0 ≡ 0
+
+-- the index with the number x of place n more
+abbrev pub withNumber : List ℕ → ℕ → ℕ → ℕ → List ℕ
+withNumber index base n x =
+    set (set index (base + chainCount + n) (getD index (base + x % chainCount) 0)) (base + x % chainCount) (n + 1)
 
 -- ## For inner functions: arrivals and their sendings
 

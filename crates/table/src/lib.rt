@@ -1,8 +1,8 @@
 // A ledger's table: held records of four words each, from a word of the state on, and the index of their numbers.
 ghost use Prim.Native.Nat.{_+_, _*_, _/_, _%_, _^_, _<_, _≤_};
-ghost use mathlib.Core.Bool.{true, _&&_};
+ghost use mathlib.Core.Bool.{cond, not, true, _&&_};
 ghost use mathlib.Core.Path.{_≡_};
-ghost use lib.ListN.{getD, length, set};
+ghost use lib.ListN.{getD, length};
 ghost use Rattle.ledgers.specs.Ledgers.{ledgerAt};
 ghost use Rattle.ledgers.specs.Limits.{accountLimit, capacity};
 ghost use Rattle.places.specs.Amounts.{givenBy, takenBy};
@@ -11,8 +11,8 @@ ghost use Rattle.places.specs.OverPlaces.{allAt, anyAt, apartAt};
 ghost use Rattle.records.specs.Records.{readingWords};
 ghost use Rattle.rules.specs.Lists.{lowered, raised};
 ghost use Rattle.table.specs.Table.{accountsBy, headBases, mayHold, mayHoldAt, receiverLimits, senderLimits, wordsAt};
-ghost use Rattle.table.specs.Table.{FlowsAt, IndexOf, backedAt, backedBy, flowBy, numberAt, numberedAt, sendingHead, sentAt};
-ghost use Rattle.table.specs.Table.{stored, withWords};
+ghost use Rattle.table.specs.Table.{EmptyIndex, FlowsAt, IndexOf, backedAt, backedBy, flowBy, numberAt, numberedAt, sendingHead, sentAt};
+ghost use Rattle.table.specs.Table.{stored, withNumber, withWords};
 use ledgers::Ledger;
 use places::CHAINS;
 use places::Flows;
@@ -174,12 +174,37 @@ pub fn is_used<'a>(
 // The number of the record at place n joins the index of those before it.
 pub fn add_number(index: &mut [u16], base: usize, n: usize, x: u64)
     requires { ⌜ (base + chainCount + n < length (now index)) × (n < capacity) ⌝ }
-    ensures { λ _. ⌜ now (index .exit) ≡ set (set (now (index .entry)) (base + chainCount + n) (getD (now (index .entry))
-        (base + x % chainCount) 0)) (base + x % chainCount) (n + 1) ⌝ }
+    ensures { λ _. ⌜ now (index .exit) ≡ withNumber (now (index .entry)) base n x ⌝ }
 {
     let h = base + low_bits(x);
     index[base + CHAINS + n] = index[h];
     index[h] = next_place(n);
+}
+
+// Whether none of n records has the number; where so, it joins their index as that of the next place, whose element is zero yet.
+fn add_if_unused<'a, 'b>(
+    words: &'a [u64],
+    index: &'b mut [u16],
+    from: usize,
+    base: usize,
+    n: usize,
+    x: u64,
+) -> bool
+    requires { ⌜ (from + 4 * n ≤ length (now words)) × (base + chainCount + n < length (now index)) × (n < capacity)
+        × IndexOf (now words) from (now index) base n × (getD (now index) (base + chainCount + n) 0 ≡ 0) ⌝ }
+    ensures answers { λ b. ⌜ b ≡ not (anyAt (numberedAt x (now (words .entry)) from) 0 n) ⌝ }
+    ensures leaves { λ b. ⌜ now (index .exit) ≡ cond b (withNumber (now (index .entry)) base n x) (now (index .entry)) ⌝ }
+{
+    let h = base + low_bits(x);
+    if index[h] == 0 {
+        index[h] = next_place(n); // the first of its chain
+        return true;
+    }
+    if is_used(words, index, from, base, n, x) {
+        return false;
+    }
+    add_number(index, base, n, x);
+    true
 }
 
 // Whether a ledger may hold each of n records and no two of them share a number; where so, their index is made in place of an empty one.
@@ -194,7 +219,7 @@ pub fn hold_indexed<'a, 'b>(
     other: u64,
 ) -> bool
     requires { ⌜ (from + 4 * n ≤ length (now words)) × (base + chainCount + n ≤ length (now index)) × (n ≤ capacity)
-        × IndexOf (now words) from (now index) base 0 × (l ≤ 1) × (own ≤ accountLimit) × (other ≤ accountLimit) ⌝ }
+        × EmptyIndex (now index) base × (l ≤ 1) × (own ≤ accountLimit) × (other ≤ accountLimit) ⌝ }
     ensures holds { λ b. ⌜ b ≡ (allAt (mayHoldAt (now (words .entry)) from (ledgerAt l) (accountsBy (ledgerAt l) own other)) 0 n
         && apartAt (numberAt (now (words .entry)) from) 0 n) ⌝ }
     ensures indexed { λ b. ⌜ (b ≡ true → IndexOf (now (words .entry)) from (now (index .exit)) base n) ⌝ }
@@ -209,13 +234,9 @@ pub fn hold_indexed<'a, 'b>(
         if !may_hold(&bases, &senders, &receivers, l, own, other, w) {
             return false;
         }
-        let x = w.number;
-        if index[base + low_bits(x)] != 0 {
-            if is_used(words, index, from, base, i, x) {
-                return false;
-            }
+        if !add_if_unused(words, index, from, base, i, w.number) {
+            return false;
         }
-        add_number(index, base, i, x);
         i += 1;
     }
     true

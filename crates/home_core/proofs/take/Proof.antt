@@ -2,7 +2,7 @@
 use Rattle.home_core.specs.Layout.{homeWordsChecker}
 use Rattle.rules.proofs.Parts.{gives-one, gives-unaccepted}
 use Rattle.rules.specs.Calls.{one}
-use Rattle.table.proofs.Numbers.{index-none}
+use Rattle.table.proofs.Numbers.{empty-zeros}
 use Rattle.wire.proofs.Prelude.{needs, not-false, refl}
 use Rattle.table.specs.Table.{indexLength}
 use Rattle.home_core.proofs.take.Statement.{statement}
@@ -27,5 +27,5 @@ returns-2 c =
 
 pub take-spec : {M : Type 1} → statement M
 take-spec = tie.close (tie.spec (λ c. search needs)
-    (λ c κs. (refl, index-none (c .before .before .before .before .args .state .now) 0 indexLength 0)) returns step-requires
+    (λ c κs. (refl, empty-zeros indexLength 0)) returns step-requires
     (λ c κs. search needs) returns-2)

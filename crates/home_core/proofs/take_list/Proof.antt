@@ -3,7 +3,7 @@ use Rattle.wire.proofs.Prelude.{_-_, arith, length, needs, refl}
 use Rattle.home_core.specs.Layout.{HomeReady, homeWordsChecker}
 use Rattle.rules.proofs.Parts.{Taking, gives-unaccepted, taking-end, taking-first, taking-next, taking-refused}
 use Rattle.rules.specs.Calls.{list}
-use Rattle.table.proofs.Numbers.{index-none}
+use Rattle.table.proofs.Numbers.{empty-zeros}
 use Rattle.table.specs.Table.{indexLength}
 use Rattle.home_core.proofs.take_list.Statement.{statement}
 use Rattle.home_core.proofs.take_list.Tie as tie
@@ -50,7 +50,7 @@ loop-again c =
 
 pub take-list-spec : {M : Type 1} → statement M
 take-list-spec = tie.close (tie.spec Inv-loop μ-loop (λ c. search needs)
-    (λ c κs. (refl, index-none (c .before .before .before .before .args .state .now) 0 indexLength 0)) returns loop-holds
+    (λ c κs. (refl, empty-zeros indexLength 0)) returns loop-holds
     (λ c κs. search needs) (λ c. search needs) (λ c. search needs) (λ c. search needs)
     (λ c κs. c .before .before .before .before .before .loop .inv .ready) returns-2 add-i (λ c. search needs) loop-again
     (λ c. taking-end (c .before .loop .inv) (omega (arith, c .loop-test .left))))

@@ -75,7 +75,7 @@ is-held-requires-2 c κs =
       bounded-at (c .before .before .before .before .before .before .before .before .before .before),
       k .long ∙ o .pre .0,
       omega arith,
-      second-empty (o .args .s .now) k (o .pre .1 1 (omega arith)),
+      second-empty k (o .pre .1 1 (omega arith)),
     )
 
 returns-6 : tie.Need-returns-6

@@ -1,9 +1,9 @@
 -- `pair_core::take_list` meets its contract. Assumes nothing.
 use Rattle.wire.proofs.Prelude.{_*_, _-_, arith, length, needs, refl}
-use Rattle.pair_core.specs.Layout.{PairReady, indexOn, pairWordsChecker, recordsStart}
+use Rattle.pair_core.specs.Layout.{PairReady, indexOn, pairWordsChecker}
 use Rattle.rules.proofs.Parts.{Taking, gives-unaccepted, taking-end, taking-first, taking-next, taking-refused}
 use Rattle.rules.specs.Calls.{list}
-use Rattle.table.proofs.Numbers.{index-none}
+use Rattle.table.proofs.Numbers.{empty-zeros}
 use Rattle.table.specs.Table.{indexLength}
 use Rattle.pair_core.proofs.take_list.Statement.{statement}
 use Rattle.pair_core.proofs.take_list.Tie as tie
@@ -17,8 +17,7 @@ abbrev μ-loop : tie.MeasureT-loop
 is-accepted-requires : tie.Need-is-accepted-requires Inv-loop μ-loop
 is-accepted-requires c κs = (
   refl,
-  λ l p. index-none (c .before .before .before .before .args .state .now) (recordsStart l) (2 *
-      indexLength) (indexOn l),
+  λ l p. empty-zeros (2 * indexLength) (indexOn l),
 )
 
 returns : tie.Need-returns Inv-loop μ-loop

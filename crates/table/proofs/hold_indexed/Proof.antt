@@ -1,7 +1,7 @@
 -- `table::hold_indexed` meets its contract. Assumes nothing.
-use Rattle.wire.proofs.Prelude.{Bool, _%_, _*_, _+_, _-_, _∙_, _≡_, _≤_, ap, arith, needs, not-false, not-true, refl, sym, ℕ, ⊎-elim}
+use Rattle.wire.proofs.Prelude.{Bool, _*_, _+_, _-_, _<_, _∙_, _≡_, _≤_, ap, arith, cond, false, getD, length, needs, not-false, not-true, refl, sym, ℕ}
 use Rattle.ledgers.specs.Ledgers.{ledgerAt}
-use Rattle.places.proofs.Apart.{Apart, apart-every, apart-more, value-fresh, value-new, value-twice}
+use Rattle.places.proofs.Apart.{Apart, apart-every, apart-more, value-fresh, value-twice}
 use Rattle.places.proofs.NumberIndex.{kept-twice}
 use Rattle.places.proofs.OverPlaces.{all-end, all-here, all-on}
 use Rattle.places.specs.NumberIndex.{Kept, chainCount}
@@ -9,8 +9,9 @@ use Rattle.places.specs.OverPlaces.{allAt, anyAt}
 use Rattle.records.specs.Records.{readingWords}
 use Rattle.records.specs.declared.Words.{Words}
 use Rattle.rules.proofs.Lists.{never-both-tests}
-use Rattle.table.proofs.Growing.{grown-kept, index-grown}
-use Rattle.table.specs.Table.{IndexOf, accountsBy, mayHold, mayHoldAt, numberAt, numberedAt}
+use Rattle.table.proofs.Growing.{grown-else, grown-kept, index-grown}
+use Rattle.table.proofs.Numbers.{index-empty}
+use Rattle.table.specs.Table.{IndexOf, accountsBy, mayHold, mayHoldAt, numberAt, numberedAt, withNumber}
 use Rattle.wire.proofs.Lists.{and-false}
 use Rattle.table.proofs.hold_indexed.Statement.{statement}
 use Rattle.table.proofs.hold_indexed.Tie as tie
@@ -27,6 +28,7 @@ Inv-loop words index₀ from base n l own other bases senders receivers i₀ ind
     × Kept base (base + chainCount + n) index₀ index
     × IndexOf words from index base i
     × Apart (numberAt words from) i
+    × ((k : ℕ) → i ≤ k → k < n → getD index (base + chainCount + k) 0 ≡ 0)
 
 abbrev μ-loop : tie.MeasureT-loop
 μ-loop words index₀ from base n l own other bases senders receivers i₀ index i = n - i
@@ -35,7 +37,15 @@ loop-holds : tie.Need-loop-holds Inv-loop μ-loop
 loop-holds c =
     let o = c .before .before .before .before .before in
     let z : o .args .n ≡ o .args .n - 0 = omega arith in
-    (omega arith, ap (allAt _ 0) z, search needs, o .pre .3, λ j k p q. absurd (omega arith))
+    let a = o .args in (
+      omega arith,
+      ap (allAt _ 0) z,
+      search needs,
+      index-empty (a .words .now) (a .from) (a .index .now) (a .base) (o .pre .3),
+      λ j k p q. absurd (omega arith),
+      λ k p q. let e : a .base + chainCount + k ≡ a .base + (chainCount + k) = omega arith in rw e (o .pre .3 (chainCount + k) (omega
+          (arith, o .pre .2, q))),
+    )
 
 words-at-requires : tie.Need-words-at-requires Inv-loop μ-loop
 words-at-requires c κs =
@@ -76,45 +86,52 @@ returns c =
     let z = i .loop .inv .1 ∙ all-here _ (i .loop .i) (o .args .n) (w .before .loop-test .taken) e in
     (rw z, (λ h. absurd (never-both-tests (sym h)), i .loop .inv .2))
 
-is-used-requires : tie.Need-is-used-requires Inv-loop μ-loop
-is-used-requires c κs =
-    let i = c .before .before .before .before .before .before .before .before .before .before .before in
-    let o = i .before .before .before .before .before .before in
-    (omega (arith, o .pre .0, i .loop .inv .0), omega (arith, o .pre .1, i .loop .inv .0, i .loop .inv .2 .long), i .loop .inv .3)
+add-if-unused-requires : tie.Need-add-if-unused-requires Inv-loop μ-loop
+add-if-unused-requires c κs =
+    let w = c .before .before .before .before .before .before in
+    let t = w .before .loop-test .taken in
+    let i = w .before .before in
+    let o = i .before .before .before .before .before .before in (
+      omega (arith, o .pre .0, i .loop .inv .0),
+      omega (arith, o .pre .1, t, i .loop .inv .2 .long),
+      omega (arith, o .pre .2, t),
+      i .loop .inv .3,
+      i .loop .inv .5 (i .loop .i) (omega arith) t,
+    )
+
+-- the index stays where the number is used
+stays : (c : tie.Then2 Inv-loop μ-loop) → let u = c .before .before .before in
+    let i = u .before .before .before .before .before .before .before .before .before in u .add-if-unused .last .1 .0 ≡ i .loop .index
+stays c =
+    let u = c .before .before .before in
+    rw (not-true (u .add-if-unused .result) (c .if2 .taken)) at (u .add-if-unused .ensures .1)
 
 same-length-2 : tie.Need-same-length-2 Inv-loop μ-loop
-same-length-2 c = c .before .before .before .before .before .before .before .before .before .before .before .before .before .loop .inv .2
-    .long
+same-length-2 c =
+    let i = c .before .before .before .before .before .before .before .before .before .before .before .before in
+    ap length (stays c) ∙ i .loop .inv .2 .long
 
 returns-2 : tie.Need-returns-2 Inv-loop μ-loop
 returns-2 c =
-    let u = c .before in
-    let w = c .before .before .before .before .before .before .before .before .before .before .before in
+    let u = c .before .before .before in
+    let w = u .before .before .before .before .before .before .before in
     let i = w .before .before in
     let o = i .before .before .before .before .before .before in
     let s = o .args .words .now in
     let x : w .words-at .result .number ≡ numberAt s (o .args .from) (i .loop .i) = ap (λ (y : Words). y .number) (w .words-at
     .ensures) in
-    let f = sym (ap (λ (y : ℕ). anyAt (numberedAt y s (o .args .from)) 0 (i .loop .i)) x) ∙ sym (u .is-used .ensures) ∙ c .if3 .taken in
+    let used = not-false _ (sym (u .add-if-unused .ensures .0) ∙ not-true _ (c .if2 .taken)) in
+    let f = sym (ap (λ (y : ℕ). anyAt (numberedAt y s (o .args .from)) 0 (i .loop .i)) x) ∙ used in
     let z = value-twice (numberAt s (o .args .from)) (i .loop .i) (o .args .n) (w .before .loop-test .taken) f in (
       rw z (sym (and-false (allAt (mayHoldAt s (o .args .from) (ledgerAt (o .args .l)) (accountsBy (ledgerAt (o .args .l)) (o .args .own)
           (o .args .other))) 0 (o .args .n)))),
-      (λ h. absurd (never-both-tests (sym h)), i .loop .inv .2),
+      (λ h. absurd (never-both-tests (sym h)), rw (stays c) (i .loop .inv .2)),
     )
-
-add-number-requires : tie.Need-add-number-requires Inv-loop μ-loop
-add-number-requires c κs =
-    let i = c .before .before .before .before .before .before .before .before .before .before .before in
-    let o = i .before .before .before .before .before .before in
-    let t = c .before .before .before .before .before .before .before .before .before .before .loop-test .taken in
-    (omega (arith, o .pre .1, t, i .loop .inv .2 .long), omega (arith, o .pre .2, t))
 
 loop-again : tie.Need-loop-again Inv-loop μ-loop
 loop-again c =
-    let d = c .before .before in
-    let v = c .before .before .before .before in
-    let low = v .before .before .low-bits in
-    let q = v .before .before .before in
+    let u = c .before .before .before in
+    let q = u .before .before in
     let j = q .before in
     let w = j .before .before .before .before in
     let t = w .before .loop-test .taken in
@@ -122,26 +139,29 @@ loop-again c =
     let o = i .before .before .before .before .before .before in
     let s = o .args .words .now in
     let f = o .args .from in
-    let x : w .words-at .result .number ≡ numberAt s f (i .loop .i) = ap (λ (y : Words). y .number) (w .words-at .ensures) in
+    let number = w .words-at .result .number in
+    let x : number ≡ numberAt s f (i .loop .i) = ap (λ (y : Words). y .number) (w .words-at .ensures) in
     let e = sym (ap (λ (y : Words). holding (o .args .l) (o .args .own) (o .args .other) y) (w .words-at .ensures)) ∙ sym (j .may-hold
     .ensures) ∙ not-false _ (q .if1 .left) in
-    let g = d .add-number .ensures in
-    let none =
-    ⊎-elim
-    (λ k. value-fresh (numberAt s f) (i .loop .i) (sym (ap (λ (y : ℕ). anyAt (numberedAt y s f) 0 (i .loop .i)) x) ∙ sym (k .2 .ensures) ∙
-    k .3
-    .left))
-    (λ k. value-new (numberAt s f) (i .loop .i) _ _ (low .result) (i .loop .inv .3) (low .ensures ∙ ap (λ (y : ℕ). y
-    % chainCount) x) (k .left))
-    (v .if2 .came)
-    in (
+    let r = not-false _ (c .if2 .left) in
+    let unused : anyAt (numberedAt number s f) 0 (i .loop .i) ≡ false = not-true _ (sym (u .add-if-unused .ensures .0) ∙ r) in
+    let g =
+    u .add-if-unused .ensures .1
+    ∙ ap (λ (b : Bool). cond b (withNumber (i .loop .index) (o .args .base) (i .loop .i) number) (i .loop .index)) r in (
       omega (arith, t),
       i .loop .inv .1 ∙ all-on _ (i .loop .i) (o .args .n) t e,
-      kept-twice (i .loop .inv .2) (rw g (grown-kept (i .loop .index) (o .args .base) (i .loop .i) (o .args .n) (w .words-at .result
-          .number) t)),
-      rw g (index-grown s s f (i .loop .index) (o .args .base) (i .loop .i) (w .words-at .result .number) (i .loop .inv .3) (omega
-          (arith, o .pre .1, t, i .loop .inv .2 .long)) (λ h p. refl) x),
-      apart-more (numberAt s f) (i .loop .i) (i .loop .inv .4) none,
+      kept-twice (i .loop .inv .2) (rw g (grown-kept (i .loop .index) (o .args .base) (i .loop .i) (o .args .n) number t)),
+      rw g (index-grown s s f (i .loop .index) (o .args .base) (i .loop .i) number (i .loop .inv .3) (omega (
+        arith,
+        o .pre .1,
+        t,
+        i .loop
+            .inv .2 .long,
+      )) (λ h p. refl) x),
+      apart-more (numberAt s f) (i .loop .i) (i .loop .inv .4) (value-fresh (numberAt s f) (i .loop .i) (sym (ap (λ (y : ℕ).
+          anyAt (numberedAt y s f) 0 (i .loop .i)) x) ∙ unused)),
+      λ k p l. rw g (grown-else (i .loop .index) (o .args .base) (i .loop .i) number k (λ z. omega (arith, z, p)) ∙ i .loop .inv .5 k (omega
+          (arith, p)) l),
     )
 
 same-length-3 : tie.Need-same-length-3 Inv-loop μ-loop
@@ -158,6 +178,5 @@ returns-3 c =
 
 pub hold-indexed-spec : {M : Type 1} → statement M
 hold-indexed-spec = tie.close (tie.spec Inv-loop μ-loop (λ c κs. search needs) (λ c κs. search needs) (λ c κs. search needs) loop-holds
-    words-at-requires may-hold-requires same-length returns (λ c κs. search needs) (λ c. search needs) (λ c. search needs)
-    (λ c. search needs) is-used-requires same-length-2 returns-2 add-number-requires (λ c. search needs) (λ c. search needs) loop-again
-    same-length-3 returns-3)
+    words-at-requires may-hold-requires same-length returns add-if-unused-requires same-length-2 returns-2 (λ c. search needs)
+    (λ c. search needs) loop-again same-length-3 returns-3)
