@@ -118,8 +118,9 @@ macro_rules! validator {
                 self.store(&told)
             }
 
-            // The only place that replaces a state: with the one beside an answer that passed. A refusal leaves it untouched, whatever
-            // stands beside it, and so does an answer that contradicts itself, which panics.
+            // The only place that stores a state that came back: the one beside an answer that passed. A refusal leaves the state
+            // untouched, whatever stands beside it, and so does an answer that contradicts itself, which panics. (The calls in place
+            // alter it where it lies.)
             fn store(&mut self, told: &ffi::$told) -> Answer {
                 let answer = Answer::of(told.answer);
                 if answer.is_passed() {
@@ -285,7 +286,7 @@ impl HomeValidator {
     }
 }
 
-/// The head of the state, without balances and records.
+/// The single numbers of the state, without balances and records.
 impl fmt::Debug for PairValidator {
     fn fmt(&self, f: &mut fmt::Formatter<'_>) -> fmt::Result {
         f.debug_struct("PairValidator")
@@ -296,7 +297,7 @@ impl fmt::Debug for PairValidator {
     }
 }
 
-/// The head of the state, without balances and records.
+/// The single numbers of the state, without balances and records.
 impl fmt::Debug for HomeValidator {
     fn fmt(&self, f: &mut fmt::Formatter<'_>) -> fmt::Result {
         f.debug_struct("HomeValidator")

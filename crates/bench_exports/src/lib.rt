@@ -1,5 +1,5 @@
 // The echoes, which the speed measurements time beside the library's calls: each takes a state by value and hands it back beside an
-// answer, as every call does, and does nothing else.
+// answer, as the calls by value do, and does nothing else.
 ghost use mathlib.Core.Path.{_≡_};
 ghost use Rattle.answers.specs.declared.Answer.the-variants.{Passed};
 ghost use Rattle.moatbetony.specs.Plain.{plainPairOutcome, plainHomeOutcome};

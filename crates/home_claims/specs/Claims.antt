@@ -120,7 +120,7 @@ pub record HomeStateWithin (homes : List ℕ) (fars farTotal : ℕ) (ds : List C
   -- at every beginning of the passed records, what was received is at most the far opening total and what was sent
   pub bounded : (xs ys : List (List ℕ)) → homePassedOfRun homes fars farTotal ds ≡ xs ++ ys
       → received (recordsOn Home xs) ≤ farTotal + sent (recordsOn Home xs)
-  -- a receiving among them is at most the far pool of the records before it
+  -- an arrival among them is at most the far pool of the records before it
   pub each : (xs ys : List (List ℕ)) (b : List ℕ) (r : Record) → homePassedOfRun homes fars farTotal ds ≡ xs ++ b ∷ ys
       → reading b ≡ Read r → r .kind ≡ Receiving Home → r .amount ≤ farPoolOf farTotal (recordsOn Home xs)
   -- the figures that the validator gives are the home total and the far pool worked out

@@ -17,7 +17,7 @@ use Rattle.table.proofs.Numbers.{clash-records}
 use Rattle.table.specs.Table.{ledgerIn, numberedAt}
 
 module _ (s : List ℕ) (r : Record) where
-  -- a receiving is within the pool
+  -- an arrival is within the pool
   pub last-pooled : (k : Kind) → isReceiving k ≡ true → poolRefusal (poolOf s) r ≡ homeLastRefusal (homeViewOf s) r k
   last-pooled (Local l) h = absurd (never-both-tests (sym h))
   last-pooled (Sending l) h = absurd (never-both-tests (sym h))

@@ -25,7 +25,7 @@ ledgerAt n = cond (eqb n 0) Home Far
 
 -- ## The kinds
 
--- byte 0: 1 local, 2 sending, 3 receiving (document 01: arrival)
+-- byte 0: 1 local, 2 sending, 3 arrival
 abbrev pub kindByte : Kind → ℕ
 kindByte (Local l) = 1
 kindByte (Sending l) = 2
@@ -41,8 +41,8 @@ ledgerOf (Local l) = l
 ledgerOf (Sending l) = l
 ledgerOf (Receiving l) = l
 
--- a local's two accounts are on the record's ledger; a sending's sender is on it and its receiver on the other one; a
--- receiving's receiver is on it and its sender on the other one
+-- a local's two accounts are on the record's ledger; a sending's sender is on it and its receiver on the other one; an
+-- arrival's receiver is on it and its sender on the other one
 abbrev pub senderLedger : Kind → Ledger
 senderLedger (Local l) = l
 senderLedger (Sending l) = l

@@ -1,2 +1,4 @@
+-- The ledgers, the kinds of record, and the limits. Assumes nothing.
+
 pub mod Limits
 pub mod Ledgers

@@ -18,7 +18,7 @@ use Rattle.pair_core.specs.Layout.{pairOpenedWords, pairViewOf, pairWordsChecke
 abbrev pub stateFigures : List ℕ → List ℕ
 stateFigures s = figuresLine (pairViewOf s)
 
--- a standing, where the listing goes on
+-- the later progress where the listing goes on, and else this one
 abbrev pub ifGoing : Bool → Progress (List ℕ) → Progress (List ℕ) → Progress (List ℕ)
 ifGoing true p later = later
 ifGoing false p later = p

@@ -5,7 +5,7 @@ use Rattle.journal_blocks.specs.Blocks.{maxBlock, recordsPerBlock}
 use Rattle.listing.specs.Listing.{Progress}
 use Rattle.listing_blocks.specs.declared.Cursor.{Cursor}
 
--- where the listing stands, by the program's run and its state in words
+-- where the listing stands, by the program's cursor and its state in words
 abbrev pub progressOf : Cursor → List ℕ → Progress (List ℕ)
 progressOf cursor s = record { state = s; index = cursor .index; block = cursor .block; before = cursor .before; going = cursor .going }
 

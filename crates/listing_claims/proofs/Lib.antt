@@ -1,3 +1,3 @@
--- It holds. Assumes nothing.
+-- What is claimed of the listing of a whole journal holds. Assumes nothing.
 
 pub mod Whole

@@ -27,12 +27,12 @@ goes-full written n going h = go written (eqb n chunkSize) going refl h
     go true true false q k = absurd (never-both-tests (sym k))
     go true true true q k = (eqb-true n chunkSize q, refl)
 
--- a run that has the buffer to itself again is bounded as the run is, its text starts anew, and its row is the run's
+-- a cursor that has the buffer to itself again is bounded as it was, its text starts anew, and its row is the same
 pub resumed-keeps : {cursor r : Cursor} {going : Bool} {s index : List ℕ} → r ≡ resumedCursor cursor going → CursorBounds cursor
     → RowReady s index (cursor .row) → CursorBounds r × (r .end ≡ 0) × RowReady s index (r .row)
 resumed-keeps e b h = rw e (omega (arith, b), refl, h)
 
--- the chunk that was read, its text, and the run that stands after it
+-- the chunk that was read, its text, and the cursor after it
 pub turned-by : {p : Progress (List ℕ)} (input out : List ℕ) {n e : ℕ} {w g : Bool} (cursor : Cursor) {r : Cursor} {s : List ℕ}
     → n ≤ length input → e ≤ length out → take e out ≡ chunkText p (take n input) → progressOf cursor s ≡ afterChunk p (take n input)
     → g ≡ goesOn w n (cursor .going) → r ≡ resumedCursor cursor g

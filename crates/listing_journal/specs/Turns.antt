@@ -17,7 +17,7 @@ use Rattle.listing_lines.specs.Lines.{headerLine}
 use Rattle.pair_rows.specs.declared.Row.{Row}
 use Rattle.wire.specs.BigEndian.{every}
 
--- the run of an accepted opening, before block 2, with the count of block 1 and the opening's row
+-- the cursor after an accepted opening, before block 2, with the count of block 1 and the opening's row
 abbrev pub firstCursor : ℕ → Row → Cursor
 firstCursor before row = record { index = 0; block = 2; before = before; end = 0; going = true; row = row }
 
@@ -29,7 +29,7 @@ noTurn before row = record { cursor = firstCursor before row; read = 0; text = 0
 abbrev pub noRow : Row
 noRow = record { refusal = 0; home = 0; far = 0; flight = 0 }
 
--- a run that has the buffer to itself again
+-- a cursor that has the buffer to itself again
 abbrev pub resumedCursor : Cursor → Bool → Cursor
 resumedCursor cursor going =
     record { index = cursor .index; block = cursor .block; before = cursor .before; end = 0; going = going; row = cursor .row }
@@ -50,7 +50,7 @@ afterTurn p chunk written =
     }
 
 -- a turn from where p stands, as it tells of itself: what it says it read is the chunk, the text that it says it handed on is the chunk's,
--- and by these and by what it says of the write it leaves the run and the state s where the listing stands then
+-- and by these and by what it says of the write it leaves the cursor and the state s where the listing stands then
 pub record TurnFrom (p : Progress (List ℕ)) (input out : List ℕ) (t : TurnResult) (s : List ℕ) : Type 0 where
   pub read-fits : t .read ≤ length input
   pub text-fits : t .text ≤ length out

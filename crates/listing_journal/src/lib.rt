@@ -54,7 +54,7 @@ pub struct ListResult {
     pub last: TurnResult,
 }
 
-// The run of an accepted opening, with the count of block 1 and the opening's row.
+// The cursor after an accepted opening, with the count of block 1 and the opening's row.
 fn first_cursor(before: u64, row: Row) -> Cursor
     ensures { λ r. ⌜ r ≡ firstCursor before row ⌝ }
 {
@@ -80,7 +80,7 @@ fn no_turn(before: u64, row: Row) -> TurnResult
     }
 }
 
-// A run that has the buffer to itself again.
+// A cursor that has the buffer to itself again.
 fn resumed(cursor: Cursor, going: bool) -> Cursor
     ensures { λ r. ⌜ r ≡ resumedCursor cursor going ⌝ }
 {

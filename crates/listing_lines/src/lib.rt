@@ -13,9 +13,9 @@ use hex::high;
 use hex::low;
 pub use hex::pairs;
 
-// The most characters that a line of a record takes.
+// The room for a line of a record, in characters.
 pub const LINE: usize = 128;
-// The most characters of the figures with the blanks and the line feed.
+// The room for the figures with the blanks and the line feed.
 pub const FIGURES: usize = 64;
 
 // ## Fields

@@ -1,6 +1,6 @@
-// The library that makers link from C, Rust and what can call C: each published call under the C calling convention. Nothing is judged
-// here. An enum does not cross, so that an answer goes as its number, whether it passed, and its place. include/moatbetony.h declares all
-// of it.
+// The library that makers link from C, Rust and what can call C: the published calls, and those of both cores in place, under the C calling
+// convention. Nothing is judged here. An enum does not cross, so that an answer goes as its number, whether it passed, and its place.
+// include/moatbetony.h declares all of it.
 ghost use Prim.Native.Nat.{_+_, _*_};
 ghost use mathlib.Core.Path.{_≡_};
 ghost use lib.ListN.{drop, length, take};

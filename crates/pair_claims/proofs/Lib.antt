@@ -1,3 +1,3 @@
--- It holds. Assumes nothing.
+-- What is claimed of the pair validator's calls holds. Assumes nothing.
 
 pub mod PairClaimed

@@ -11,7 +11,7 @@ sending-byte (suc (suc zero)) l = refl
 sending-byte (suc (suc (suc k))) l =
     rw (ne-eqb (suc (suc (suc k))) 1 (λ q. omega arith), ne-eqb (suc (suc (suc k))) 2 (λ q. omega arith))
 
--- the receivings are those with byte 3, among the bytes of kinds
+-- the arrivals are those with byte 3, among the bytes of kinds
 pub receiving-byte : (k : ℕ) (l : Ledger) → 1 ≤ k → k ≤ 3 → isReceiving (kindAt k l) ≡ eqb k 3
 receiving-byte zero l h m = absurd (omega arith)
 receiving-byte (suc zero) l h m = refl

@@ -15,13 +15,13 @@ pub fn first_refusals(senders: usize, receivers: usize, r: Record, is_used: bool
 {
     let sender = refusal_if(senders <= as_index(r.sender), 22);
     let receiver = refusal_if(receivers <= as_index(r.receiver), 22);
-    let signature = refusal_if(!r.verified, 23);
+    let unverified = refusal_if(!r.verified, 23);
     let number = refusal_if(is_used, 24);
     first_refusal(
         sender,
         first_refusal(
             receiver, // before 23
-            first_refusal(signature, first_refusal(number, later)),
+            first_refusal(unverified, first_refusal(number, later)),
         ),
     )
 }

@@ -147,7 +147,7 @@ module _ (farAccounts supply block : ℕ) (some : 0 < farAccounts) (few : farAcc
               rd .unused n (λ w. omega (arith, i w))
               (or-neither (used n (H .passed)) (eqb n (r .number)) (sym (used-snoc n (H .passed) r) ∙ u) .0);
         }))
-    -- a sending: its receiving on far, and from there on to account 0
+    -- a sending: its arrival on far, and from there on to account 0
     home-one (Sending Home) q h =
         let x : Record = farRecord (Receiving Far) (r .sender) (r .receiver) (r .number) (r .amount) in
         let F₁ : LedgerState = held F x in
@@ -176,7 +176,7 @@ module _ (farAccounts supply block : ℕ) (some : 0 < farAccounts) (few : farAcc
           outside = outside-next;
           unused = u;
         }))))
-    -- a receiving: from account 0 to the sender's account, and its sending from there
+    -- an arrival: from account 0 to the sender's account, and its sending from there
     home-one (Receiving Home) q h =
         let x : Record = farRecord (Sending Far) (r .sender) (r .receiver) (r .number) (r .amount) in
         let F₁ : LedgerState = held F (farRecord (Local Far) 0 (r .sender) (block * 2 ^ 32 + k) (r .amount)) in

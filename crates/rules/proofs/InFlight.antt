@@ -1,4 +1,4 @@
--- In flight, in lists of distinct numbers whose receivings have their sendings, is what was sent less what was received.
+-- In flight, in lists of distinct numbers whose arrivals have their sendings, is what was sent less what was received.
 -- Assumes nothing.
 use Rattle.wire.proofs.Prelude.{List, [], _++_, _+_, _∷_, _≡_, and-false, and-true, arith, cond, dichotomy, eq-eqb, eqb, eqb-false}
 use Rattle.wire.proofs.Prelude.{eqb-true, false, inl, inr, ne-eqb, or-false, refl, sym, true, ℕ}
@@ -11,7 +11,7 @@ use Rattle.rules.specs.Rules.{Kind, Record, arrived, flight, flightBy, i
 use Rattle.wire.proofs.Lists.{and-both}
 use Rattle.wire.specs.BigEndian.{All, every}
 
--- ## Receivings and their sendings
+-- ## Arrivals and their sendings
 
 -- what a matching sending is
 pub record Matched (r x : Record) : Type 0 where
@@ -36,7 +36,7 @@ matches-used : (r : Record) (xs : List Record) → used (r .number) xs ≡ false
 unfolding used matches every
 matches-used r xs h = any-none _ _ (λ x q. simp (q, and-false)) xs h
 
--- ## One receiving more
+-- ## One arrival more
 
 -- a record of another number flies as before
 flight-head : (ys : List Record) (r x : Record) → eqb (r .number) (x .number) ≡ false → flightBy (r ∷ ys) x ≡ flightBy ys x
@@ -51,7 +51,7 @@ flight-unused (x ∷ xs) ys r h =
     let u = or-neither (eqb (r .number) (x .number)) (used (r .number) xs) h in
     omega (arith, flight-head ys r x (u .0), flight-unused xs ys r (u .1))
 
--- a receiving takes its sending out of the flight
+-- an arrival takes its sending out of the flight
 flight-receiving : (xs ys : List Record) (r : Record) → isReceiving (r .kind) ≡ true → Distinct xs → any (matches r) xs ≡ true
     → arrived (r .number) ys ≡ false → flight xs (r ∷ ys) + r .amount ≡ flight xs ys
 unfolding any flight sum Distinct arrived matches every
@@ -72,7 +72,7 @@ flight-receiving (x ∷ xs) ys r k d m f =
           omega (arith, s .amount, old, new, flight-unused xs ys r u)
     ]
 
--- ## All receivings
+-- ## All arrivals
 
 -- what one record of a kind adds to what was sent
 pub sent-snoc : (xs : List Record) (r : Record) {k : Kind} → r .kind ≡ k → sent (xs ++ r ∷ []) ≡ sent xs + cond (isSending k) (r .amount) 0

@@ -30,7 +30,7 @@ accounts-with Home r p = fun-ext (elim [ Home ↦ length-moved (p .home .balance
 accounts-with Far r p = fun-ext (elim [ Home ↦ refl | Far ↦ length-moved (p .far .balances) r (r .kind) ])
 
 module _ (own other : LedgerState) (r : Record) where
-  -- a passable record clashes with none, and where it is a receiving it has its sending
+  -- a passable record clashes with none, and where it is an arrival it has its sending
   passable-clean : (k : Kind) → r .kind ≡ k → Passable own other r k
       → (any (clashes r) (own .passed) ≡ false) × (matched (other .passed) r ≡ true)
   unfolding Passable matched
@@ -60,7 +60,7 @@ module _ (own other : LedgerState) (r : Record) where
 
 -- ## What the passed records of both ledgers keep
 
--- the numbers of a ledger are distinct, and its receivings have their sendings on the other one
+-- the numbers of a ledger are distinct, and its arrivals have their sendings on the other one
 pub record Clean (own other : LedgerState) : Type 0 where
   pub distinct : Distinct (own .passed)
   pub receivings : all (matched (other .passed)) (own .passed) ≡ true

@@ -88,9 +88,9 @@ none-passes-twice p xs ys zs b h =
     let x = rules-read (afterAll p xs) (reading b) (passes-split p xs (b ∷ (ys ++ b ∷ zs)) h .1 .0) in
     no-clash-passes p xs ys zs b b (x .0) (x .0) (x .1) (x .1) refl (clash-self (x .0)) h
 
--- ## Receivings were sent
+-- ## Arrivals were sent
 
--- a receiving that passes was sent
+-- an arrival that passes was sent
 pub receivings-were-sent : ReceivingsWereSent
 unfolding ReceivingsWereSent Passable
 receivings-were-sent p r l q h =
@@ -110,7 +110,7 @@ receivings-were-sent p r l q h =
 
 -- ## Sendings arrive
 
--- the receiving of a sending that has passed passes after any list, unless its number is taken
+-- the arrival of a sending that has passed passes after any list, unless its number is taken
 pub sendings-arrive : SendingsArrive
 unfolding SendingsArrive Passes judgeBytes afterBytes afterAll Passable receivingOf
 sendings-arrive p xs ys b c r l rb k rc h free =

@@ -35,12 +35,12 @@ pub record WasSent (passed : List Record) (r : Record) : Type 0 where
   pub same-receiver : r .receiver ≡ sending .receiver
   pub same-amount : r .amount ≡ sending .amount
 
--- a receiving that passes has its sending in the table of the other ledger (D3.2, section 6.4.2, asks it of the sequence)
+-- an arrival that passes has its sending in the table of the other ledger (D3.2, section 6.4.2, asks it of the sequence)
 unfoldable pub ReceivingsWereSent : Type 0
 ReceivingsWereSent =
     (p : PairState) (r : Record) (l : Ledger) → r .kind ≡ Receiving l → judge p r ≡ 0 → WasSent (stateOf (counterpart l) p .passed) r
 
--- the receiving of a sending on ledger l: the same record on the other ledger (D3.2, Definition 12: effect)
+-- the arrival of a sending on ledger l: the same record on the other ledger (D3.2, Definition 12: effect)
 unfoldable pub receivingOf : Ledger → Record → Record
 receivingOf l r =
     record {
@@ -52,8 +52,8 @@ receivingOf l r =
       verified = r .verified;
     }
 
--- however much has passed since a sending, its receiving still passes unless a record of its ledger clashes with it (D3.2,
--- Definition 15, which has no such exception: there only the receiving itself may not have passed yet)
+-- however much has passed since a sending, its arrival still passes unless a record of its ledger clashes with it (D3.2,
+-- Definition 15, which has no such exception: there only the arrival itself may not have passed yet)
 unfoldable pub SendingsArrive : Type 0
 SendingsArrive =
     (p : PairState) (xs ys : List (List ℕ)) (b c : List ℕ) (r : Record) (l : Ledger) → reading b ≡ Read r → r .kind ≡ Sending l

@@ -155,7 +155,7 @@ orderRows =
     ∷ homeRow 0 (good (Local Home) 0 0 1 1 ∷ []) (good (Receiving Home) 0 0 1 21) 24
     ∷ []
 
--- receivings that differ from the sending in one field, or find a local; number 0 is used like any other (Matches and sums)
+-- arrivals that differ from the sending in one field, or find a local; number 0 is used like any other (Matches and sums)
 unfoldable pub nearRows : List CaseRow
 nearRows =
     refusalRow 0 (good (Sending Home) 0 0 7 30 ∷ []) (good (Receiving Far) 1 0 7 30) 31

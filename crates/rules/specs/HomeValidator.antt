@@ -33,7 +33,7 @@ pub record HomeView : Type 0 where
 unfoldable pub sent : List Record → ℕ
 sent records = sum (λ (r : Record). cond (isSending (r .kind)) (r .amount) 0) records
 
--- the sum of the amounts of receivings
+-- the sum of the amounts of arrivals
 unfoldable pub received : List Record → ℕ
 received records = sum (λ (r : Record). cond (isReceiving (r .kind)) (r .amount) 0) records
 
@@ -54,7 +54,7 @@ abbrev pub isFar : Ledger → Bool
 isFar Home = false
 isFar Far = true
 
--- a receiving is within the far pool, and no sending is looked for (Guard: an arrival; 32)
+-- an arrival is within the far pool, and no sending is looked for (Guard: an arrival; 32)
 unfoldable pub poolRefusal : ℕ → Record → ℕ
 poolRefusal farPool r = refuse (ltb farPool (r .amount)) 32 0
 
@@ -75,7 +75,7 @@ abbrev pub homeJudge : ℕ → HomeView → Reading → ℕ
 homeJudge capacity v x =
     readingRefusal (λ (r : Record). orElse (homeJudgeRecord v r) (roomRefusal capacity (v .home .passed))) x
 
--- the far pool once a record has passed: a sending adds its amount, a receiving takes it off
+-- the far pool once a record has passed: a sending adds its amount, an arrival takes it off
 abbrev pub poolAfter : ℕ → Record → Kind → ℕ
 poolAfter pool r (Local l) = pool
 poolAfter pool r (Sending l) = pool + r .amount
@@ -186,7 +186,7 @@ pub record WithinPoolAfter (capacity : ℕ) (homes : List ℕ) (farAccounts farT
   -- at every beginning of the passed records, what was received is at most the far opening total and what was sent
   pub bounded : (xs ys : List (List ℕ)) → passedRecords (homeValidator capacity) (homeOpened homes farAccounts farTotal) ds ≡ xs ++ ys
       → received (recordsOn Home xs) ≤ farTotal + sent (recordsOn Home xs)
-  -- a receiving among them is at most the far pool of the records before it
+  -- an arrival among them is at most the far pool of the records before it
   pub each : (xs ys : List (List ℕ)) (b : List ℕ) (r : Record)
       → passedRecords (homeValidator capacity) (homeOpened homes farAccounts farTotal) ds ≡ xs ++ b ∷ ys
       → reading b ≡ Read r → r .kind ≡ Receiving Home → r .amount ≤ farPoolOf farTotal (recordsOn Home xs)

@@ -61,7 +61,7 @@ unfoldable pub unshared : List Record → Bool
 unshared [] = true
 unshared (r ∷ rs) = every (not (any (clashes r) rs) ∷ unshared rs ∷ [])
 
--- r is no receiving, or has its sending among the records of the other ledger
+-- r is no arrival, or has its sending among the records of the other ledger
 unfoldable pub matched : List Record → Record → Bool
 matched others r = not (isReceiving (r .kind)) || any (matches r) others
 
@@ -76,8 +76,8 @@ sameLedger Far Far = true
 unfoldable pub standsUnder : Ledger → Record → Bool
 standsUnder l r = sameLedger l (ledgerOf (r .kind))
 
--- refusal 3, in document 01's order (Refusals: 3). Balances beyond the accounts, and bytes that are no kind, ledger
--- or verdict, do not arise here but in the state that the program holds
+-- refusal 3, in document 01's order (Refusals: 3). Balances beyond the accounts, and words that do not read (kind, ledger, verdict or
+-- zero bytes wrong), do not arise here but in the state that the program holds
 unfoldable pub pairAccepts : ℕ → PairView → Bool
 pairAccepts capacity v =
     every

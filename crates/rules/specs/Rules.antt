@@ -78,11 +78,11 @@ clashes r x = eqb (r .number) (x .number)
 abbrev pub debit : Record → ℕ
 debit r = r .amount
 
--- what a local or receiving gives to its receiver
+-- what a local or arrival gives to its receiver
 abbrev pub credit : Record → ℕ
 credit r = r .amount
 
--- x is the sending of the receiving r: the same in all fields but kind and verdict (Rules: an arrival has; Algorithm 2, line 25)
+-- x is the sending of the arrival r: the same in all fields but kind and verdict (Rules: an arrival has; Algorithm 2, line 25)
 unfoldable pub matches : Record → Record → Bool
 matches r x =
     every
@@ -125,7 +125,7 @@ judge p r = firstRefusal (accountsOf p) (stateOf (ledgerOf (r .kind)) p .passed)
 
 -- ## What a passed record does
 
--- a local lowers the sender's balance and then raises the receiver's, a sending does the first and a receiving the second (Rules:
+-- a local lowers the sender's balance and then raises the receiver's, a sending does the first and an arrival the second (Rules:
 -- takes and gives; Algorithm 2, lines 32 and 37)
 abbrev pub moved : List ℕ → Record → Kind → List ℕ
 moved balances r (Local l) = raised (lowered balances (r .sender) (debit r)) (r .receiver) (credit r)
@@ -166,7 +166,7 @@ Passes p (b ∷ bs) = (judgeBytes p b ≡ 0) × Passes (afterBytes p b) bs
 
 -- ## In flight
 
--- a record of the list is a receiving with the number
+-- a record of the list is an arrival with the number
 unfoldable pub arrived : ℕ → List Record → Bool
 arrived n records = any (λ (r : Record). isReceiving (r .kind) && eqb n (r .number)) records
 
