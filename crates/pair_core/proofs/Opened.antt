@@ -26,36 +26,37 @@ zeros-split : (a b c : ℕ)
 zeros-split a b c = simp replicate-append-replicate
 
 module _ (homes fars : List ℕ) (h : length homes ≤ accountLimit) (f : length fars ≤ accountLimit) where
-  module _ (z : List ℕ) (e : length z ≡ balancesStart 0) where
-    -- both ledgers' balances, behind other words
+  module _ (z : List ℕ) (p : ℕ) (e : length z ≡ p) where
+    -- both ledgers' balances, behind p other words
     both-stand : (rest : List ℕ)
-        → Stands (z ++ (zeroFilled homes ++ (zeroFilled fars ++ rest))) (balancesStart 0) homes (zeroFilled fars ++ rest)
-        × Stands (z ++ (zeroFilled homes ++ (zeroFilled fars ++ rest))) (balancesStart 1) fars rest
+        → Stands (z ++ (zeroFilled homes ++ (zeroFilled fars ++ rest))) p homes (zeroFilled fars ++ rest)
+        × Stands (z ++ (zeroFilled homes ++ (zeroFilled fars ++ rest))) (p + accountLimit) fars rest
     both-stand rest = (
-      stands z (balancesStart 0) e homes h (zeroFilled fars ++ rest),
+      stands z p e homes h (zeroFilled fars ++ rest),
       rw (append-assoc z (zeroFilled homes) (zeroFilled fars ++ rest)) at
-          (stands (z ++ zeroFilled homes) (balancesStart 1) (front-long z (balancesStart 0) e homes h) fars f rest),
+          (stands (z ++ zeroFilled homes) (p + accountLimit) (front-long z p e homes h) fars f rest),
     )
 
     -- what the stores leave behind them
     stores-leave : (s first second : List ℕ) (supply n m : ℕ)
         → s ≡ z ++ (replicate accountLimit 0 ++ (replicate accountLimit 0 ++ replicate 5 0))
-        → first ≡ take (balancesStart 0) s ++ (homes ++ drop (balancesStart 0 + length homes) s)
-        → second ≡ take (balancesStart 1) first ++ (fars ++ drop (balancesStart 1 + length fars) first)
-        → set (set (set second pairSupplyWord supply) (accountsWord 0) n) (accountsWord 1) m
+        → first ≡ take p s ++ (homes ++ drop (p + length homes) s)
+        → second ≡ take (p + accountLimit) first ++ (fars ++ drop (p + accountLimit + length fars) first)
+        → set (set (set second (p + accountLimit + accountLimit + 0) supply) (p + accountLimit + accountLimit + 1) n)
+        (p + accountLimit + accountLimit + 2) m
         ≡ z ++ (zeroFilled homes ++ (zeroFilled fars ++ supply ∷ n ∷ m ∷ 0 ∷ 0 ∷ []))
     stores-leave s first second supply n m q a b =
-        let l = front-long z (balancesStart 0) e homes h in
+        let l = front-long z p e homes h in
         rw (
           b,
           a,
           q,
-          copied z (balancesStart 0) e homes h (replicate accountLimit 0 ++ replicate 5 0),
+          copied z p e homes h (replicate accountLimit 0 ++ replicate 5 0),
           ← append-assoc z (zeroFilled homes) (replicate accountLimit 0 ++ replicate 5 0),
-          copied (z ++ zeroFilled homes) (balancesStart 1) l fars f (replicate 5 0),
-          stored-behind (z ++ zeroFilled homes) (balancesStart 1) l fars f (0 ∷ 0 ∷ 0 ∷ 0 ∷ 0 ∷ []) 0 supply,
-          stored-behind (z ++ zeroFilled homes) (balancesStart 1) l fars f (supply ∷ 0 ∷ 0 ∷ 0 ∷ 0 ∷ []) 1 n,
-          stored-behind (z ++ zeroFilled homes) (balancesStart 1) l fars f (supply ∷ n ∷ 0 ∷ 0 ∷ 0 ∷ []) 2 m,
+          copied (z ++ zeroFilled homes) (p + accountLimit) l fars f (replicate 5 0),
+          stored-behind (z ++ zeroFilled homes) (p + accountLimit) l fars f (0 ∷ 0 ∷ 0 ∷ 0 ∷ 0 ∷ []) 0 supply,
+          stored-behind (z ++ zeroFilled homes) (p + accountLimit) l fars f (supply ∷ 0 ∷ 0 ∷ 0 ∷ 0 ∷ []) 1 n,
+          stored-behind (z ++ zeroFilled homes) (p + accountLimit) l fars f (supply ∷ n ∷ 0 ∷ 0 ∷ 0 ∷ []) 2 m,
         )
         (append-assoc z (zeroFilled homes) (zeroFilled fars ++ supply ∷ n ∷ m ∷ 0 ∷ 0 ∷ []))
 
@@ -67,7 +68,7 @@ module _ (homes fars : List ℕ) (h : length homes ≤ accountLimit) (f : length
       ≡ pairOpenedWords homes fars
   unfolding pairOpenedWords pairZeroWords
   opened-by s first second supply q u a b =
-      stores-leave (replicate (8 * capacity) 0) (length-replicate {A = ℕ} (8 * capacity) 0) s first second supply (length homes)
+      stores-leave (replicate (8 * capacity) 0) (8 * capacity) (length-replicate {A = ℕ} (8 * capacity) 0) s first second supply (length homes)
       (length fars) (q ∙ zeros-split (8 * capacity) accountLimit 5) a b
       ∙ ap (λ (n : ℕ). replicate (8 * capacity) 0 ++ (zeroFilled homes ++ (zeroFilled fars ++ n ∷ length homes ∷ length fars ∷ 0 ∷ 0 ∷
       []))) u
@@ -93,7 +94,7 @@ module _ (homes fars : List ℕ) (n : pairOpeningRefusal homes fars ≡ 0) where
   opened-stand : Stands opened (balancesStart 0) homes (zeroFilled fars ++ scalars) × Stands opened (balancesStart 1) fars scalars
   unfolding pairOpenedWords
   opened-stand =
-      both-stand homes fars (opened-counts .0) (opened-counts .1) (replicate (8 * capacity) 0)
+      both-stand homes fars (opened-counts .0) (opened-counts .1) (replicate (8 * capacity) 0) (8 * capacity)
       (length-replicate {A = ℕ} (8 * capacity) 0) scalars
 
   -- each of the last five
