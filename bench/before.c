@@ -10,7 +10,7 @@
 
 #define HELD (MOATBETONY_CAPACITY - 1)
 #define RUNS 401
-enum { OLD_RECORD, RECORD, TAKE, OLD_LIST, LIST, TAKE_LIST, TIMED };
+enum { OLD_RECORD, RECORD, TAKE, OLD_LIST, LIST, TAKE_LIST, ALL_PAIRS, TIMED };
 enum { CONSECUTIVE, RANDOM, SHARED, NUMBERS };
 static const char *const names[] = {"consecutive", "random", "shared"};
 
@@ -89,6 +89,43 @@ static void print(const char *validator, int numbers, size_t records)
     printf("%s, %s: record %.0f, by value %.0f (%.2f), in place %.0f (%.2f); a list's record %.1f, by value %.1f (%.2f), in place %.1f (%.2f)\n",
         validator, names[numbers], old, value, value / old, in_place, in_place / old, old_list, by_list, by_list / old_list, in_place_list,
         in_place_list / old_list);
+    if (numbers == SHARED) {
+        double pairs = median(ALL_PAIRS);
+        printf("%s, %s: comparing all pairs %.0f, in place %.2f of it\n", validator, names[numbers], pairs, in_place / pairs);
+    }
+}
+
+/* Whether one of n records has the number. */
+__attribute__((noinline, aligned(64))) static int has_number(const moatbetony_held_t *records, uint64_t n, uint64_t number)
+{
+    for (uint64_t j = 0; j < n; j++)
+        if (records[j].number == number)
+            return 1;
+    return 0;
+}
+
+/* Whether no two of n records share their number, by comparing all pairs. */
+static int are_apart(const moatbetony_held_t *records, uint64_t n)
+{
+    for (uint64_t i = 0; i < n; i++)
+        if (has_number(records, i, records[i].number))
+            return 0;
+    return 1;
+}
+
+/* Whether each arrival among n records has its sending among m of the other ledger, by comparing each with all of them. */
+static int are_sent(const moatbetony_held_t *records, uint64_t n, const moatbetony_held_t *others, uint64_t m, uint64_t other)
+{
+    for (uint64_t i = 0; i < n; i++) {
+        if (records[i].head >> 56 != 3)
+            continue;
+        uint64_t head = (uint64_t)2 << 56 | other << 48 | records[i].head << 16 >> 16, j = 0;
+        while (j < m && !(others[j].number == records[i].number && others[j].head == head && others[j].amount == records[i].amount))
+            j++;
+        if (j == m)
+            return 0;
+    }
+    return 1;
 }
 
 static void home(const uint64_t *balances, int numbers)
@@ -117,6 +154,8 @@ static void home(const uint64_t *balances, int numbers)
              must((int)o->answer.passed));
         TIME(TAKE_LIST, 2, moatbetony_home_t *s = (void *)(page + place); *s = empty;
              must((int)moatbetony_home_take_list(s, list, 32 * HELD).passed));
+        if (numbers == SHARED)
+            TIME(ALL_PAIRS, 20, must(are_apart(lent.records, lent.count)));
     }
     print("home", numbers, HELD);
 }
@@ -151,6 +190,10 @@ static void pair(const uint64_t *balances, int numbers)
              must((int)o->answer.passed));
         TIME(TAKE_LIST, 1, moatbetony_pair_t *s = (void *)(page + place); *s = empty;
              must((int)moatbetony_pair_take_list(s, list, sizeof list).passed));
+        if (numbers == SHARED)
+            TIME(ALL_PAIRS, 10, must(are_apart(lent.records[0], lent.counts[0]) && are_apart(lent.records[1], lent.counts[1]) &&
+                 are_sent(lent.records[0], lent.counts[0], lent.records[1], lent.counts[1], 1) &&
+                 are_sent(lent.records[1], lent.counts[1], lent.records[0], lent.counts[0], 0)));
     }
     print("pair", numbers, 2 * HELD);
 }
