@@ -60,30 +60,30 @@ module _ (homes : List ℕ) (fars farTotal : ℕ) where
     opened-count = count-facts (length homes) (opening-none (length homes) fars (total homes + farTotal) n .home-count) .1
 
     -- its words
-    abbrev opened : List ℕ
-    opened = homeOpenedWords homes fars farTotal
+    abbrev openedWords : List ℕ
+    openedWords = homeOpenedWords homes fars farTotal
 
     -- the last five
     abbrev scalars : List ℕ
     scalars = (total homes + farTotal) ∷ farTotal ∷ length homes ∷ fars ∷ 0 ∷ []
 
     -- the balances stand there
-    opened-stand : Stands opened homeBalancesWord homes scalars
+    opened-stand : Stands openedWords homeBalancesWord homes scalars
     unfolding homeOpenedWords
     opened-stand =
         stands (replicate (4 * capacity) 0) homeBalancesWord (length-replicate {A = ℕ} (4 * capacity) 0) homes opened-count scalars
 
     -- each of the last five
-    last : (k : ℕ) → getD opened (homeSupplyWord + k) 0 ≡ getD scalars k 0
+    last : (k : ℕ) → getD openedWords (homeSupplyWord + k) 0 ≡ getD scalars k 0
     last = opened-stand .behind
 
     -- they are, seen as the rules' state, the rules' opened state
-    pub opened-view : homeViewOf opened ≡ homeOpened homes fars farTotal
+    pub opened-view : homeViewOf openedWords ≡ homeOpened homes fars farTotal
     unfolding ledgerIn recordsFrom listAt
     opened-view = rw (last 0, last 1, last 2, last 3, last 4, opened-stand .balances)
 
     -- so they are sound
-    pub opened-sound : HomeSound opened
+    pub opened-sound : HomeSound openedWords
     unfolding supplyAllowed allAt
     opened-sound =
         let o = opening-none (length homes) fars (total homes + farTotal) n in

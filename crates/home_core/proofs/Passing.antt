@@ -119,8 +119,8 @@ set-two x j k a b i p q = getD-set-other (set x j a) k i b 0 q ∙ getD-set-othe
 
 module _ (s : List ℕ) (w : Words) (r : Record) (o : HomeSound s) (p : HomePasses s r (r .kind)) where
   -- the words after the store
-  abbrev after : List ℕ
-  after = stored s homeBalancesWord (4 * homeCountOf s) w r
+  abbrev storedWords : List ℕ
+  storedWords = stored s homeBalancesWord (4 * homeCountOf s) w r
 
   -- the store
   is-stored : Stored s homeBalancesWord (homeAccountsOf s) (4 * homeCountOf s) w r
@@ -132,7 +132,7 @@ module _ (s : List ℕ) (w : Words) (r : Record) (o : HomeSound s) (p : HomePass
   above : (i : ℕ) → homeSupplyWord ≤ i → (i ≡ poolWord → ⊥) → (i ≡ homeCountWord → ⊥) → getD (homeWith s w r) i 0 ≡ getD s i 0
   unfolding homeWith
   above i h a b =
-      set-two after poolWord homeCountWord (poolAfter (poolOf s) r (r .kind)) (homeCountOf s + 1) i a b
+      set-two storedWords poolWord homeCountWord (poolAfter (poolOf s) r (r .kind)) (homeCountOf s + 1) i a b
       ∙ is-stored .others i (inr (omega (arith, h, o .bounds .home-fits))) (inr (omega (arith, h, p .room)))
 
   -- what was written
@@ -142,19 +142,19 @@ module _ (s : List ℕ) (w : Words) (r : Record) (o : HomeSound s) (p : HomePass
       let x = poolAfter (poolOf s) r (r .kind) in
       let z : 0 + 4 * homeCountOf s ≡ 4 * homeCountOf s = omega arith in
       record {
-        long = length-set (set after poolWord x) homeCountWord (homeCountOf s + 1) ∙ length-set after poolWord x ∙ is-stored .long;
+        long = length-set (set storedWords poolWord x) homeCountWord (homeCountOf s + 1) ∙ length-set storedWords poolWord x ∙ is-stored .long;
         below =
             λ i h.
-            set-two after poolWord homeCountWord x (homeCountOf s + 1) i (λ q. omega arith) (λ q. omega arith)
+            set-two storedWords poolWord homeCountWord x (homeCountOf s + 1) i (λ q. omega arith) (λ q. omega arith)
             ∙ ap (λ (a : ℕ). getD (stored s homeBalancesWord a w r) i 0) (sym z);
         supply = above homeSupplyWord (omega arith) (λ q. omega arith) (λ q. omega arith);
         pool =
-            getD-set-other (set after poolWord x) homeCountWord poolWord (homeCountOf s + 1) 0 (λ q. omega arith)
-            ∙ getD-set-same after poolWord x 0 (omega (arith, is-stored .long, o .long));
+            getD-set-other (set storedWords poolWord x) homeCountWord poolWord (homeCountOf s + 1) 0 (λ q. omega arith)
+            ∙ getD-set-same storedWords poolWord x 0 (omega (arith, is-stored .long, o .long));
         homes = above homeAccountsWord (omega arith) (λ q. omega arith) (λ q. omega arith);
         fars = above farAccountsWord (omega arith) (λ q. omega arith) (λ q. omega arith);
-        count = getD-set-same (set after poolWord x) homeCountWord (homeCountOf s + 1) 0
-            (omega (arith, length-set after poolWord x, is-stored .long, o .long));
+        count = getD-set-same (set storedWords poolWord x) homeCountWord (homeCountOf s + 1) 0
+            (omega (arith, length-set storedWords poolWord x, is-stored .long, o .long));
       }
 
 module _ (s t : List ℕ) (w : Words) (r : Record) (o : HomeSound s) (p : HomePasses s r (r .kind)) (c : HomeWritten s t w r)

@@ -83,35 +83,35 @@ module _ (homes fars : List ℕ) (n : pairOpeningRefusal homes fars ≡ 0) where
       (count-facts (length homes) (o .home-count) .1, count-facts (length fars) (o .far-count) .1)
 
   -- its words
-  abbrev opened : List ℕ
-  opened = pairOpenedWords homes fars
+  abbrev openedWords : List ℕ
+  openedWords = pairOpenedWords homes fars
 
   -- the last five
   abbrev scalars : List ℕ
   scalars = (total homes + total fars) ∷ length homes ∷ length fars ∷ 0 ∷ 0 ∷ []
 
   -- both ledgers' balances stand there
-  opened-stand : Stands opened (balancesStart 0) homes (zeroFilled fars ++ scalars) × Stands opened (balancesStart 1) fars scalars
+  opened-stand : Stands openedWords (balancesStart 0) homes (zeroFilled fars ++ scalars) × Stands openedWords (balancesStart 1) fars scalars
   unfolding pairOpenedWords
   opened-stand =
       both-stand homes fars (opened-counts .0) (opened-counts .1) (replicate (8 * capacity) 0) (8 * capacity)
       (length-replicate {A = ℕ} (8 * capacity) 0) scalars
 
   -- each of the last five
-  last : (k : ℕ) → getD opened (pairSupplyWord + k) 0 ≡ getD scalars k 0
+  last : (k : ℕ) → getD openedWords (pairSupplyWord + k) 0 ≡ getD scalars k 0
   last = opened-stand .1 .behind
 
   -- they are, seen as the rules' state, the rules' opened state
-  pub opened-view : pairViewOf opened ≡ pairOpened homes fars
+  pub opened-view : pairViewOf openedWords ≡ pairOpened homes fars
   unfolding ledgerIn recordsFrom listAt
   opened-view = rw (last 0, last 1, last 2, last 3, last 4, opened-stand .0 .balances, opened-stand .1 .balances)
 
   -- no record is held
-  count-none : (l : ℕ) → l < 2 → countOn opened l ≡ 0
-  count-none = by-byte (λ (l : ℕ). countOn opened l ≡ 0) (last 3) (last 4)
+  count-none : (l : ℕ) → l < 2 → countOn openedWords l ≡ 0
+  count-none = by-byte (λ (l : ℕ). countOn openedWords l ≡ 0) (last 3) (last 4)
 
   -- so they are sound
-  pub opened-sound : PairSound opened
+  pub opened-sound : PairSound openedWords
   unfolding zeroBeyond formedOn allAt
   opened-sound =
       let o = opening-none (length homes) (length fars) (total homes + total fars) n in
@@ -119,25 +119,25 @@ module _ (homes fars : List ℕ) (n : pairOpeningRefusal homes fars ≡ 0) where
         long = opened-stand .1 .long;
         bounds =
             record {
-              count = by-byte (λ (l : ℕ). countAllowed (accountsOn opened l) ≡ true) (rw (last 1) (o .home-count))
+              count = by-byte (λ (l : ℕ). countAllowed (accountsOn openedWords l) ≡ true) (rw (last 1) (o .home-count))
                   (rw (last 2) (o .far-count));
               room = λ l h. omega (arith, count-none l h);
               supply-fits = rw (last 0) (o .supply-fits);
             };
-        zeros = by-byte (λ (l : ℕ). zeroBeyond opened l ≡ true) (rw (last 1) (opened-stand .0 .zeros)) (rw (last 2) (opened-stand .1
+        zeros = by-byte (λ (l : ℕ). zeroBeyond openedWords l ≡ true) (rw (last 1) (opened-stand .0 .zeros)) (rw (last 2) (opened-stand .1
             .zeros));
         reads = λ l h. rw (count-none l h);
         accepted = ap (pairAccepts capacity) opened-view ∙ pair-opened-accepted capacity homes fars n;
       }
 
   -- with indexes of zeros they are ready for a record
-  pub opened-ready : PairReady opened (replicate (2 * indexLength) 0)
+  pub opened-ready : PairReady openedWords (replicate (2 * indexLength) 0)
   opened-ready =
       record {
-        accepted = sound-accepts opened opened-sound;
+        accepted = sound-accepts openedWords opened-sound;
         index-long = length-replicate {A = ℕ} (2 * indexLength) 0;
-        indexed = λ l h. subst (IndexOf opened (recordsStart l) (replicate (2 * indexLength) 0) (indexOn l)) (sym (count-none l h))
-            (index-none opened (recordsStart l) (2 * indexLength) (indexOn l));
+        indexed = λ l h. subst (IndexOf openedWords (recordsStart l) (replicate (2 * indexLength) 0) (indexOn l)) (sym (count-none l h))
+            (index-none openedWords (recordsStart l) (2 * indexLength) (indexOn l));
       }
 
 -- the all-zero words, beside a refused opening, are refused by every call

@@ -96,11 +96,11 @@ module _ (L : Ledger) (own other : ℕ) (ho : own ≤ accountLimit) (ht : other 
   abbrev receiver : ℕ
   receiver = w .head / 2 ^ 16 % 2 ^ 16
 
-  abbrev zeros : ℕ
-  zeros = w .head % 2 ^ 16
+  abbrev zeroPart : ℕ
+  zeroPart = w .head % 2 ^ 16
 
   -- the parts of a head of the ledger
-  parts-at : ledger ≡ ledgerByte L → Parts (w .head) kind (ledgerByte L) sender receiver zeros
+  parts-at : ledger ≡ ledgerByte L → Parts (w .head) kind (ledgerByte L) sender receiver zeroPart
   parts-at q = rw q at (parts-of (w .head))
 
   -- the kind's byte is the whole first byte
@@ -120,11 +120,11 @@ module _ (L : Ledger) (own other : ℕ) (ho : own ≤ accountLimit) (ht : other 
       let m = every-first _ _ (c .1) in
       let e = every-first _ _ (m .1) in
       let f = every-first _ _ (e .1) in
-      let x = below-head (ledgerByte L) own other (ledger-bound L) ho ht kind (w .head) ledger sender receiver zeros d (parts-of (w .head)) far
+      let x = below-head (ledgerByte L) own other (ledger-bound L) ho ht kind (w .head) ledger sender receiver zeroPart d (parts-of (w .head)) far
       (ltb-true _ _ (b .0)) in
       let byte : ledger ≡ ledgerByte L = x .2 in
       let on : ledgerAt ledger ≡ L = ap ledgerAt byte ∙ at-byte L in
-      let y = below-receiver (ledgerByte L) own other (ledger-bound L) ho ht kind receiver zeros (x .0) (x .1) (ltb-true _ _ (c .0)) in
+      let y = below-receiver (ledgerByte L) own other (ledger-bound L) ho ht kind receiver zeroPart (x .0) (x .1) (ltb-true _ _ (c .0)) in
       let tail : w .tail ≡ 2 ^ 56 = eqb-true _ _ (f .0) in
       let some : 0 < w .amount = ltb-true _ _ (m .0) in
       let most : w .amount ≤ maxAmount = leb-true _ _ (e .0) in
@@ -175,14 +175,14 @@ module _ (L : Ledger) (own other : ℕ) (ho : own ≤ accountLimit) (ht : other 
       rw (k, on, sender-accounts L own other kind some most) at (x .0 .sender-open) in
       let receives : receiver < cond (eqb kind 2) other own =
       rw (k, on, receiver-accounts L own other kind some most) at (x .0 .receiver-open) in
-      let none : zeros ≡ 0 = omega (arith, f .zeros-first) in
+      let none : zeroPart ≡ 0 = omega (arith, f .zeros-first) in
       let tail : w .tail ≡ 2 ^ 56 = tail-one (eqb-true _ _ (x .0 .signed)) (f .zeros-last) in
       every-both _ _
       (lt-ltb _ _
-      (head-below (ledgerByte L) own other (ledger-bound L) ho ht kind (w .head) sender receiver zeros d (parts-at byte) far hd hh some most
+      (head-below (ledgerByte L) own other (ledger-bound L) ho ht kind (w .head) sender receiver zeroPart d (parts-at byte) far hd hh some most
       sends))
       (every-both _ _
-      (lt-ltb _ _ (receiver-below (ledgerByte L) own other (ledger-bound L) ho ht kind receiver zeros some most none receives))
+      (lt-ltb _ _ (receiver-below (ledgerByte L) own other (ledger-bound L) ho ht kind receiver zeroPart some most none receives))
       (every-both _ _ (lt-ltb _ _ (f .amount-some))
       (every-both _ _ (le-leb _ _ (f .amount-most))
       (every-both _ _ (eq-eqb _ _ tail)
