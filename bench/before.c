@@ -113,7 +113,7 @@ static int are_apart(const moatbetony_held_t *records, uint64_t n)
     return 1;
 }
 
-/* Whether each arrival among n records has its sending among m of the other ledger, by comparing each with all of them. */
+/* Whether each arrival among n records has its sending among m of the other ledger, by comparing it with them in turn. */
 static int are_sent(const moatbetony_held_t *records, uint64_t n, const moatbetony_held_t *others, uint64_t m, uint64_t other)
 {
     for (uint64_t i = 0; i < n; i++) {

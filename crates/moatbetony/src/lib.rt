@@ -11,8 +11,8 @@ ghost use Rattle.home_validator.specs.State.{homeChecker, homeOpenedState, home
 ghost use Rattle.journal_blocks.specs.Checked.{blockRefusal};
 ghost use Rattle.journal_reader.specs.Judged.{recordRefusal, partOf, countOf, openingOf};
 ghost use Rattle.journal_writer.specs.Written.{writeRefusal, written};
-ghost use Rattle.moatbetony.specs.Plain.{libraryVersion, stateVersion, plainAnswer, plainPairOutcome, plainPairFigures, plainHomeOutcome};
-ghost use Rattle.moatbetony.specs.Plain.{plainHomeFigures, plainBalance, plainRecord, plainEncoded, plainPart};
+ghost use Rattle.moatbetony.specs.Plain.{libraryVersion, stateVersion, plainAnswer, plainPairOutcome, plainPairFigures};
+ghost use Rattle.moatbetony.specs.Plain.{plainHomeOutcome, plainHomeFigures, plainBalance, plainRecord, plainEncoded, plainPart};
 ghost use Rattle.moatbetony.specs.Plain.{plainCount, plainBalances, plainPairPlaces, plainHomePlaces};
 ghost use Rattle.pair_core.specs.Layout.{acceptsPair, pairWordsChecker};
 ghost use Rattle.pair_validator.specs.Figures.{pairBalanceOf, pairFiguresOf, pairPlacesOf};

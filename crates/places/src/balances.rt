@@ -7,7 +7,7 @@ ghost use Rattle.places.specs.LedgerBalances.{zerosAt};
 ghost use Rattle.rules.specs.PairValidator.{countAllowed};
 use ledgers::Ledger;
 
-// An account's number as an index.
+// A number of 16 bits, an account's or an element of an index of numbers, as an index.
 pub fn as_index(x: u16) -> usize
     ensures { λ r. ⌜ r ≡ x ⌝ }
 {

@@ -1,5 +1,5 @@
-// An index of a ledger's numbers beside its table, so that the place of a number is found mostly without a scan: the chain of a number, and a
-// place as the index keeps it. What walks the chains is in crates/table.
+// An index of a ledger's numbers beside its table, so that the place of a number is found mostly without a scan: the chain of a number,
+// and a place as the index keeps it. What walks the chains is in crates/table.
 ghost use Prim.Native.Nat.{_+_, _%_, _<_};
 ghost use mathlib.Core.Path.{_≡_};
 ghost use Rattle.ledgers.specs.Limits.{capacity};

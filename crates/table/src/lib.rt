@@ -11,8 +11,8 @@ ghost use Rattle.places.specs.OverPlaces.{allAt, anyAt, apartAt};
 ghost use Rattle.records.specs.Records.{readingWords};
 ghost use Rattle.rules.specs.Lists.{lowered, raised};
 ghost use Rattle.table.specs.Table.{accountsBy, headBases, mayHold, mayHoldAt, receiverLimits, senderLimits, wordsAt};
-ghost use Rattle.table.specs.Table.{EmptyIndex, FlowsAt, IndexOf, backedAt, backedBy, flowBy, numberAt, numberedAt, sendingHead, sentAt};
-ghost use Rattle.table.specs.Table.{stored, withNumber, withWords};
+ghost use Rattle.table.specs.Table.{EmptyIndex, FlowsAt, IndexOf, backedAt, backedBy, flowBy, numberAt, numberedAt};
+ghost use Rattle.table.specs.Table.{sendingHead, sentAt, stored, withNumber, withWords};
 use ledgers::Ledger;
 use places::CHAINS;
 use places::Flows;
@@ -181,7 +181,7 @@ pub fn add_number(index: &mut [u16], base: usize, n: usize, x: u64)
     index[h] = next_place(n);
 }
 
-// Whether none of n records has the number; where so, it joins their index as that of the next place, whose element is zero yet.
+// Whether none of n records has the number; where so, it joins their index as that of the next place, whose element is still zero.
 fn add_if_unused<'a, 'b>(
     words: &'a [u64],
     index: &'b mut [u16],

@@ -20,6 +20,7 @@ const FFI: &str = "bindings/rust/src/ffi.rs";
 const EXPORTS: &str = "crates/moatbetony/src/lib.rt";
 const LEDGERS: &str = "crates/ledgers/src/lib.rt";
 const NUMBER_INDEX: &str = "crates/places/src/number_index.rt";
+const TABLE: &str = "crates/table/src/lib.rt";
 
 // A validator: its name here; the source that has its state's struct, and the one that has the words of its fields, with that crate's name;
 // the fields after the records with the constants for the words at which they start, in order, and under no name that for all words.
@@ -54,8 +55,8 @@ const HOME: Validator = Validator {
         ("balances", "BALANCES_WORD"),
         ("supply", "SUPPLY_WORD"),
         ("pool", "POOL_WORD"),
-        ("home_accounts", "HOMES_WORD"),
-        ("far_accounts", "FARS_WORD"),
+        ("home_accounts", "HOME_ACCOUNTS_WORD"),
+        ("far_accounts", "FAR_ACCOUNTS_WORD"),
         ("count", "COUNT_WORD"),
         ("", "WORDS"),
     ],
@@ -89,6 +90,7 @@ impl Sources {
         let mut constants = Constants::default();
         constants.read(&self.get(LEDGERS), "Ledger::")?;
         constants.read(&self.get(NUMBER_INDEX), "")?;
+        constants.read(&self.get(TABLE), "")?;
         for validator in [PAIR, HOME] {
             constants.read(&self.get(validator.core), validator.prefix)?;
         }

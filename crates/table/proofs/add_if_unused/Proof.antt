@@ -1,5 +1,5 @@
 -- `table::add_if_unused` meets its contract. Assumes nothing.
-use Rattle.wire.proofs.Prelude.{_∙_, _≡_, ap, arith, needs, not, refl, sym}
+use Rattle.wire.proofs.Prelude.{_∙_, ap, needs, not, refl, sym}
 use Rattle.table.proofs.Growing.{grown-first}
 use Rattle.table.proofs.Walking.{number-found, walk-end, walk-first}
 use Rattle.table.specs.Table.{numberedAt}
