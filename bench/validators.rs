@@ -178,7 +178,7 @@ impl Validator for Pair {
     }
 }
 
-// Whether each receiving of some records has its sending among others, whose numbers stand beside them.
+// Whether each arrival of some records has its sending among others, whose numbers stand beside them.
 fn is_backed(own: &[Held], other: &[Held], numbers: &[u64]) -> bool {
     own.iter().filter(|held| held.kind() == RECEIVING).all(|held| {
         let sends = |it: &Held| it.kind() == SENDING && it.accounts() == held.accounts() && it.amount == held.amount;
@@ -500,8 +500,8 @@ fn measure_one<V: Validator>(name: &str, number: fn(u64) -> u64) {
     let calls = [echo(&*full), one(&*full, &arrival, 41), one(&*nearly, &arrival, 0), figures(&*full), refused, passed, back];
     let t = medians(1001, calls.map(|call| (20, call)));
     println!("  {:<44} {:>9.0}", format!("echo, {name} numbers"), t[0]);
-    line("one record, refused with 41", t[1], t[1] / t[0], 7.0);
-    line("one record, passed", t[2], t[2] / t[0], 7.0);
+    free_line("one record, refused with 41", t[1], t[1] / t[0]);
+    free_line("one record, passed", t[2], t[2] / t[0]);
     free_line("one record in place, refused with 41", t[4], t[4] / t[0]);
     free_line("one record in place, passed", t[5] - t[6], (t[5] - t[6]) / t[0]);
     free_line("figures", t[3], t[3] / t[0]);
