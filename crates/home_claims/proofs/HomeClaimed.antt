@@ -2,8 +2,9 @@
 use Rattle.wire.proofs.Prelude.{List, _-_, _∙_, _≡_, ap, arith, dichotomy, inl, inr, leb, leb-false, leb-true, length, refl, sym, true, ℕ}
 use Rattle.answers.specs.Answers.{answer}
 use Rattle.home_claims.specs.Claims.{HomeCallsAsRules, HomeFullWhenNoneLeft, HomeInPlaceAsByValue, HomeListsAndRefusals, HomeRunsInPlaceAsByValue}
-use Rattle.home_claims.specs.Claims.{HomeOpenedAsRules, HomePlacesLeft, HomeStatesAnswer, HomeStatesStayAccepted, HomeStatesWithin}
-use Rattle.home_claims.specs.Claims.{HomeThreeExactly, HomeZeroRefused, homePassedOfRun, homePlacesLeft, homeStateOfRun}
+use Rattle.home_claims.specs.Claims.{HomeHeldAccountsOpen, HomeOpenedAsRules, HomePlacesLeft, HomeStatesAnswer, HomeStatesStayAccepted}
+use Rattle.home_claims.specs.Claims.{HomeStatesWithin, HomeTellsAccount, HomeThreeExactly, HomeZeroRefused, homePassedOfRun}
+use Rattle.home_claims.specs.Claims.{homePlacesLeft, homeStateOfRun}
 use Rattle.home_core.proofs.Accept.{length-held, sound-accepts, sound-of}
 use Rattle.home_core.proofs.Opened.{opened-sound, opened-view, zero-refused}
 use Rattle.home_core.proofs.Passing.{next-of}
@@ -13,6 +14,8 @@ use Rattle.home_validator.specs.declared.HomeValidator.{HomeValidator}
 use Rattle.ledgers.specs.Limits.{capacity}
 use Rattle.ledgers.specs.declared.Ledger.the-variants.{Home}
 use Rattle.records.specs.Records.{reading}
+use Rattle.rules.proofs.Accounts.{held-open, home-tells}
+use Rattle.rules.proofs.HomeAccepted.{home-accepts-facts}
 use Rattle.rules.proofs.HomeExactly.{exactly-when-possible}
 use Rattle.rules.proofs.HomePool.{within-pool}
 use Rattle.rules.proofs.ListCalls.{lists-in-turn}
@@ -21,7 +24,7 @@ use Rattle.rules.proofs.Parts.{call-unaccepted}
 use Rattle.rules.proofs.Refusals.{full-room, home-read, none-room}
 use Rattle.rules.proofs.Runs.{call-in-turn, never-both, one-passed, one-refused, refused-unaltered}
 use Rattle.rules.proofs.Simulation.{Agree, agree-call, simulation}
-use Rattle.rules.specs.Calls.{Call, InTurn, call, one, recordsOn}
+use Rattle.rules.specs.Calls.{Call, InTurn, call, callOne, one, recordsOn}
 use Rattle.rules.specs.HomeValidator.{ExactlyWhenPossible, HomeView, WithinPool, farPoolOf, homeAfter, homeOpened, homeValidator}
 
 -- ## The program's states follow the rules' states
@@ -104,6 +107,17 @@ home-states-answer s a b =
           let j = call-in-turn homeChecker s (one b) h .0 in
           rw (one-passed homeChecker s b a j) (same-after s b a j .1 ∙ ap (homeAfter (homeViewOfState s)) q);
     }
+
+-- 22 and 51 tell the account
+pub home-tells-account : HomeTellsAccount
+unfolding HomeTellsAccount call callOne
+home-tells-account s a b r q h = rw (a, q) (home-tells capacity (homeViewOfState s) r h)
+
+-- held records have both accounts open
+pub home-held-accounts-open : HomeHeldAccountsOpen
+unfolding HomeHeldAccountsOpen
+home-held-accounts-open s a =
+    held-open _ _ (home-accepts-facts capacity (homeViewOfState s) (sound-of (s .words) a .accepted) .allowed)
 
 -- lists in turn, and refusals
 pub home-lists-and-refusals : HomeListsAndRefusals

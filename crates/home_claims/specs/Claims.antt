@@ -1,5 +1,5 @@
--- What is claimed of the home validator's calls over the state that the program holds: the second half of demand 3, and what the places
--- left say of 41. Assumes nothing.
+-- What is claimed of the home validator's calls over the state that the program holds: the second half of demand 3, what 22 and 51 say
+-- of a record's accounts, and what the places left say of 41. Assumes nothing.
 use Prim.Native.Nat.{_+_, _<_, _≤_, suc, ℕ}
 use mathlib.Core.Bool.{false, true}
 use mathlib.Core.List.{List, _++_, _∷_}
@@ -13,15 +13,17 @@ use Rattle.home_validator.specs.Figures.{homeFiguresOf, homePlacesOf}
 use Rattle.home_validator.specs.State.{homeChecker, homeOpenedState, homeViewOfState, homeZeroState}
 use Rattle.home_validator.specs.declared.HomeValidator.{HomeValidator}
 use Rattle.home_validator.specs.declared.asked.HomePlaces.{HomePlaces}
+use Rattle.ledgers.specs.Ledgers.{ledgerOf}
 use Rattle.ledgers.specs.Limits.{capacity}
 use Rattle.ledgers.specs.declared.Kind.the-variants.{Receiving}
 use Rattle.ledgers.specs.declared.Ledger.the-variants.{Home}
 use Rattle.records.specs.Records.{reading}
 use Rattle.records.specs.declared.Reading.the-variants.{Read, Unreadable}
 use Rattle.records.specs.declared.Record.{Record}
+use Rattle.rules.specs.Accounts.{AccountsOpen, TellsAccount}
 use Rattle.rules.specs.Calls.{Call, CallBytes, ListsInTurn, RefusedUnaltered, call, handed, one, passedRecords, recordsOn, run}
-use Rattle.rules.specs.HomeValidator.{HomeRecord, Possible, farPoolOf, homeAfter, homeJudgeRecord, homeOpened, homeOpeningRefusal}
-use Rattle.rules.specs.HomeValidator.{homeValidator, received, sent}
+use Rattle.rules.specs.HomeValidator.{HomeRecord, Possible, farPoolOf, homeAccounts, homeAfter, homeJudgeRecord, homeOpened}
+use Rattle.rules.specs.HomeValidator.{homeOpeningRefusal, homeValidator, received, sent}
 use Rattle.rules.specs.Lists.{total}
 use Rattle.rules.specs.Rules.{opened}
 use Rattle.wire.specs.BigEndian.{All}
@@ -70,7 +72,7 @@ HomeThreeExactly =
 pub record HomeStateAnswers (s : HomeValidator) (b : List ℕ) : Type 0 where
   -- what does not read is refused 21
   pub unreadable : reading b ≡ Unreadable → call homeChecker s (one b) ≡ record { answer = Refused 21 0; state = s }
-  -- a record that 33, 22, 23, 24, 25 or 32 refuses is refused with that number
+  -- a record that 33, 22, 51, 23, 24, 25 or 32 refuses is refused with that number
   pub refuses-as : (r : Record) (n : ℕ) → reading b ≡ Read r → homeJudgeRecord (homeViewOfState s) r ≡ suc n
       → call homeChecker s (one b) ≡ record { answer = Refused (suc n) 0; state = s }
   -- any other is refused 41 where the table is full
@@ -87,6 +89,18 @@ pub record HomeStateAnswers (s : HomeValidator) (b : List ℕ) : Type 0 where
 unfoldable pub HomeStatesAnswer : Type 0
 HomeStatesAnswer =
     (s : HomeValidator) → acceptsHome (s .words) ≡ true → (b : List ℕ) → HomeStateAnswers s b
+
+-- DOCUMENT 02, U1: in every state that the home validator accepts, 22 and 51 tell which account of a home record that reads is not open
+unfoldable pub HomeTellsAccount : Type 0
+HomeTellsAccount =
+    (s : HomeValidator) → acceptsHome (s .words) ≡ true → (b : List ℕ) (r : Record) → reading b ≡ Read r → ledgerOf (r .kind) ≡ Home
+    → TellsAccount (homeAccounts (homeViewOfState s)) r (call homeChecker s (one b) .answer)
+
+-- and such a state holds no record with an account that is not open: it would be refused 3
+unfoldable pub HomeHeldAccountsOpen : Type 0
+HomeHeldAccountsOpen =
+    (s : HomeValidator) → acceptsHome (s .words) ≡ true
+    → All (AccountsOpen (homeAccounts (homeViewOfState s))) (homeViewOfState s .home .passed)
 
 -- a call with a list answers by its records in turn; a refusal of any call hands back the state handed in
 unfoldable pub HomeListsAndRefusals : Type 0

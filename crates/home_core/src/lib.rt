@@ -169,7 +169,7 @@ fn last_refusal(s: &[u64], r: Record) -> u32
     funds_refusal(s, BALANCES_WORD, s[HOME_ACCOUNTS_WORD] as usize, r)
 }
 
-// The refusals of a record that was read, 33 and 22 to 41 in order, or 0.
+// The refusals of a record that was read, 33, 22, 51 and 23 to 41 in order, or 0.
 pub fn judge<'a>(s: &'a [u64], index: &'a [u16], r: Record) -> u32
     requires { ⌜ HomeReady (now s) (now index) ⌝ }
     ensures { λ n. ⌜ n ≡ homeJudge capacity (homeViewOf (now (s .entry))) (Read r) ⌝ }
@@ -250,7 +250,7 @@ pub fn step<'a, 'b>(state: &'a mut [u64; WORDS], index: &'b mut [u16; INDEX], by
     0
 }
 
-// A call with one record, on a state lent: 3, 21, 33 and 22 to 41. A refusal leaves every word as it was.
+// A call with one record, on a state lent: 3, 21, 33, 22, 51 and 23 to 41. A refusal leaves every word as it was.
 pub fn take(state: &mut [u64; WORDS], bytes: &[u8]) -> Answer
     ensures answers { λ a. ⌜ a ≡ call homeWordsChecker (now (state .entry)) (one (now (bytes .entry))) .answer ⌝ }
     ensures leaves { λ a. ⌜ now (state .exit) ≡ call homeWordsChecker (now (state .entry)) (one (now (bytes .entry))) .state ⌝ }
@@ -266,7 +266,7 @@ pub fn take(state: &mut [u64; WORDS], bytes: &[u8]) -> Answer
     Answer::new(number, 0)
 }
 
-// A call with a list of records, on a state lent: 3, then of each record 21, 33 and 22 to 41. A refusal has its record's index, and
+// A call with a list of records, on a state lent: 3, then of each record 21, 33, 22, 51 and 23 to 41. A refusal has its record's index, and
 // leaves every word as it was.
 pub fn take_list(state: &mut [u64; WORDS], bytes: &[u8]) -> Answer
     ensures answers { λ a. ⌜ a ≡ call homeWordsChecker (now (state .entry)) (list (now (bytes .entry))) .answer ⌝ }

@@ -46,7 +46,7 @@ impl HomeValidator {
         }
     }
 
-    // A call with one record: 3, 21, 33 and 22 to 41. A refusal hands back the state as it came.
+    // A call with one record: 3, 21, 33, 22, 51 and 23 to 41. A refusal hands back the state as it came.
     pub fn check_record(mut self, bytes: &[u8]) -> HomeOutcome
         ensures answers { λ r. ⌜ r .answer ≡ call homeChecker self (one (now (bytes .entry))) .answer ⌝ }
         ensures hands_back { λ r. ⌜ r .state ≡ call homeChecker self (one (now (bytes .entry))) .state ⌝ }
@@ -58,7 +58,7 @@ impl HomeValidator {
         }
     }
 
-    // A call with a list of records: 3, then of each record 21, 33 and 22 to 41. A refusal has its record's index, and hands back the
+    // A call with a list of records: 3, then of each record 21, 33, 22, 51 and 23 to 41. A refusal has its record's index, and hands back the
     // state as it came.
     pub fn check_list(mut self, bytes: &[u8]) -> HomeOutcome
         ensures answers { λ r. ⌜ r .answer ≡ call homeChecker self (list (now (bytes .entry))) .answer ⌝ }

@@ -4,9 +4,9 @@ use Rattle.wire.proofs.Prelude.{true, ℕ}
 use Rattle.ledgers.specs.Ledgers.{ledgerByte, ledgerOf}
 use Rattle.ledgers.specs.Limits.{capacity}
 use Rattle.pair_claims.specs.Claims.{PairCallsAsRules, PairFullWhenNoneLeft, PairInPlaceAsByValue, PairListsAndRefusals, PairRunsInPlaceAsByValue}
-use Rattle.pair_claims.specs.Claims.{PairOpenedAsRules, PairPlacesLeft, PairStatesConserved, PairStatesFollowRules}
-use Rattle.pair_claims.specs.Claims.{PairStatesStayAccepted, PairThreeExactly, PairZeroRefused, leftOn, pairPassedOfRun}
-use Rattle.pair_claims.specs.Claims.{pairPlacesLeft, pairStateOfRun}
+use Rattle.pair_claims.specs.Claims.{PairHeldAccountsOpen, PairOpenedAsRules, PairPlacesLeft, PairStatesConserved, PairStatesFollowRules}
+use Rattle.pair_claims.specs.Claims.{PairStatesStayAccepted, PairTellsAccount, PairThreeExactly, PairZeroRefused, leftOn}
+use Rattle.pair_claims.specs.Claims.{pairPassedOfRun, pairPlacesLeft, pairStateOfRun}
 use Rattle.pair_core.proofs.Accept.{sound-accepts, sound-of}
 use Rattle.pair_core.proofs.Ledgers.{byte-below, length-held, state-on}
 use Rattle.pair_core.proofs.Opened.{opened-sound, opened-view, zero-refused}
@@ -15,15 +15,17 @@ use Rattle.pair_core.specs.Layout.{acceptsPair, pairWordsChecker}
 use Rattle.pair_validator.specs.State.{pairChecker, pairOpenedState, pairViewOfState, pairZeroState}
 use Rattle.pair_validator.specs.declared.PairValidator.{PairValidator}
 use Rattle.records.specs.Records.{reading}
+use Rattle.rules.proofs.Accounts.{held-open, pair-tells}
 use Rattle.rules.proofs.ListCalls.{lists-in-turn}
 use Rattle.rules.proofs.NeverThree.{never-3, pair-never-3}
+use Rattle.rules.proofs.PairAccepted.{accepts-facts}
 use Rattle.rules.proofs.PairConserved.{conserved}
 use Rattle.rules.proofs.PairRules.{as-the-rules}
 use Rattle.rules.proofs.Parts.{call-unaccepted}
 use Rattle.rules.proofs.Refusals.{full-room, pair-read}
 use Rattle.rules.proofs.Runs.{call-in-turn, never-both, one-passed, one-refused, refused-unaltered}
 use Rattle.rules.proofs.Simulation.{Agree, agree-call, simulation}
-use Rattle.rules.specs.Calls.{Call, InTurn, call, one}
+use Rattle.rules.specs.Calls.{Call, InTurn, call, callOne, one}
 use Rattle.rules.specs.Lists.{total}
 use Rattle.rules.specs.PairValidator.{AsTheRules, Conserved, PairView, inFlightOf, pairOpened, pairValidator}
 use Rattle.rules.specs.Rules.{Far, Home, Ledger, afterBytes, inFlight, judgeBytes, stateOf}
@@ -108,6 +110,17 @@ pair-states-follow-rules s a b =
       refuses-full = λ r q j f. one-refused pairChecker s b 40 a (rw q (simp (j, full-room)));
       gives = λ h. let j = call-in-turn pairChecker s (one b) h .0 in rw (one-passed pairChecker s b a j) (same-after s b a j .1);
     }
+
+-- 22 and 51 tell the account
+pub pair-tells-account : PairTellsAccount
+unfolding PairTellsAccount call callOne
+pair-tells-account s a b r q = rw (a, q) (pair-tells capacity (pairViewOfState s .pair) r)
+
+-- held records have both accounts open
+pub pair-held-accounts-open : PairHeldAccountsOpen
+unfolding PairHeldAccountsOpen
+pair-held-accounts-open s a l =
+    held-open _ _ (accepts-facts capacity (pairViewOfState s) (sound-of (s .words) a .accepted) .ledgers l .allowed)
 
 -- lists in turn, and refusals
 pub pair-lists-and-refusals : PairListsAndRefusals

@@ -1,5 +1,5 @@
--- What is claimed of the pair validator's calls over the state that the program holds: demand 2, the first half of demand 3, and what
--- the places left say of 41. Assumes nothing.
+-- What is claimed of the pair validator's calls over the state that the program holds: demand 2, the first half of demand 3, what 22 and
+-- 51 say of a record's accounts, and what the places left say of 41. Assumes nothing.
 use Prim.Native.Nat.{_+_, _<_, _≤_, suc, ℕ}
 use mathlib.Core.Bool.{false, true}
 use mathlib.Core.List.{List}
@@ -20,10 +20,12 @@ use Rattle.pair_validator.specs.declared.asked.PairPlaces.{PairPlaces}
 use Rattle.records.specs.Records.{reading}
 use Rattle.records.specs.declared.Reading.the-variants.{Read, Unreadable}
 use Rattle.records.specs.declared.Record.{Record}
+use Rattle.rules.specs.Accounts.{AccountsOpen, TellsAccount}
 use Rattle.rules.specs.Calls.{Call, ListsInTurn, RefusedUnaltered, call, one, passedRecords, recordsOn, run}
 use Rattle.rules.specs.Lists.{total}
 use Rattle.rules.specs.PairValidator.{inFlightOf, pairOpened, pairOpeningRefusal, pairValidator}
-use Rattle.rules.specs.Rules.{afterBytes, judge, judgeBytes, stateOf}
+use Rattle.rules.specs.Rules.{accountsOf, afterBytes, judge, judgeBytes, stateOf}
+use Rattle.wire.specs.BigEndian.{All}
 
 -- ## The rules' calls
 
@@ -87,6 +89,18 @@ pub record PairStateFollowsRules (s : PairValidator) (b : List ℕ) : Type 0 whe
 -- DEMAND 2, of the program's states: in every state that the pair validator accepts, and for every byte string
 unfoldable pub PairStatesFollowRules : Type 0
 PairStatesFollowRules = (s : PairValidator) → acceptsPair (s .words) ≡ true → (b : List ℕ) → PairStateFollowsRules s b
+
+-- DOCUMENT 02, U1: in every state that the pair validator accepts, 22 and 51 tell which account of a record that reads is not open
+unfoldable pub PairTellsAccount : Type 0
+PairTellsAccount =
+    (s : PairValidator) → acceptsPair (s .words) ≡ true → (b : List ℕ) (r : Record) → reading b ≡ Read r
+    → TellsAccount (accountsOf (pairViewOfState s .pair)) r (call pairChecker s (one b) .answer)
+
+-- and such a state holds no record with an account that is not open: it would be refused 3
+unfoldable pub PairHeldAccountsOpen : Type 0
+PairHeldAccountsOpen =
+    (s : PairValidator) → acceptsPair (s .words) ≡ true → (l : Ledger)
+    → All (AccountsOpen (accountsOf (pairViewOfState s .pair))) (stateOf l (pairViewOfState s .pair) .passed)
 
 -- a call with a list answers by its records in turn; a refusal of any call hands back the state handed in
 unfoldable pub PairListsAndRefusals : Type 0

@@ -245,7 +245,7 @@ fn last_refusal<'a>(s: &'a [u64], index: &'a [u16], w: Words, r: Record) -> u32
     )
 }
 
-// The refusals of a record that was read, 22 to 41 in order, or 0.
+// The refusals of a record that was read, 22, 51 and 23 to 41 in order, or 0.
 pub fn judge<'a>(s: &'a [u64], index: &'a [u16], w: Words, r: Record) -> u32
     requires { ⌜ PairReady (now s) (now index) × (formed w ≡ true) × (recordIn w ≡ r) ⌝ }
     ensures { λ n. ⌜ n ≡ pairJudge capacity (pairViewOf (now (s .entry)) .pair) (Read r) ⌝ }
@@ -329,7 +329,7 @@ pub fn step<'a, 'b>(state: &'a mut [u64; WORDS], index: &'b mut [u16; INDEXES], 
     0
 }
 
-// A call with one record, on a state lent: 3, 21 and 22 to 41. A refusal leaves every word as it was.
+// A call with one record, on a state lent: 3, 21, 22, 51 and 23 to 41. A refusal leaves every word as it was.
 pub fn take(state: &mut [u64; WORDS], bytes: &[u8]) -> Answer
     ensures answers { λ a. ⌜ a ≡ call pairWordsChecker (now (state .entry)) (one (now (bytes .entry))) .answer ⌝ }
     ensures leaves { λ a. ⌜ now (state .exit) ≡ call pairWordsChecker (now (state .entry)) (one (now (bytes .entry))) .state ⌝ }
@@ -345,8 +345,8 @@ pub fn take(state: &mut [u64; WORDS], bytes: &[u8]) -> Answer
     Answer::new(number, 0)
 }
 
-// A call with a list of records, on a state lent: 3, then of each record 21 and 22 to 41. A refusal has its record's index, and leaves
-// every word as it was.
+// A call with a list of records, on a state lent: 3, then of each record 21, 22, 51 and 23 to 41. A refusal has its record's index, and
+// leaves every word as it was.
 pub fn take_list(state: &mut [u64; WORDS], bytes: &[u8]) -> Answer
     ensures answers { λ a. ⌜ a ≡ call pairWordsChecker (now (state .entry)) (list (now (bytes .entry))) .answer ⌝ }
     ensures leaves { λ a. ⌜ now (state .exit) ≡ call pairWordsChecker (now (state .entry)) (list (now (bytes .entry))) .state ⌝ }

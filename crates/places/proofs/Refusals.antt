@@ -1,7 +1,7 @@
 -- Refusals by the balances of a list, and one refusal after others, as the rules say. Assumes nothing.
-use Rattle.wire.proofs.Prelude.{Bool, List, _∙_, _≡_, ap, drop, leb, not, sym, take, ℕ}
+use Rattle.wire.proofs.Prelude.{Bool, List, _∙_, _≡_, drop, sym, take, ℕ}
 use Rattle.answers.proofs.Answers.{refuse-later}
-use Rattle.answers.specs.Answers.{orElse, refuse}
+use Rattle.answers.specs.Answers.{orElse}
 use Rattle.ledgers.specs.Ledgers.{receiverLedger, senderLedger}
 use Rattle.ledgers.specs.Limits.{capacity}
 use Rattle.places.proofs.PassedRecord.{balance-part}
@@ -10,18 +10,11 @@ use Rattle.rules.specs.Lists.{any}
 use Rattle.rules.specs.PairValidator.{roomRefusal}
 use Rattle.rules.specs.Rules.{Ledger, Record, clashes, firstRefusal, fundsRefusal}
 
--- a refusal after 22, 23, 24 and the later ones
+-- a refusal after 22, 51, 23, 24 and the later ones
 pub first-else : (accounts : Ledger → ℕ) (passed : List Record) (r : Record) (later x : ℕ)
     → orElse (firstRefusal accounts passed r later) x ≡ firstRefusal accounts passed r (orElse later x)
 unfolding firstRefusal
-first-else accounts passed r later x =
-    refuse-later (leb (accounts (senderLedger (r .kind))) (r .sender)) 21 _ x
-    ∙ ap (refuse (leb (accounts (senderLedger (r .kind))) (r .sender)) 22)
-    (refuse-later (leb (accounts (receiverLedger (r .kind))) (r .receiver)) 21 _ x
-    ∙ ap (refuse (leb (accounts (receiverLedger (r .kind))) (r .receiver)) 22)
-    (refuse-later (not (r .verified)) 22 _ x
-    ∙ ap (refuse (not (r .verified)) 23)
-    (refuse-later (any (clashes r) passed) 23 later x)))
+first-else accounts passed r later x = rw (refuse-later, refuse-later, refuse-later, refuse-later)
 
 -- the refusals of a record in order, 41 last, from those that were worked out
 pub judged-by : (accounts : Ledger → ℕ) (passed : List Record) (r : Record) (x : ℕ) {senders receivers last full later n : ℕ} {taken : Bool}

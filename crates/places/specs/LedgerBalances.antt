@@ -1,5 +1,5 @@
--- The balances of a ledger, which stand in a list from a place on: zeros, one balance, a record that moves them, and refusals 22 to 25
--- by them. Assumes nothing.
+-- The balances of a ledger, which stand in a list from a place on: zeros, one balance, a record that moves them, and a record's
+-- refusals up to 25 by them. Assumes nothing.
 use Prim.Native.Nat.{_+_, _-_, ℕ}
 use mathlib.Core.Bool.{Bool, cond, not}
 use mathlib.Core.List.{List, _++_}
@@ -39,11 +39,11 @@ movedAt balances from r = moved balances (placed from r) (r .kind)
 
 -- ## Judging a record, for inner functions only: proved to be what the rules say (Judging of crates/home_core and crates/pair_core)
 
--- 22 by the accounts of the sender's and the receiver's ledger, 23, 24 where its number is used, then the later refusals
+-- 22 by the accounts of the sender's ledger, 51 by those of the receiver's, 23, 24 where its number is used, then the later refusals
 unfoldable pub firstBy : ℕ → ℕ → Record → Bool → ℕ → ℕ
 firstBy senders receivers r isUsed later =
     refuse (leb senders (r .sender)) 22
-    (refuse (leb receivers (r .receiver)) 22
+    (refuse (leb receivers (r .receiver)) 51
     (refuse (not (r .verified)) 23
     (refuse isUsed 24
     later)))

@@ -1,5 +1,5 @@
-// Refusals 22 to 25 of a record, by the accounts of its ledgers and by balances lent as a slice: those of a ledger stand at n places
-// from a place `from` on, within the slice.
+// Refusals 22, 51 and 23 to 25 of a record, by the accounts of its ledgers and by balances lent as a slice: those of a ledger stand at
+// n places from a place `from` on, within the slice.
 ghost use Prim.Native.Nat.{_+_, _≤_};
 ghost use mathlib.Core.Path.{_≡_};
 ghost use lib.ListN.{length};
@@ -9,16 +9,17 @@ use answers::refusal_if;
 use places::as_index;
 use records::Record;
 
-// 22 by the accounts of the sender's and the receiver's ledger, 23, 24 where the number is used, then the later refusals, or 0.
+// 22 by the accounts of the sender's ledger, 51 by those of the receiver's, 23, 24 where the number is used, then the later refusals,
+// or 0.
 pub fn first_refusals(senders: usize, receivers: usize, r: Record, is_used: bool, later: u32) -> u32
     ensures { λ k. ⌜ k ≡ firstBy senders receivers r «is_used» later ⌝ }
 {
     let sender = refusal_if(senders <= as_index(r.sender), 22);
-    let receiver = refusal_if(receivers <= as_index(r.receiver), 22);
+    let receiver = refusal_if(receivers <= as_index(r.receiver), 51);
     let unverified = refusal_if(!r.verified, 23);
     let number = refusal_if(is_used, 24);
     first_refusal(
-        sender,
+        sender, // before 51
         first_refusal(
             receiver, // before 23
             first_refusal(unverified, first_refusal(number, later)),

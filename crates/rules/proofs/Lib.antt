@@ -21,5 +21,7 @@ pub mod Lacking
 pub mod FarList
 pub mod HomeExactly
 pub mod ValidityLanguage
+pub mod Numbers
 pub mod NeverThree
+pub mod Accounts
 pub mod Parts

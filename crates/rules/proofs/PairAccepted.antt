@@ -54,7 +54,7 @@ facts-accepts capacity v a =
 
 -- ## A record that passes
 
--- a record that 21, 22 and 23 do not refuse may be held
+-- a record that 21, 22, 51 and 23 do not refuse may be held
 pub allowed-held : (accounts : Ledger → ℕ) (passed : List Record) (r : Record)
     → Allowed (accounts (senderLedger (r .kind))) (accounts (receiverLedger (r .kind))) passed r
     → (0 < r .amount) × (r .amount ≤ maxAmount) → heldAllowed accounts r ≡ true

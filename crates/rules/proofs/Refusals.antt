@@ -11,7 +11,7 @@ use Rattle.rules.specs.Rules.{Far, Home, Kind, Ledger, Local, Read, Read
 use Rattle.rules.specs.Rules.{LedgerState, PairState, accountsOf, clashes, debit, firstRefusal, fundsRefusal, matches, stateOf}
 use Rattle.rules.specs.Rules.{judge, lastRefusal, matchRefusal}
 
--- ## 22, 23 and 24
+-- ## 22, 51, 23 and 24
 
 -- what they leave of a record, with the accounts of the sender's and the receiver's ledger and the records passed on its own
 pub record Allowed (senders receivers : ℕ) (passed : List Record) (r : Record) : Type 0 where
@@ -25,10 +25,10 @@ pub first-none : (accounts : Ledger → ℕ) (passed : List Record) (r : Record)
     → Allowed (accounts (senderLedger (r .kind))) (accounts (receiverLedger (r .kind))) passed r × (later ≡ 0)
 unfolding firstRefusal
 first-none accounts passed r later h =
-    let s = refuse-zero _ 22 _ (lit< tt) h in
-    let t = refuse-zero _ 22 _ (lit< tt) (s .1) in
-    let u = refuse-zero _ 23 _ (lit< tt) (t .1) in
-    let v = refuse-zero _ 24 later (lit< tt) (u .1) in (
+    let s = refuse-zero _ _ _ (lit< tt) h in
+    let t = refuse-zero _ _ _ (lit< tt) (s .1) in
+    let u = refuse-zero _ _ _ (lit< tt) (t .1) in
+    let v = refuse-zero _ _ later (lit< tt) (u .1) in (
       record { sender-open = leb-false _ _ (s .0); receiver-open = leb-false _ _ (t .0); signed = not-false _ (u .0); fresh = v .0 },
       v .1,
     )

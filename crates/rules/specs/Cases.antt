@@ -1,5 +1,5 @@
--- The starred cases of document 01 as rows of one table, and rows of our own: the order of refusals, matches that look near
--- enough, openings, and states that refusal 3 has something against. Assumes nothing.
+-- The starred cases of document 01 as rows of one table, and rows of our own: accounts that are not open, the order of refusals,
+-- matches that look near enough, openings, and states that refusal 3 has something against. Assumes nothing.
 use Prim.Native.Nat.{ℕ, _-_, _^_}
 use mathlib.Core.Path.{_≡_}
 use mathlib.Core.Bool.{Bool, true, false, _&&_, not}
@@ -137,19 +137,68 @@ cases =
 
 -- ## Rows of our own
 
+-- of each kind on each ledger the sender's account alone, the receiver's alone and both not open; home has accounts 0 and 1, far has
+-- account 0 only, so that 1 is open for those at home alone (document 02, U1; Refusals: 22)
+unfoldable pub accountRows : List CaseRow
+accountRows =
+    refusalRow 0 [] (good (Local Home) 2 1 1 1) 22
+    ∷ refusalRow 0 [] (good (Local Home) 1 2 1 1) 51
+    ∷ refusalRow 0 [] (good (Local Home) 2 2 1 1) 22
+    ∷ refusalRow 0 [] (good (Local Far) 1 0 1 1) 22
+    ∷ refusalRow 0 [] (good (Local Far) 0 1 1 1) 51
+    ∷ refusalRow 0 [] (good (Local Far) 1 1 1 1) 22
+    ∷ refusalRow 0 [] (good (Sending Home) 2 0 1 1) 22
+    ∷ refusalRow 0 [] (good (Sending Home) 1 1 1 1) 51
+    ∷ refusalRow 0 [] (good (Sending Home) 2 1 1 1) 22
+    ∷ refusalRow 0 [] (good (Sending Far) 1 1 1 1) 22
+    ∷ refusalRow 0 [] (good (Sending Far) 0 2 1 1) 51
+    ∷ refusalRow 0 [] (good (Sending Far) 1 2 1 1) 22
+    ∷ refusalRow 0 [] (good (Receiving Home) 1 1 1 1) 22
+    ∷ refusalRow 0 [] (good (Receiving Home) 0 2 1 1) 51
+    ∷ refusalRow 0 [] (good (Receiving Home) 1 2 1 1) 22
+    ∷ refusalRow 0 [] (good (Receiving Far) 2 0 1 1) 22
+    ∷ refusalRow 0 [] (good (Receiving Far) 1 1 1 1) 51
+    ∷ refusalRow 0 [] (good (Receiving Far) 2 1 1 1) 22
+    ∷ homeRow 0 [] (good (Local Home) 2 1 1 1) 22
+    ∷ homeRow 0 [] (good (Local Home) 1 2 1 1) 51
+    ∷ homeRow 0 [] (good (Local Home) 2 2 1 1) 22
+    ∷ homeRow 0 [] (good (Sending Home) 2 0 1 1) 22
+    ∷ homeRow 0 [] (good (Sending Home) 1 1 1 1) 51
+    ∷ homeRow 0 [] (good (Sending Home) 2 1 1 1) 22
+    ∷ homeRow 0 [] (good (Receiving Home) 1 1 1 1) 22
+    ∷ homeRow 0 [] (good (Receiving Home) 0 2 1 1) 51
+    ∷ homeRow 0 [] (good (Receiving Home) 1 2 1 1) 22
+    ∷ passRow 0 [] (good (Sending Home) 1 0 1 1) (100 ∷ 49 ∷ []) (20 ∷ []) 1
+    ∷ passRow 0 [] (good (Sending Far) 0 1 1 1) (100 ∷ 50 ∷ []) (19 ∷ []) 1
+    ∷ passRow 0 (good (Sending Home) 1 0 1 1 ∷ []) (good (Receiving Far) 1 0 1 1) (100 ∷ 49 ∷ []) (21 ∷ []) 0
+    ∷ passRow 0 (good (Sending Far) 0 1 1 1 ∷ []) (good (Receiving Home) 0 1 1 1) (100 ∷ 51 ∷ []) (19 ∷ []) 0
+    ∷ homeRow 0 [] (good (Sending Home) 1 0 1 1) 0
+    ∷ homeRow 0 [] (good (Receiving Home) 0 1 1 1) 0
+    ∷ []
+
 -- neighbouring refusals where both are due: the earlier is given (Refusals: order)
 unfoldable pub orderRows : List CaseRow
 orderRows =
     refusalRow 0 [] (good (Local Home) 2 2 1 0) 21
+    ∷ refusalRow 0 [] (good (Local Home) 0 2 1 0) 21
     ∷ refusalRow 0 [] (bad (Local Home) 2 0 1 1) 22
-    ∷ refusalRow 0 [] (bad (Local Home) 0 2 1 1) 22
+    ∷ refusalRow 0 [] (bad (Local Home) 2 2 1 1) 22
+    ∷ refusalRow 0 [] (bad (Local Home) 0 2 1 1) 51
+    ∷ refusalRow 0 [] (bad (Sending Home) 0 1 1 1) 51
+    ∷ refusalRow 0 [] (bad (Receiving Far) 0 1 1 1) 51
+    ∷ refusalRow 0 (good (Local Home) 0 0 1 1 ∷ []) (good (Local Home) 0 2 1 101) 51
     ∷ refusalRow 0 (good (Sending Home) 0 0 1 1 ∷ []) (bad (Sending Home) 0 0 1 1) 23
     ∷ refusalRow 0 (good (Local Home) 0 0 1 1 ∷ []) (good (Local Home) 0 0 1 101) 24
     ∷ refusalRow 0 (good (Local Far) 0 0 1 1 ∷ []) (good (Receiving Far) 0 0 1 1) 24
     ∷ homeRow 0 [] (good (Local Far) 0 0 1 0) 21
+    ∷ homeRow 0 [] (good (Local Home) 0 2 1 0) 21
     ∷ homeRow 0 [] (good (Local Far) 2 2 1 1) 33
+    ∷ homeRow 0 [] (good (Local Far) 0 2 1 1) 33
     ∷ homeRow 0 [] (bad (Local Home) 2 0 1 1) 22
-    ∷ homeRow 0 [] (bad (Receiving Home) 0 2 1 1) 22
+    ∷ homeRow 0 [] (bad (Local Home) 2 2 1 1) 22
+    ∷ homeRow 0 [] (bad (Sending Home) 0 1 1 1) 51
+    ∷ homeRow 0 [] (bad (Receiving Home) 0 2 1 1) 51
+    ∷ homeRow 0 (good (Local Home) 0 0 1 1 ∷ []) (good (Receiving Home) 0 2 1 21) 51
     ∷ homeRow 0 (good (Local Home) 0 0 1 1 ∷ []) (bad (Local Home) 0 0 1 1) 23
     ∷ homeRow 0 (good (Local Home) 0 0 1 1 ∷ []) (good (Sending Home) 0 0 1 101) 24
     ∷ homeRow 0 (good (Local Home) 0 0 1 1 ∷ []) (good (Receiving Home) 0 0 1 21) 24
@@ -163,9 +212,6 @@ nearRows =
     ∷ refusalRow 0 (good (Sending Home) 0 0 7 30 ∷ []) (good (Receiving Far) 0 0 8 30) 31
     ∷ refusalRow 0 (good (Local Home) 0 0 7 30 ∷ []) (good (Receiving Far) 0 0 7 30) 31
     ∷ refusalRow 0 [] (good (Receiving Far) 0 0 0 30) 31
-    ∷ refusalRow 0 [] (good (Sending Home) 0 1 1 1) 22
-    ∷ passRow 0 [] (good (Sending Far) 0 1 1 1) (100 ∷ 50 ∷ []) (19 ∷ []) 1
-    ∷ homeRow 0 [] (good (Sending Home) 0 1 1 1) 22
     ∷ homeRow 0 [] (good (Local Home) 1 0 1 51) 25
     ∷ passRow 0 [] (good (Sending Home) 1 0 0 50) (100 ∷ 0 ∷ []) (20 ∷ []) 50
     ∷ refusalRow 0 (good (Sending Home) 1 0 0 50 ∷ []) (good (Local Home) 0 0 0 1) 24
@@ -224,7 +270,12 @@ stateRows =
     ∷ stateRow 2 (pairHolding (heldRecord (Local Home) 0 1 1 (2 ^ 63) true ∷ []) [] 170) false
     ∷ stateRow 2 (pairHolding (heldRecord (Local Home) 2 1 1 1 true ∷ []) [] 170) false
     ∷ stateRow 2 (pairHolding (heldRecord (Local Home) 0 2 1 1 true ∷ []) [] 170) false
+    ∷ stateRow 2 (pairHolding (heldRecord (Local Home) 2 2 1 1 true ∷ []) [] 170) false
     ∷ stateRow 2 (pairHolding (heldRecord (Sending Home) 0 1 1 1 true ∷ []) [] 171) false
+    ∷ stateRow 2 (pairHolding [] (heldRecord (Local Far) 1 0 1 1 true ∷ []) 170) false
+    ∷ stateRow 2 (pairHolding [] (heldRecord (Local Far) 0 1 1 1 true ∷ []) 170) false
+    ∷ stateRow 2 (pairHolding [] (heldRecord (Sending Far) 0 1 1 1 true ∷ []) 171) true
+    ∷ stateRow 2 (pairHolding [] (heldRecord (Sending Far) 1 1 1 1 true ∷ []) 171) false
     ∷ stateRow 2 (pairHolding (heldRecord (Local Home) 0 1 1 1 false ∷ []) [] 170) false
     ∷ stateRow 2 (pairHolding (heldRecord (Local Home) 0 1 1 1 true ∷ heldRecord (Local Home) 1 0 1 2 true ∷ []) [] 170) false
     ∷ stateRow 2 (pairHolding [] (heldRecord (Local Far) 0 0 1 1 true ∷ heldRecord (Local Far) 0 0 1 2 true ∷ []) 170) false
@@ -241,7 +292,11 @@ stateRows =
     ∷ homeStateRow 0 (homeHolding (heldRecord (Local Home) 0 1 1 1 true ∷ []) 1 20 170) false
     ∷ homeStateRow 1 (homeHolding [] 1 (2 ^ 63 - 150) (2 ^ 63)) false
     ∷ homeStateRow 1 (homeHolding (heldRecord (Local Home) 0 1 1 0 true ∷ []) 1 20 170) false
+    ∷ homeStateRow 1 (homeHolding (heldRecord (Local Home) 2 0 1 1 true ∷ []) 1 20 170) false
+    ∷ homeStateRow 1 (homeHolding (heldRecord (Local Home) 0 2 1 1 true ∷ []) 1 20 170) false
+    ∷ homeStateRow 1 (homeHolding (heldRecord (Sending Home) 0 1 1 1 true ∷ []) 1 20 170) false
     ∷ homeStateRow 1 (homeHolding (heldRecord (Receiving Home) 1 0 8 5 true ∷ []) 1 20 170) false
+    ∷ homeStateRow 1 (homeHolding (heldRecord (Receiving Home) 0 2 8 5 true ∷ []) 1 20 170) false
     ∷ homeStateRow 1 (homeHolding (heldRecord (Local Home) 0 1 1 1 false ∷ []) 1 20 170) false
     ∷ homeStateRow 2 (homeHolding (heldRecord (Local Home) 0 1 1 1 true ∷ heldRecord (Local Home) 1 0 1 2 true ∷ []) 1 20 170) false
     ∷ homeStateRow 1 (homeHolding (heldRecord (Local Far) 0 0 1 1 true ∷ []) 1 20 170) false
@@ -257,4 +312,4 @@ CasesHold = all holds cases ≡ true
 
 -- and every row of our own
 unfoldable pub FurtherRowsHold : Type 0
-FurtherRowsHold = all holds (orderRows ++ (nearRows ++ (openingRows ++ stateRows))) ≡ true
+FurtherRowsHold = all holds (accountRows ++ (orderRows ++ (nearRows ++ (openingRows ++ stateRows)))) ≡ true

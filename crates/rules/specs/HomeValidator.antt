@@ -217,7 +217,7 @@ HomeKeepsAccepted = (capacity : ℕ) → KeepsAccepted (homeValidator capacity)
 pub record HomeAnswers (capacity : ℕ) (v : HomeView) (b : List ℕ) : Type 0 where
   -- what does not read is refused 21
   pub unreadable : reading b ≡ Unreadable → call (homeValidator capacity) v (one b) ≡ record { answer = Refused 21 0; state = v }
-  -- a record that 33, 22, 23, 24, 25 or 32 refuses is refused with that number
+  -- a record that 33, 22, 51, 23, 24, 25 or 32 refuses is refused with that number
   pub refuses-as : (r : Record) (n : ℕ) → reading b ≡ Read r → homeJudgeRecord v r ≡ suc n
       → call (homeValidator capacity) v (one b) ≡ record { answer = Refused (suc n) 0; state = v }
   -- any other is refused 41 where the table is full

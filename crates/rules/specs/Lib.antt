@@ -5,5 +5,6 @@ pub mod Rules
 pub mod Calls
 pub mod PairValidator
 pub mod HomeValidator
+pub mod Accounts
 pub mod Cases
 pub mod Beyond

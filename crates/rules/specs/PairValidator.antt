@@ -51,7 +51,7 @@ countAllowed n = every (ltb 0 n ∷ leb n accountLimit ∷ [])
 unfoldable pub supplyAllowed : ℕ → Bool
 supplyAllowed supply = leb supply maxAmount
 
--- a held record that 21 (by its amount), 22 and 23 would not refuse, with each ledger's number of accounts
+-- a held record that 21 (by its amount), 22, 51 and 23 would not refuse, with each ledger's number of accounts
 unfoldable pub heldAllowed : (Ledger → ℕ) → Record → Bool
 heldAllowed accounts r =
     every (ltb 0 (r .amount) ∷ leb (r .amount) maxAmount ∷ eqb (firstRefusal accounts [] r 0) 0 ∷ [])

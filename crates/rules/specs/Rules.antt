@@ -94,13 +94,13 @@ matches r x =
     ∷ []
     )
 
--- with each ledger's number of accounts and the records passed on the record's ledger: an account that is not open, the sender's
--- first (22), a bad signature (23; Algorithm 2, line 7), a clash (24; lines 12 and 21, which count over both ledgers)
--- (Rules: accounts, verdict, number)
+-- with each ledger's number of accounts and the records passed on the record's ledger: a sender's account that is not open (22), a
+-- receiver's that is not (51; document 02, U1), a bad signature (23; Algorithm 2, line 7), a clash (24; lines 12 and 21, which count
+-- over both ledgers) (Rules: accounts, verdict, number)
 unfoldable pub firstRefusal : (Ledger → ℕ) → List Record → Record → ℕ → ℕ
 firstRefusal accounts passed r later =
     refuse (leb (accounts (senderLedger (r .kind))) (r .sender)) 22
-    (refuse (leb (accounts (receiverLedger (r .kind))) (r .receiver)) 22
+    (refuse (leb (accounts (receiverLedger (r .kind))) (r .receiver)) 51
     (refuse (not (r .verified)) 23
     (refuse (any (clashes r) passed) 24
     later)))

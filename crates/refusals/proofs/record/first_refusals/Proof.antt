@@ -22,7 +22,7 @@ returns c =
     let sender = c9 .refusal-if .ensures ∙ ap (λ (k : ℕ). refuse (leb (a .senders) k) 22 0) (c9 .before .as-index .ensures) in
     let receiver =
     c7 .refusal-if2 .ensures
-    ∙ ap (λ (k : ℕ). refuse (leb (a .receivers) k) 22 0) (c7 .before .as-index2 .ensures) in
+    ∙ ap (λ (k : ℕ). refuse (leb (a .receivers) k) 51 0) (c7 .before .as-index2 .ensures) in
     let signature = c4 .before .refusal-if3 .ensures in
     let number = c4 .refusal-if4 .ensures in
     let e24 =
@@ -30,8 +30,8 @@ returns c =
     ∙ ap (λ (k : ℕ). orElse k (a .later)) number
     ∙ refuse-else isUsed 24 (a .later) (omega arith) in
     let e23 = c .before .before .first-refusal2 .ensures ∙ ap₂ orElse signature e24 ∙ refuse-else unverified 23 from24 (omega arith) in
-    let e22 = c .before .first-refusal3 .ensures ∙ ap₂ orElse receiver e23 ∙ refuse-else noReceiver 22 from23 (omega arith) in
-    c .first-refusal4 .ensures ∙ ap₂ orElse sender e22 ∙ refuse-else noSender 22 (refuse noReceiver 22 from23) (omega arith)
+    let e51 = c .before .first-refusal3 .ensures ∙ ap₂ orElse receiver e23 ∙ refuse-else noReceiver 51 from23 (omega arith) in
+    c .first-refusal4 .ensures ∙ ap₂ orElse sender e51 ∙ refuse-else noSender 22 (refuse noReceiver 51 from23) (omega arith)
 
 pub first-refusals-spec : {M : Type 1} → statement M
 first-refusals-spec = tie.close (tie.spec (λ c κs. search needs) (λ c κs. search needs) (λ c κs. search needs) (λ c κs. search needs)
