@@ -220,6 +220,9 @@ static void serve_customers(const char *path, moatbetony_home_t *state)
     serve(path, state, "the same record again", payment(1, 30), 32, 1);
     serve(path, state, "a payment of 500", payment(2, 500), 32, 1);
     serve(path, state, "a payment to account 9", wire(LOCAL, HOME, 0, 9, 2, 30), 32, 1);
+    serve(path, state, "a payment from account 9", wire(LOCAL, HOME, 9, OURS, 2, 30), 32, 1);
+    serve(path, state, "a payment from account 9 to account 9", wire(LOCAL, HOME, 9, 9, 2, 30), 32, 1);
+    serve(path, state, "a sending to far account 1", wire(SENDING, HOME, OURS, 1, 2, 30), 32, 1);
     serve(path, state, "a payment with a bad signature", payment(2, 30), 32, 0);
     serve(path, state, "a payment cut off after 31 bytes", payment(2, 30), 31, 1);
     serve(path, state, "a record of the far ledger", wire(LOCAL, FAR_LEDGER, 0, 0, 2, 30), 32, 1);

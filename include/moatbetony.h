@@ -1,11 +1,11 @@
 /*
- * Moatbetony 0.3.0: a proved checker of two linked ledgers that trade one credit.
+ * Moatbetony 0.4.0: a proved checker of two linked ledgers that trade one credit.
  *
  * A home ledger, and a far ledger run by people nobody here has met, hand in records of 32 bytes. The pair validator (pair book)
  * sees the records of both in one order; the home validator (guard) sees those of home alone. Every call answers passed, or one
  * refusal with its number and place. Hand nothing over on a refusal, and on passed only what the record pays for:
  *
- *     if (moatbetony_version() != MOATBETONY_VERSION) exit(1);                      (once: another library has other states)
+ *     if (moatbetony_version() != MOATBETONY_VERSION) exit(1);                      (once: another library has other states or refusals)
  *     moatbetony_home_outcome_t opened = moatbetony_home_open(home_balances, home_accounts, far_accounts, far_total);
  *     moatbetony_home_t state = opened.state;                                       (after opened.answer.passed was tested)
  *     record[24] = signature_good;                                                  (1 or 0, of your own check: SIGNATURES)
@@ -85,9 +85,9 @@ extern "C" {
 /* ## Constants */
 
 #define MOATBETONY_VERSION_MAJOR 0
-#define MOATBETONY_VERSION_MINOR 3
+#define MOATBETONY_VERSION_MINOR 4
 #define MOATBETONY_VERSION_PATCH 0
-#define MOATBETONY_VERSION_TEXT "0.3.0"
+#define MOATBETONY_VERSION_TEXT "0.4.0"
 /* This header's version, as moatbetony_version gives the library's: major * 10,000 + minor * 100 + patch. */
 #define MOATBETONY_VERSION (MOATBETONY_VERSION_MAJOR * 10000 + MOATBETONY_VERSION_MINOR * 100 + MOATBETONY_VERSION_PATCH)
 /* The layout of the two states. It is stored with a state, and a state is taken up only under its own. */
@@ -152,7 +152,7 @@ enum moatbetony_refusal {
     MOATBETONY_REFUSED_BLOCK_FORM = 14,
     /* by the record's author */
     MOATBETONY_REFUSED_RECORD_FORM = 21,
-    MOATBETONY_REFUSED_ACCOUNT = 22,
+    MOATBETONY_REFUSED_ACCOUNT = 22, /* the sender's account; of a balance the account asked for */
     MOATBETONY_REFUSED_VERDICT = 23,
     MOATBETONY_REFUSED_NUMBER_USED = 24,
     MOATBETONY_REFUSED_BALANCE = 25,
@@ -162,7 +162,9 @@ enum moatbetony_refusal {
     /* by the maker who calls */
     MOATBETONY_REFUSED_FAR_RECORD = 33,
     /* by nobody: the size of the part */
-    MOATBETONY_REFUSED_FULL = 41
+    MOATBETONY_REFUSED_FULL = 41,
+    /* by the record's author */
+    MOATBETONY_REFUSED_RECEIVER = 51 /* the receiver's account */
 };
 
 /* ## Types */
@@ -296,27 +298,29 @@ typedef struct moatbetony_digest {
 /* ## Version */
 
 /* The library's version: major * 10,000 + minor * 100 + patch. Equal to MOATBETONY_VERSION if library and header belong together:
-   compare them once, before the first call. A library older than 0.3.0 has other states, and one older than 0.2.0 fills no `passed` in. */
+   compare them once, before the first call. A library older than 0.4.0 gives 22 for a receiver's account too, one older than 0.3.0 has
+   other states, and one older than 0.2.0 fills no `passed` in. */
 uint32_t moatbetony_version(void);
 
 /* The library's layout of the two states. Store it with a state, and take a state up only if it is the same. */
 uint32_t moatbetony_state_version(void);
 
 /* ## The pair validator
-   Refusals of a record, in order: 3, 21, 22, 23, 24, then 25 (local, sending) or 31 (arrival), then 41. */
+   Refusals of a record, in order: 3, 21, 22, 51, 23, 24, then 25 (local, sending) or 31 (arrival), then 41. 22 says that the sender's
+   account is not open on its ledger, 51 that the sender's is and the receiver's is not: moatbetony_kind says whose ledger is which. */
 
 /* Opens with the balances of each ledger, one for each account from 0. Answers 1, 2, in this order, place 0; beside a refusal stands
    the state of zeros, which every call refuses with 3. */
 MOATBETONY_MUST_USE moatbetony_pair_outcome_t moatbetony_pair_open(
     const uint64_t *home_balances, size_t home_balances_len, const uint64_t *far_balances, size_t far_balances_len);
 
-/* Checks one record, and moves its credit in the state if it passes. Other than 32 bytes is 21. Answers 3, 21 to 25, 31, 41, place 0; a
-   refusal leaves the state as it was. `state` must not be NULL. */
+/* Checks one record, and moves its credit in the state if it passes. Other than 32 bytes is 21. Answers 3, 21, 22, 51, 23 to 25, 31,
+   41, place 0; a refusal leaves the state as it was. `state` must not be NULL. */
 MOATBETONY_MUST_USE moatbetony_answer_t moatbetony_pair_take(moatbetony_pair_t *state, const uint8_t *bytes, size_t bytes_len);
 
 /* Checks a list of records, 32 bytes each, all or none. Bytes left over at the end are a record that is too short: 21. An empty list
-   passes. Answers 3 (place 0), 21 to 25, 31, 41 with the index of the first refused record; a refusal leaves the state as it was. `state`
-   must not be NULL. */
+   passes. Answers 3 (place 0), 21, 22, 51, 23 to 25, 31, 41 with the index of the first refused record; a refusal leaves the state as it
+   was. `state` must not be NULL. */
 MOATBETONY_MUST_USE moatbetony_answer_t moatbetony_pair_take_list(moatbetony_pair_t *state, const uint8_t *bytes, size_t bytes_len);
 
 /* moatbetony_pair_take by value: the state to go on with stands beside the answer, and beside a refusal the state as it came. */
@@ -338,20 +342,21 @@ MOATBETONY_MUST_USE moatbetony_balance_t moatbetony_pair_balance(moatbetony_pair
 MOATBETONY_MUST_USE moatbetony_pair_places_t moatbetony_pair_places_left(moatbetony_pair_t state);
 
 /* ## The home validator
-   Refusals of a record, in order: 3, 21, 33, 22, 23, 24, then 25 (local, sending) or 32 (arrival), then 41. */
+   Refusals of a record, in order: 3, 21, 33, 22, 51, 23, 24, then 25 (local, sending) or 32 (arrival), then 41. 22 and 51 say what they
+   say in the pair validator; the far accounts are as many as the opening told. */
 
 /* Opens with the home balances, one for each account from 0, the number of far accounts and their total. Answers 1, 2, in this order,
    place 0; beside a refusal stands the state of zeros, which every call refuses with 3. */
 MOATBETONY_MUST_USE moatbetony_home_outcome_t moatbetony_home_open(
     const uint64_t *home_balances, size_t home_balances_len, size_t far_accounts, uint64_t far_total);
 
-/* Checks one home record, and moves its credit in the state if it passes. Other than 32 bytes is 21. Answers 3, 21, 33, 22 to 25, 32, 41,
-   place 0; a refusal leaves the state as it was. `state` must not be NULL. */
+/* Checks one home record, and moves its credit in the state if it passes. Other than 32 bytes is 21. Answers 3, 21, 33, 22, 51, 23 to
+   25, 32, 41, place 0; a refusal leaves the state as it was. `state` must not be NULL. */
 MOATBETONY_MUST_USE moatbetony_answer_t moatbetony_home_take(moatbetony_home_t *state, const uint8_t *bytes, size_t bytes_len);
 
 /* Checks a list of home records, 32 bytes each, all or none. Bytes left over at the end are a record that is too short: 21. An empty
-   list passes. Answers 3 (place 0), 21, 33, 22 to 25, 32, 41 with the index of the first refused record; a refusal leaves the state as
-   it was. `state` must not be NULL. */
+   list passes. Answers 3 (place 0), 21, 33, 22, 51, 23 to 25, 32, 41 with the index of the first refused record; a refusal leaves the
+   state as it was. `state` must not be NULL. */
 MOATBETONY_MUST_USE moatbetony_answer_t moatbetony_home_take_list(moatbetony_home_t *state, const uint8_t *bytes, size_t bytes_len);
 
 /* moatbetony_home_take by value: the state to go on with stands beside the answer, and beside a refusal the state as it came. */
@@ -431,7 +436,7 @@ static inline const char *moatbetony_refusal_text(uint32_t number)
     case MOATBETONY_REFUSED_BLOCK_NUMBER: return "block has another number";
     case MOATBETONY_REFUSED_BLOCK_FORM: return "block with a wrong kind, count or zero byte, or after one that is not full";
     case MOATBETONY_REFUSED_RECORD_FORM: return "not a record";
-    case MOATBETONY_REFUSED_ACCOUNT: return "account not open";
+    case MOATBETONY_REFUSED_ACCOUNT: return "sender's account, or the account asked for, not open";
     case MOATBETONY_REFUSED_VERDICT: return "bad signature";
     case MOATBETONY_REFUSED_NUMBER_USED: return "number already used on this ledger";
     case MOATBETONY_REFUSED_BALANCE: return "balance too small";
@@ -439,6 +444,7 @@ static inline const char *moatbetony_refusal_text(uint32_t number)
     case MOATBETONY_REFUSED_ABOVE_POOL: return "arrival above the far pool";
     case MOATBETONY_REFUSED_FAR_RECORD: return "far record handed to the home validator";
     case MOATBETONY_REFUSED_FULL: return "ledger holds 512 passed records";
+    case MOATBETONY_REFUSED_RECEIVER: return "receiver's account not open";
     default: return "refused with a number that this header does not know";
     }
 }

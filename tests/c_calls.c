@@ -167,11 +167,11 @@ static const uint8_t *lent(const void *bytes, size_t length)
 
 static void versions(void)
 {
-    static const uint32_t known[] = {0, 1, 2, 3, 4, 11, 12, 13, 14, 21, 22, 23, 24, 25, 31, 32, 33, 41};
+    static const uint32_t known[] = {0, 1, 2, 3, 4, 11, 12, 13, 14, 21, 22, 23, 24, 25, 31, 32, 33, 41, 51};
     size_t i, j;
     CHECK(moatbetony_version() == MOATBETONY_VERSION);
-    CHECK(moatbetony_version() == 300);
-    CHECK(strcmp(MOATBETONY_VERSION_TEXT, "0.3.0") == 0);
+    CHECK(moatbetony_version() == 400);
+    CHECK(strcmp(MOATBETONY_VERSION_TEXT, "0.4.0") == 0);
     CHECK(moatbetony_state_version() == MOATBETONY_STATE_VERSION);
     CHECK(moatbetony_state_version() == 2);
     for (i = 0; i < sizeof known / sizeof *known; i++) {
@@ -386,9 +386,6 @@ static void pair_cases(void)
     pair_balance_is(&s, 0, 0, 100, __LINE__);
     s = pair_opened();
     PAIR(s, local(0, 2, 0, 1, 1), 22); /* case 7 */
-    PAIR(s, local(0, 0, 2, 1, 1), 22);
-    PAIR(s, sending(0, 0, 1, 1, 1), 22);
-    PAIR(s, sending(0, 256, 0, 1, 1), 22);
     PAIR(s, local(0, 0, 0, 1, 0), 21); /* case 8 */
     PAIR(s, local(0, 0, 0, 1, MAX), 25);
     PAIR(s, local(0, 0, 0, 1, MAX + 1), 21);
@@ -399,6 +396,48 @@ static void pair_cases(void)
     PAIR(s, local(1, 0, 0, 1, 1), 0); /* a number is used on its ledger only */
     PAIR(s, local(0, 0, 1, 0, 1), 0); /* number 0 is a number */
     PAIR(s, local(0, 0, 1, 0, 1), 24);
+}
+
+/* 22 for the sender's account, 51 for the receiver's, each on its own ledger: home has accounts 0 and 1, far has 0. */
+static void pair_accounts(void)
+{
+    static const uint16_t wide[] = {255, 256, 257, 65535};
+    moatbetony_pair_t s = pair_opened(), before = s;
+    size_t i;
+    PAIR(s, local(0, 2, 1, 1, 1), 22);
+    PAIR(s, local(0, 1, 2, 1, 1), 51);
+    PAIR(s, local(0, 2, 2, 1, 1), 22);
+    PAIR(s, local(1, 1, 0, 1, 1), 22);
+    PAIR(s, local(1, 0, 1, 1, 1), 51);
+    PAIR(s, local(1, 1, 1, 1, 1), 22);
+    PAIR(s, sending(0, 2, 0, 1, 1), 22);
+    PAIR(s, sending(0, 1, 1, 1, 1), 51);
+    PAIR(s, sending(0, 2, 1, 1, 1), 22);
+    PAIR(s, sending(1, 1, 1, 1, 1), 22);
+    PAIR(s, sending(1, 0, 2, 1, 1), 51);
+    PAIR(s, sending(1, 1, 2, 1, 1), 22);
+    PAIR(s, arrival(0, 1, 1, 1, 1), 22);
+    PAIR(s, arrival(0, 0, 2, 1, 1), 51);
+    PAIR(s, arrival(0, 1, 2, 1, 1), 22);
+    PAIR(s, arrival(1, 2, 0, 1, 1), 22);
+    PAIR(s, arrival(1, 1, 1, 1, 1), 51);
+    PAIR(s, arrival(1, 2, 1, 1, 1), 22);
+    for (i = 0; i < sizeof wide / sizeof *wide; i++) {
+        PAIR(s, local(0, wide[i], 0, 1, 1), 22);
+        PAIR(s, local(0, 0, wide[i], 1, 1), 51);
+        PAIR(s, sending(0, 0, wide[i], 1, 1), 51);
+        PAIR(s, arrival(0, wide[i], wide[i], 1, 1), 22);
+    }
+    PAIR(s, local(0, 0, 2, 1, 0), 21);     /* after 21 */
+    PAIR(s, rec(1, 0, 0, 2, 1, 1, 0), 51); /* before 23 */
+    PAIR(s, rec(1, 0, 2, 2, 1, 1, 0), 22);
+    PAIR(s, local(0, 0, 2, 1, MAX), 51);   /* before 25 and 31 */
+    CHECK(memcmp(&s, &before, sizeof s) == 0);
+    PAIR(s, sending(0, 1, 0, 1, 1), 0);
+    PAIR(s, local(0, 0, 2, 1, 1), 51);     /* before 24 */
+    PAIR(s, arrival(1, 1, 0, 1, 1), 0);
+    PAIR(s, sending(1, 0, 1, 2, 1), 0);
+    PAIR(s, arrival(0, 0, 1, 2, 1), 0);
 }
 
 static void pair_fields(void)
@@ -778,8 +817,6 @@ static void home_cases(void)
     HOME(s, local(0, 1, 0, 1, 51), 25);
     HOME(s, local(0, 0, 0, 1, 101), 25);
     HOME(s, local(0, 2, 0, 1, 1), 22);
-    HOME(s, local(0, 0, 2, 1, 1), 22);
-    HOME(s, arrival(0, 1, 0, 1, 1), 22);
     HOME(s, local(0, 0, 0, 1, 0), 21);
     HOME(s, local(0, 0, 0, 1, MAX), 25);
     HOME(s, local(0, 0, 0, 1, MAX + 1), 21);
@@ -790,10 +827,44 @@ static void home_cases(void)
     HOME(s, rec(1, 0, 0, 0, 3, 1, 2), 21);
     HOME(s, local(0, 0, 0, 1, 1), 24);
 
-    /* A far record is 33, after 21 and before 22. */
+    /* A far record is 33, after 21 and before 22 and 51. */
     HOME(s, local(1, 0, 0, 4, 1), 33);
     HOME(s, arrival(1, 9, 9, 4, 1), 33);
+    HOME(s, local(1, 0, 9, 4, 1), 33);
     HOME(s, local(1, 0, 0, 4, 0), 21);
+}
+
+/* 22 for the sender's account, 51 for the receiver's: with home the larger ledger, and with far. */
+static void home_accounts(void)
+{
+    static const uint64_t homes[2] = {100, 50};
+    moatbetony_home_t s = home_opened(), before = s;
+    HOME(s, local(0, 2, 1, 1, 1), 22);
+    HOME(s, local(0, 1, 2, 1, 1), 51);
+    HOME(s, local(0, 2, 2, 1, 1), 22);
+    HOME(s, sending(0, 2, 0, 1, 1), 22);
+    HOME(s, sending(0, 1, 1, 1, 1), 51);
+    HOME(s, sending(0, 2, 1, 1, 1), 22);
+    HOME(s, arrival(0, 1, 1, 1, 1), 22);
+    HOME(s, arrival(0, 0, 2, 1, 1), 51);
+    HOME(s, arrival(0, 1, 2, 1, 1), 22);
+    HOME(s, sending(0, 0, 256, 1, 1), 51);
+    HOME(s, arrival(0, 0, 65535, 1, 1), 51);
+    HOME(s, local(0, 0, 2, 1, 0), 21);
+    HOME(s, rec(3, 0, 0, 2, 1, 1, 0), 51);
+    HOME(s, arrival(0, 0, 2, 1, 21), 51); /* before 32 */
+    CHECK(memcmp(&s, &before, sizeof s) == 0);
+    HOME(s, sending(0, 1, 0, 1, 1), 0);
+    HOME(s, arrival(0, 0, 1, 2, 1), 0);
+    HOME(s, arrival(0, 0, 2, 2, 1), 51); /* before 24 */
+
+    s = moatbetony_home_open(NUMBERS(homes, 2), 4, 20).state;
+    HOME(s, sending(0, 0, 4, 1, 1), 51);
+    HOME(s, sending(0, 2, 3, 1, 1), 22);
+    HOME(s, sending(0, 0, 3, 1, 1), 0);
+    HOME(s, arrival(0, 4, 1, 2, 1), 22);
+    HOME(s, arrival(0, 3, 2, 2, 1), 51);
+    HOME(s, arrival(0, 3, 1, 2, 1), 0);
 }
 
 static void home_fields(void)
@@ -1412,12 +1483,14 @@ int main(void)
     records();
     pair_openings();
     pair_cases();
+    pair_accounts();
     pair_fields();
     pair_lists();
     pair_states();
     pair_full();
     home_openings();
     home_cases();
+    home_accounts();
     home_fields();
     home_lists();
     home_states();

@@ -137,6 +137,9 @@ impl Desk {
         self.serve("the same record again", &payment(1, 30)?, true)?;
         self.serve("a payment of 500", &payment(2, 500)?, true)?;
         self.serve("a payment to account 9", &home(Kind::Local, 0, 9, 2, 30)?, true)?;
+        self.serve("a payment from account 9", &home(Kind::Local, 9, OURS, 2, 30)?, true)?;
+        self.serve("a payment from account 9 to account 9", &home(Kind::Local, 9, 9, 2, 30)?, true)?;
+        self.serve("a sending to far account 1", &home(Kind::Sending, OURS, 1, 2, 30)?, true)?;
         self.serve("a payment with a bad signature", &payment(2, 30)?, false)?;
         self.serve("a payment cut off after 31 bytes", &payment(2, 30)?[..31], true)?;
         self.serve("a record of the far ledger", &wire(Kind::Local, Ledger::Far, 0, 0, 2, 30)?, true)?;

@@ -143,7 +143,7 @@ refusals! {
     BlockNumber = 13, "block has another number", "the journal's keeper";
     BlockForm = 14, "block with a wrong kind, count or zero byte, or after one that is not full", "the journal's keeper";
     RecordForm = 21, "not a record", "the record's author";
-    Account = 22, "account not open", "the record's author";
+    Account = 22, "sender's account, or the account asked for, not open", "the record's author, of a balance by the maker who calls";
     Verdict = 23, "bad signature", "the record's author";
     NumberUsed = 24, "number already used on this ledger", "the record's author";
     Balance = 25, "balance too small", "the record's author";
@@ -151,6 +151,7 @@ refusals! {
     AbovePool = 32, "arrival above the far pool", "the far ledger";
     FarRecord = 33, "far record handed to the home validator", "the maker who calls";
     Full = 41, "ledger holds 512 passed records", "nobody: it is the size of the part";
+    Receiver = 51, "receiver's account not open", "the record's author";
 }
 
 impl std::error::Error for Refusal {}

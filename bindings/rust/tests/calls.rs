@@ -36,7 +36,7 @@ fn versions_agree() {
 #[test]
 fn refusals_have_their_numbers() {
     let numbers: Vec<u32> = Refusal::ALL.iter().map(|refusal| refusal.number()).collect();
-    assert_eq!(numbers, [1, 2, 3, 4, 11, 12, 13, 14, 21, 22, 23, 24, 25, 31, 32, 33, 41]);
+    assert_eq!(numbers, [1, 2, 3, 4, 11, 12, 13, 14, 21, 22, 23, 24, 25, 31, 32, 33, 41, 51]);
     let error: Box<dyn std::error::Error> = Box::new(Refusal::AbovePool);
     assert_eq!(error.to_string(), "arrival above the far pool");
     assert_eq!(refused(Refusal::Balance, 3).to_string(), "refused with 25 at 3: balance too small");
@@ -95,6 +95,35 @@ fn pair_validator_cases() {
     assert!(it.take_list(&list[..64]).is_passed());
     assert_eq!(it.balance(Ledger::Home, 0), Ok(150));
     assert!(it.take_list(&[]).is_passed());
+}
+
+// Home has accounts 0 and 1, far has 0: of each kind the sender's account alone, the receiver's alone, and both.
+#[test]
+fn refusals_tell_the_account() {
+    let (sender, receiver) = (refused(Refusal::Account, 0), refused(Refusal::Receiver, 0));
+    for (kind, ledger, absent_sender, absent_receiver) in [
+        (Kind::Local, Ledger::Home, 2, 2),
+        (Kind::Sending, Ledger::Home, 2, 1),
+        (Kind::Arrival, Ledger::Home, 1, 2),
+        (Kind::Local, Ledger::Far, 1, 1),
+        (Kind::Sending, Ledger::Far, 1, 2),
+        (Kind::Arrival, Ledger::Far, 2, 1),
+    ] {
+        let record = |from, to| record(kind, ledger, from, to, 1, 1);
+        let told = [(absent_sender, 0, sender), (0, absent_receiver, receiver), (absent_sender, absent_receiver, sender)];
+        for (from, to, answer) in told {
+            assert_eq!(pair().take(&record(from, to)), answer);
+            assert_eq!(pair().check_record(&record(from, to)), answer);
+            if ledger == Ledger::Home {
+                assert_eq!(home().take(&record(from, to)), answer);
+                assert_eq!(home().check_record(&record(from, to)), answer);
+            }
+        }
+    }
+    let list = [local(0, 1, 1, 1), local(0, 2, 2, 1)].concat();
+    assert_eq!(pair().take_list(&list), refused(Refusal::Receiver, 1));
+    assert_eq!(home().take_list(&list), refused(Refusal::Receiver, 1));
+    assert_eq!(Refusal::Receiver.to_string(), "receiver's account not open");
 }
 
 // Each call in place beside its call by value, from the same state: the same answer, and every byte of the states; a refusal leaves it
