@@ -1,4 +1,5 @@
-//! Paper 01, "Refusals, by who can cause them": what a call can answer.
+//! Paper 01, "Refusals, by who can cause them", and paper 02, U1 (refusal 51):
+//! what a call can answer.
 
 /// Passed, or one numbered refusal with its place: a record's index in the
 /// list handed in, or a block number, or 0 where neither applies.
@@ -30,7 +31,7 @@ impl Answer {
     }
 }
 
-/// The refusal numbers of the paper.
+/// The refusal numbers of the papers.
 pub mod refusal {
     pub const ACCOUNT_COUNT: u8 = 1;
     pub const STAKES_TOTAL: u8 = 2;
@@ -41,6 +42,8 @@ pub mod refusal {
     pub const BLOCK_NUMBER: u8 = 13;
     pub const BLOCK_FORM: u8 = 14;
     pub const RECORD_FORM: u8 = 21;
+    /// The sender's account of a record, or the one of a balance asked for, is
+    /// not open.
     pub const ACCOUNT: u8 = 22;
     pub const VERDICT: u8 = 23;
     pub const NUMBER_USED: u8 = 24;
@@ -49,4 +52,6 @@ pub mod refusal {
     pub const FAR_DUE: u8 = 32;
     pub const FAR_RECORD: u8 = 33;
     pub const TABLE_FULL: u8 = 41;
+    /// The receiver's account of a record is not open.
+    pub const RECEIVER: u8 = 51;
 }

@@ -1,6 +1,6 @@
-//! Paper 01, "Rules of the pair book" and "Rules of the guard": the order in
-//! which a record that has been read is judged: 22, 23, 24, then 25 or 31 or
-//! 32, then 41. Each checker says how it looks things up.
+//! Paper 01, "Rules of the pair book" and "Rules of the guard", and paper 02,
+//! U1: the order in which a record that has been read is judged: 22, 51, 23, 24,
+//! then 25 or 31 or 32, then 41. Each checker says how it looks things up.
 
 use crate::answer::refusal;
 use crate::record::{Ledger, Record, MAX_AMOUNT};
@@ -32,8 +32,8 @@ pub trait Book {
 /// The refusal that is due to a record, if any.
 pub fn judge(book: &impl Book, record: &Record) -> Option<u8> {
     let ledger = record.ledger();
-    if !accounts_open(record, |side| book.accounts(side)) {
-        return Some(refusal::ACCOUNT);
+    if let Some(number) = account_refusal(record, |side| book.accounts(side)) {
+        return Some(number);
     }
     if !record.good {
         return Some(refusal::VERDICT);
@@ -54,10 +54,19 @@ pub fn judge(book: &impl Book, record: &Record) -> Option<u8> {
     None
 }
 
+/// The refusal of a record for its accounts, each looked up on its own ledger:
+/// 22 if the sender's is not open, else 51 if the receiver's is not.
+pub fn account_refusal(record: &Record, accounts: impl Fn(Ledger) -> usize) -> Option<u8> {
+    if usize::from(record.sender) >= accounts(record.sender_ledger()) {
+        return Some(refusal::ACCOUNT);
+    }
+    let absent = usize::from(record.receiver) >= accounts(record.receiver_ledger());
+    absent.then_some(refusal::RECEIVER)
+}
+
 /// Whether both accounts of a record are open.
 pub fn accounts_open(record: &Record, accounts: impl Fn(Ledger) -> usize) -> bool {
-    usize::from(record.sender) < accounts(record.sender_ledger())
-        && usize::from(record.receiver) < accounts(record.receiver_ledger())
+    account_refusal(record, accounts).is_none()
 }
 
 /// Refusal 1: whether an account count is outside 1 to 56.

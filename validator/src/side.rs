@@ -1,5 +1,5 @@
-//! Paper 01, refusal 3: one ledger's part of a state, with what pair book and
-//! guard ask of it alike.
+//! Paper 01, refusal 3, and paper 02, U1 (51 in a state): one ledger's part of a
+//! state, with what pair book and guard ask of it alike.
 
 use std::collections::HashSet;
 
@@ -43,7 +43,7 @@ impl Side {
             && self.balances[self.accounts..].iter().all(|&b| b == 0)
     }
 
-    /// Every held record is one of `ledger` that 21, 22 and 23 let through,
+    /// Every held record is one of `ledger` that 21, 22, 51 and 23 let through,
     /// and no two of them share a number.
     pub fn held_right(&self, ledger: Ledger, accounts: impl Fn(Ledger) -> usize) -> bool {
         let mut numbers = HashSet::new();

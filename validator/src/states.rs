@@ -1,6 +1,6 @@
 //! Paper 01, refusal 3 and "The runs of demand 3": the states of pair book and
 //! guard as plain words, so that every forged value can stand in them, and the
-//! calls that are handed such a state and alter it in place. The paper has
+//! calls that are handed such a state and alter it in place. The papers have
 //! neither the layout of the words nor the places left; the list of calls has.
 //!
 //! The rules are those of `pair` and `guard`. What stands at or beyond a count

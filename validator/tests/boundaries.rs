@@ -3,8 +3,8 @@
 use second_validator::answer::Answer::{self, Passed};
 use second_validator::guard::Guard;
 use second_validator::pair::PairBook;
-use second_validator::record::Ledger::{Far, Home};
-use second_validator::record::{Held, Record, MAX_AMOUNT};
+use second_validator::record::Ledger::{self, Far, Home};
+use second_validator::record::{Held, Kind, Record, MAX_AMOUNT};
 use second_validator::runner::build::{arrival, local, sending, RESERVED};
 
 fn refused(number: u8) -> Answer {
@@ -192,6 +192,48 @@ fn refusal_3_held_records() {
     assert_guard_refused(|guard| guard.home.held[2].sender = 1);
 }
 
+/// A held record with one account or both not open, the sending of an arrival
+/// altered alike, so that nothing else is wrong.
+#[test]
+fn refusal_3_held_accounts() {
+    let absent = |held: &mut Held, sender: Option<u16>, receiver: Option<u16>| {
+        held.sender = sender.unwrap_or(held.sender);
+        held.receiver = receiver.unwrap_or(held.receiver);
+    };
+    // Account 1 is open at home only, 2 nowhere. The ledger and place of each
+    // record, then those of its other half; the ledgers of its accounts.
+    let records = [
+        ([(0, 0), (0, 0)], [Home, Home]),
+        ([(0, 1), (1, 0)], [Home, Far]),
+        ([(1, 1), (0, 2)], [Far, Home]),
+        ([(0, 3), (0, 3)], [Home, Far]),
+        ([(1, 2), (1, 2)], [Far, Home]),
+    ];
+    for (entries, ledgers) in records {
+        let beyond = ledgers.map(|ledger| if ledger == Home { 2 } else { 1 });
+        for more in [0, 1, 254, 65_533] {
+            let [sender, receiver] = beyond.map(|account| Some(account + more));
+            for (sender, receiver) in [(sender, None), (None, receiver), (sender, receiver)] {
+                assert_pair_refused(|book| {
+                    for (ledger, place) in entries {
+                        absent(&mut book.sides[ledger].held[place], sender, receiver);
+                    }
+                });
+            }
+        }
+    }
+    for (place, ledgers) in [(0, [2, 2]), (1, [2, 1]), (2, [1, 2])] {
+        for more in [0, 1, 254, 65_533] {
+            let [sender, receiver] = ledgers.map(|account| Some(account + more));
+            for (sender, receiver) in [(sender, None), (None, receiver), (sender, receiver)] {
+                assert_guard_refused(|guard| {
+                    absent(&mut guard.home.held[place], sender, receiver);
+                });
+            }
+        }
+    }
+}
+
 #[test]
 fn refusal_3_wrong_ledger() {
     assert_pair_refused(|book| {
@@ -286,28 +328,114 @@ fn records_read_as_written() {
 }
 
 #[test]
-fn refusal_22_looks_at_the_right_ledger() {
+fn refusals_22_and_51_look_at_the_right_ledger() {
     // Home has accounts 0 and 1, far has 0.
     let answers = [
         (local(Home, 1, 1, 1, 1), Passed),
         (local(Home, 2, 0, 1, 1), refused(22)),
-        (local(Home, 0, 2, 1, 1), refused(22)),
+        (local(Home, 0, 2, 1, 1), refused(51)),
+        (local(Home, 2, 2, 1, 1), refused(22)),
         (local(Far, 0, 0, 1, 1), Passed),
         (local(Far, 1, 0, 1, 1), refused(22)),
-        (local(Far, 0, 1, 1, 1), refused(22)),
+        (local(Far, 0, 1, 1, 1), refused(51)),
+        (local(Far, 1, 1, 1, 1), refused(22)),
         (sending(Home, 1, 0, 1, 1), Passed),
-        (sending(Home, 0, 1, 1, 1), refused(22)),
+        (sending(Home, 2, 0, 1, 1), refused(22)),
+        (sending(Home, 0, 1, 1, 1), refused(51)),
+        (sending(Home, 2, 1, 1, 1), refused(22)),
         (sending(Far, 0, 1, 1, 1), Passed),
         (sending(Far, 1, 0, 1, 1), refused(22)),
+        (sending(Far, 0, 2, 1, 1), refused(51)),
+        (sending(Far, 1, 2, 1, 1), refused(22)),
         (arrival(Home, 0, 1, 1, 1), refused(31)),
         (arrival(Home, 1, 0, 1, 1), refused(22)),
+        (arrival(Home, 0, 2, 1, 1), refused(51)),
+        (arrival(Home, 1, 2, 1, 1), refused(22)),
         (arrival(Far, 1, 0, 1, 1), refused(31)),
-        (arrival(Far, 0, 1, 1, 1), refused(22)),
+        (arrival(Far, 2, 0, 1, 1), refused(22)),
+        (arrival(Far, 0, 1, 1, 1), refused(51)),
+        (arrival(Far, 2, 1, 1, 1), refused(22)),
         (local(Home, 256, 0, 1, 1), refused(22)),
-        (local(Home, 0, 65_535, 1, 1), refused(22)),
+        (local(Home, 0, 256, 1, 1), refused(51)),
+        (local(Home, 65_535, 0, 1, 1), refused(22)),
+        (local(Home, 0, 65_535, 1, 1), refused(51)),
     ];
     for (record, answer) in answers {
         assert_eq!(pair().call(&record.bytes()), answer, "{record:?}");
+        let of_guard = match (record.ledger(), answer) {
+            (Far, _) => refused(33),
+            (Home, answer) if answer == refused(31) => Passed,
+            (Home, answer) => answer,
+        };
+        assert_eq!(guard().call(&record.bytes()), of_guard, "{record:?}");
+    }
+}
+
+/// The kinds with the ledgers of their sender and receiver, by the paper.
+fn kinds_and_ledgers() -> Vec<(Kind, Ledger, Ledger)> {
+    let of_ledger = |ledger: Ledger| {
+        [
+            (Kind::Local(ledger), ledger, ledger),
+            (Kind::Sending(ledger), ledger, ledger.other()),
+            (Kind::Arrival(ledger), ledger.other(), ledger),
+        ]
+    };
+    [Home, Far].into_iter().flat_map(of_ledger).collect()
+}
+
+/// Every account at the bounds of either ledger as sender with every one as
+/// receiver, for each kind, with more accounts at home, at far, and alike.
+#[test]
+fn accounts_at_their_bounds() {
+    for (home, far) in [
+        (3, 1),
+        (1, 3),
+        (56, 2),
+        (2, 56),
+        (56, 55),
+        (55, 56),
+        (4, 4),
+        (1, 1),
+        (56, 56),
+    ] {
+        let book = PairBook::open(&vec![9; home], &vec![9; far]).unwrap();
+        let guard = Guard::open(&vec![9; home], far, 9 * far as u64).unwrap();
+        let mut tried = vec![0, 55, 56, 57, 255, 256, 257, 0x8000, 65_535];
+        for count in [home as u16, far as u16] {
+            tried.extend([count - 1, count, count + 1, 256 + count - 1]);
+        }
+        tried.sort_unstable();
+        tried.dedup();
+        for (kind, from, to) in kinds_and_ledgers() {
+            let open = |ledger, account: u16| {
+                let count = if ledger == Home { home } else { far };
+                usize::from(account) < count
+            };
+            for &sender in &tried {
+                for &receiver in &tried {
+                    let record = Record {
+                        kind,
+                        sender,
+                        receiver,
+                        number: 1,
+                        amount: 1,
+                        good: true,
+                    };
+                    let number = match (open(from, sender), open(to, receiver)) {
+                        (false, _) => Some(22),
+                        (true, false) => Some(51),
+                        (true, true) => None,
+                    };
+                    let unsent = matches!(kind, Kind::Arrival(_)).then_some(31);
+                    let of_pair = Answer::at(number.or(unsent), 0);
+                    let far_one = (kind.ledger() == Far).then_some(33);
+                    let of_guard = Answer::at(far_one.or(number), 0);
+                    let bytes = record.bytes();
+                    assert_eq!(book.clone().call(&bytes), of_pair, "{record:?}");
+                    assert_eq!(guard.clone().call(&bytes), of_guard, "{record:?}");
+                }
+            }
+        }
     }
 }
 
@@ -350,9 +478,13 @@ fn order_of_the_pair_book() {
         good: false,
         ..used
     };
+    let no_receiver = Record {
+        receiver: 9,
+        ..unsigned
+    };
     let absent = Record {
         sender: 9,
-        ..unsigned
+        ..no_receiver
     };
     let formless = Record {
         amount: 0,
@@ -364,6 +496,7 @@ fn order_of_the_pair_book() {
         (uncovered, 25),
         (used, 24),
         (unsigned, 23),
+        (no_receiver, 51),
         (absent, 22),
         (formless, 21),
         (unmatched, 31),
@@ -390,9 +523,13 @@ fn order_of_the_guard() {
         good: false,
         ..used
     };
+    let no_receiver = Record {
+        receiver: 9,
+        ..unsigned
+    };
     let absent = Record {
         sender: 9,
-        ..unsigned
+        ..no_receiver
     };
     let far = Record {
         kind: local(Far, 0, 0, 0, 1).kind,
@@ -404,6 +541,7 @@ fn order_of_the_guard() {
         (undue, 32),
         (used, 24),
         (unsigned, 23),
+        (no_receiver, 51),
         (absent, 22),
         (far, 33),
         (formless, 21),
@@ -416,6 +554,125 @@ fn order_of_the_guard() {
     }
     guard.stake += 1;
     assert_eq!(guard.call(&formless.bytes()), refused(3));
+}
+
+/// 51 with one other refusal due beside it, for each kind on each ledger, with
+/// places left and with full tables.
+#[test]
+fn refusal_51_beside_each_other() {
+    for full in [false, true] {
+        let mut book = PairBook::open(&[100, 50], &[20, 10, 5]).unwrap();
+        let mut guard = Guard::open(&[100, 50], 3, 35).unwrap();
+        for number in 0..if full { 512 } else { 5 } {
+            for ledger in [Home, Far] {
+                let record = local(ledger, 0, 0, number, 1).bytes();
+                assert_eq!(book.call(&record), Passed);
+                if ledger == Home {
+                    assert_eq!(guard.call(&record), Passed);
+                }
+            }
+        }
+        for (kind, from, to) in kinds_and_ledgers() {
+            let beyond = |ledger: Ledger| if ledger == Home { 2 } else { 3 };
+            let absent = Record {
+                kind,
+                sender: 0,
+                receiver: beyond(to),
+                number: 600,
+                amount: 1,
+                good: true,
+            };
+            let unsigned = Record {
+                good: false,
+                ..absent
+            };
+            let used = Record {
+                number: 3,
+                ..absent
+            };
+            let uncovered = Record {
+                amount: 1_000,
+                ..absent
+            };
+            let all_later = Record {
+                good: false,
+                number: 3,
+                ..uncovered
+            };
+            for record in [absent, unsigned, used, uncovered, all_later] {
+                let open = Record {
+                    receiver: 0,
+                    ..record
+                };
+                let both = Record {
+                    sender: beyond(from),
+                    ..record
+                };
+                let formless = Record {
+                    amount: 0,
+                    ..record
+                };
+                for (record, number) in [(record, 51), (both, 22), (formless, 21)] {
+                    let bytes = record.bytes();
+                    assert_eq!(book.call(&bytes), refused(number), "{record:?}");
+                    let of_guard = match kind.ledger() {
+                        Far if number != 21 => 33,
+                        _ => number,
+                    };
+                    assert_eq!(guard.call(&bytes), refused(of_guard), "{record:?}");
+                }
+                // What is due once the account is open.
+                let crossing = matches!(kind, Kind::Arrival(_));
+                let (pair_cover, home_cover) = if crossing { (31, 32) } else { (25, 25) };
+                let due = |cover, unsent| match open {
+                    Record { good: false, .. } => 23,
+                    Record { number: 3, .. } => 24,
+                    Record { amount: 1_000, .. } => cover,
+                    _ if unsent => 31,
+                    _ if full => 41,
+                    _ => 0,
+                };
+                let answer = book.clone().call(&open.bytes()).number();
+                assert_eq!(answer, due(pair_cover, crossing), "{open:?}");
+                if kind.ledger() == Home {
+                    let answer = guard.clone().call(&open.bytes()).number();
+                    assert_eq!(answer, due(home_cover, false), "{open:?}");
+                }
+            }
+        }
+        book.stake += 1;
+        guard.stake += 1;
+        let absent = local(Home, 0, 2, 600, 1).bytes();
+        assert_eq!(book.call(&absent), refused(3));
+        assert_eq!(guard.call(&absent), refused(3));
+    }
+}
+
+#[test]
+fn lists_tell_the_place_of_22_and_51() {
+    let own = |number| local(Home, 0, 1, number, 1);
+    let absent = [
+        (local(Home, 0, 2, 3, 1), 51),
+        (sending(Home, 0, 1, 3, 1), 51),
+        (arrival(Home, 0, 2, 3, 1), 51),
+        (local(Home, 2, 0, 3, 1), 22),
+        (sending(Home, 2, 1, 3, 1), 22),
+        (arrival(Home, 1, 0, 3, 1), 22),
+    ];
+    for (record, number) in absent {
+        for place in 0..3 {
+            let mut list = vec![own(1), own(2), own(4)];
+            list.insert(place, record);
+            // One that is refused too stands after it.
+            list.push(local(Home, 2, 2, 5, 1));
+            let bytes: Vec<u8> = list.iter().flat_map(Record::bytes).collect();
+            let (mut book, mut watch) = (pair(), guard());
+            let answer = refused_at(number, place as u64);
+            assert_eq!(book.call_list(&bytes), answer, "{record:?}");
+            assert_eq!(watch.call_list(&bytes), answer, "{record:?}");
+            assert!(book == pair() && watch == guard());
+        }
+    }
 }
 
 #[test]

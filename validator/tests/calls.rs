@@ -5,7 +5,7 @@ use std::collections::BTreeSet;
 
 use second_validator::answer::Answer::{self, Passed, Refused};
 use second_validator::journal::Balances;
-use second_validator::record::{Held, Record, MAX_AMOUNT, RECORD};
+use second_validator::record::{Held, Kind, Record, MAX_AMOUNT, RECORD};
 use second_validator::runner::calls::fields::{Field, Fields};
 use second_validator::runner::calls::{compare, Oracle, Part};
 use second_validator::states::{words_of, HomeState, Layout, PairState, State};
@@ -19,7 +19,7 @@ fn library_against_itself() {
     assert!(report.calls >= CALLS && report.calls < CALLS + 500);
     let answers = report.answers();
     let all = [
-        0, 1, 2, 3, 4, 11, 12, 13, 14, 21, 22, 23, 24, 25, 31, 32, 33, 41,
+        0, 1, 2, 3, 4, 11, 12, 13, 14, 21, 22, 23, 24, 25, 31, 32, 33, 41, 51,
     ];
     for number in all {
         assert!(answers.get(&number) > Some(&10), "{number} {answers:?}");
@@ -31,13 +31,29 @@ fn library_against_itself() {
         assert!(3 * passed > calls, "{family}: {passed} of {calls}");
     }
     assert_eq!(report.by_call.len(), 25);
-    assert_eq!(report.by_family.len(), 11);
+    assert_eq!(report.by_family.len(), 13);
     // Each record and each list is handed in by value and in place.
     for side in ["pair", "home"] {
         for (by_value, in_place) in [("check_record", "take"), ("check_list", "take_list")] {
             let [by_value, in_place] = [by_value, in_place].map(|call| format!("{side}_{call}"));
             assert_eq!(report.by_call[&*by_value], report.by_call[&*in_place]);
         }
+    }
+    for call in ["check_record", "check_list", "take", "take_list"] {
+        for side in ["pair", "home"] {
+            let answers = &report.by_call[&*format!("{side}_{call}")];
+            for number in [22, 51] {
+                assert!(
+                    answers.get(&number) > Some(&10),
+                    "{side}_{call} {answers:?}"
+                );
+            }
+        }
+    }
+    // A balance knows 22 alone.
+    for call in ["pair_balance", "home_balance"] {
+        let answers = report.by_call[call].keys();
+        assert_eq!(answers.copied().collect::<Vec<_>>(), [0, 3, 22]);
     }
     for call in ["pair_places_left", "home_places_left"] {
         let answers = &report.by_call[call];
@@ -74,6 +90,75 @@ fn fields_are_altered_alone_and_in_pairs() {
             assert_forged_values(&values);
         }
     }
+}
+
+/// A record with an account that is not open, handed in alone or refused in a
+/// list.
+#[derive(Clone, Copy, Debug, PartialEq, Eq, PartialOrd, Ord)]
+struct Absent {
+    guard: bool,
+    handed: Handed,
+    kind: u8,
+    ledger: u8,
+    sender: bool,
+    receiver: bool,
+    /// Which ledger has more accounts, if one has.
+    larger: Option<u8>,
+    /// What is answered once its accounts are open.
+    beside: u8,
+}
+
+#[test]
+fn absent_accounts_of_every_sort_are_handed_in() {
+    for seed in [1, 7, 1_000_003] {
+        let mut part = Wrong::new(Fault::None);
+        part.listener.absent = Some(BTreeSet::new());
+        compare(&mut part, seed, CALLS, u64::MAX);
+        let found = part.listener.absent.unwrap();
+        for wanted in every_absent() {
+            // In lists and on full tables either ledger may have more accounts.
+            let either = [Some(0), Some(1)].map(|larger| Absent { larger, ..wanted });
+            let any = wanted.handed == Handed::List || wanted.beside == 41;
+            let met = if any {
+                either.iter().any(|absent| found.contains(absent))
+            } else {
+                found.contains(&wanted)
+            };
+            assert!(met, "{wanted:?}");
+        }
+    }
+}
+
+/// Each kind with one account or both not open, and with each answer beside it.
+fn every_absent() -> Vec<Absent> {
+    let mut all = Vec::new();
+    for (guard, ledger) in [(false, 0), (false, 1), (true, 0)] {
+        for kind in 1..=3 {
+            // No passed sending matches an arrival with such an account.
+            let beside = match (kind, guard) {
+                (3, false) => &[23, 24, 31][..],
+                (3, true) => &[0, 23, 24, 32, 41],
+                _ => &[0, 23, 24, 25, 41],
+            };
+            for (sender, receiver) in [(false, true), (true, false), (true, true)] {
+                for handed in [Handed::Record, Handed::List] {
+                    for larger in [Some(0), Some(1)] {
+                        all.extend(beside.iter().map(|&beside| Absent {
+                            guard,
+                            handed,
+                            kind,
+                            ledger,
+                            sender,
+                            receiver,
+                            larger,
+                            beside,
+                        }));
+                    }
+                }
+            }
+        }
+    }
+    all
 }
 
 /// What stands in a field that is altered alone, among other values.
@@ -209,11 +294,12 @@ impl<S: Fields + Clone + PartialEq> Altered<S> {
 }
 
 /// Takes down the calls that are made, as a sum of them, and if asked to the
-/// parts of states that are altered.
+/// parts of states that are altered and the accounts that are not open.
 #[derive(Default)]
 struct Listener {
     sum: u64,
     altered: Option<(Altered<PairState>, Altered<HomeState>)>,
+    absent: Option<BTreeSet<Absent>>,
 }
 
 impl Listener {
@@ -257,6 +343,46 @@ impl Listener {
         if let Some((_, home)) = &mut self.altered {
             home.handed_in(state);
         }
+    }
+
+    /// Where a record begins that is refused for its accounts, if they are taken
+    /// down.
+    fn absent_at(&self, answer: Answer) -> Option<usize> {
+        match (&self.absent, answer) {
+            (Some(_), Refused { number, place }) if [22, 51].contains(&number) => {
+                Some(place as usize * RECORD)
+            }
+            _ => None,
+        }
+    }
+
+    /// A record that is refused for its accounts; `right` is what the library
+    /// answers to others in its place.
+    fn refused<S: Fields>(
+        &mut self,
+        handed: Handed,
+        bytes: &[u8],
+        state: &S,
+        right: impl Fn(&[u8]) -> Answer,
+    ) {
+        let (Some(absent), Some(record)) = (&mut self.absent, Record::read(bytes)) else {
+            return;
+        };
+        let counts = counts_of(state);
+        let [sender, receiver] = Accounts::OneNumber.seen_open(&record, counts);
+        absent.insert(Absent {
+            guard: S::LEDGERS == 1,
+            handed,
+            kind: bytes[0],
+            ledger: bytes[1],
+            sender: !sender,
+            receiver: !receiver,
+            larger: match counts {
+                [home, far] if home == far => None,
+                [home, far] => Some(u8::from(home < far)),
+            },
+            beside: right(&opened(&record, counts).bytes()).number(),
+        });
     }
 
     fn note_state<S: Fields>(&mut self, state: &S) {
@@ -333,6 +459,118 @@ enum Fault {
     HomePlaces(Places),
     PairInPlace(InPlace),
     HomeInPlace(InPlace),
+    PairAccounts(Accounts, Handed),
+    HomeAccounts(Accounts, Handed),
+    PairBalanceTellsReceiver,
+    HomeBalanceTellsReceiver,
+    /// In place of 3, 22 or 51 is told of a held record.
+    HeldAccountTold(Field),
+    /// An account of a held record may be open on either ledger.
+    HeldOpenOnEither(Field),
+}
+
+/// How a record comes to a part.
+#[derive(Clone, Copy, Debug, PartialEq, Eq, PartialOrd, Ord)]
+enum Handed {
+    Record,
+    List,
+}
+
+/// What a part is wrong in when it looks up the accounts of a record.
+#[derive(Clone, Copy, Debug, PartialEq, Eq)]
+enum Accounts {
+    /// 22 for the receiver's account too.
+    OneNumber,
+    /// The same for one kind on one ledger only.
+    OneNumberOf(u8, u8),
+    Exchanged,
+    ReceiverFirst,
+    /// The receiver's or the sender's account is looked up only after this.
+    ReceiverAfter(u8),
+    SenderAfter(u8),
+    ReceiverBeforeForm,
+    ReceiverBeforeState,
+    ReceiverBeforeFarRecord,
+    NotLookedAt(Field),
+    LowByte(Field),
+    OneTooMany(Field),
+    OneTooFew(Field),
+    /// The account of one kind is looked up on the wrong ledger.
+    OnOtherLedger(u8, Field),
+    OnLargerLedger,
+    OnSmallerLedger,
+}
+
+/// Those that a part can be wrong in for either checker.
+const ACCOUNTS: [Accounts; 32] = [
+    Accounts::OneNumber,
+    Accounts::OneNumberOf(1, 0),
+    Accounts::OneNumberOf(2, 0),
+    Accounts::OneNumberOf(3, 0),
+    Accounts::Exchanged,
+    Accounts::ReceiverFirst,
+    Accounts::ReceiverAfter(23),
+    Accounts::ReceiverAfter(24),
+    Accounts::ReceiverAfter(32),
+    Accounts::ReceiverAfter(41),
+    Accounts::SenderAfter(51),
+    Accounts::SenderAfter(23),
+    Accounts::SenderAfter(24),
+    Accounts::SenderAfter(32),
+    Accounts::ReceiverBeforeForm,
+    Accounts::ReceiverBeforeState,
+    Accounts::NotLookedAt(Field::Senders),
+    Accounts::NotLookedAt(Field::Receivers),
+    Accounts::LowByte(Field::Senders),
+    Accounts::LowByte(Field::Receivers),
+    Accounts::OneTooMany(Field::Senders),
+    Accounts::OneTooMany(Field::Receivers),
+    Accounts::OneTooFew(Field::Senders),
+    Accounts::OneTooFew(Field::Receivers),
+    Accounts::OnOtherLedger(1, Field::Senders),
+    Accounts::OnOtherLedger(1, Field::Receivers),
+    Accounts::OnOtherLedger(2, Field::Senders),
+    Accounts::OnOtherLedger(2, Field::Receivers),
+    Accounts::OnOtherLedger(3, Field::Senders),
+    Accounts::OnOtherLedger(3, Field::Receivers),
+    Accounts::OnLargerLedger,
+    Accounts::OnSmallerLedger,
+];
+
+const ACCOUNTS_OF_PAIR: [Accounts; 3] = [
+    Accounts::OneNumberOf(1, 1),
+    Accounts::OneNumberOf(2, 1),
+    Accounts::OneNumberOf(3, 1),
+];
+
+const ACCOUNTS_OF_HOME: [Accounts; 1] = [Accounts::ReceiverBeforeFarRecord];
+
+/// The refusals that come after 22, in their order.
+const AFTER_SENDER: [u8; 7] = [51, 23, 24, 25, 31, 32, 41];
+
+#[test]
+fn wrong_accounts_are_found() {
+    for seed in [7, 8, 1_000_003] {
+        for handed in [Handed::Record, Handed::List] {
+            for wrong in ACCOUNTS.into_iter().chain(ACCOUNTS_OF_PAIR) {
+                assert_accounts_found(Fault::PairAccounts(wrong, handed), seed, "pair", handed);
+            }
+            for wrong in ACCOUNTS.into_iter().chain(ACCOUNTS_OF_HOME) {
+                assert_accounts_found(Fault::HomeAccounts(wrong, handed), seed, "home", handed);
+            }
+        }
+    }
+}
+
+fn assert_accounts_found(fault: Fault, seed: u64, side: &str, handed: Handed) {
+    let report = compare(&mut Wrong::new(fault), seed, CALLS, 1);
+    assert!(report.differences > 0, "{fault:?} was not found by {seed}");
+    let call = match handed {
+        Handed::Record => "check_record",
+        Handed::List => "check_list",
+    };
+    assert_eq!(report.kept[0].call, format!("{side}_{call}"), "{fault:?}");
+    assert!(report.kept[0].found[0].starts_with("answer: "), "{fault:?}");
 }
 
 /// What a part takes for held though it stands beyond the count.
@@ -377,7 +615,7 @@ const IN_PLACE: [InPlace; 13] = [
     InPlace::PlaceAlwaysZero,
 ];
 
-const FAULTS: [Fault; 79] = [
+const FAULTS: [Fault; 85] = [
     Fault::ArrivalByNumber,
     Fault::KeepsWhatStoodBefore,
     Fault::WritesBeyondTheCount,
@@ -457,6 +695,12 @@ const FAULTS: [Fault; 79] = [
     Fault::ReservedByte,
     Fault::EncodesAnyVerdict,
     Fault::Padding,
+    Fault::PairBalanceTellsReceiver,
+    Fault::HomeBalanceTellsReceiver,
+    Fault::HeldAccountTold(Field::Senders),
+    Fault::HeldAccountTold(Field::Receivers),
+    Fault::HeldOpenOnEither(Field::Senders),
+    Fault::HeldOpenOnEither(Field::Receivers),
 ];
 
 /// What a part is wrong in when it tells the places left.
@@ -729,9 +973,25 @@ impl Wrong {
             Fault::LowBitsOfCounts(field, bits) => {
                 replace(state, field, |old| old & ((1 << bits) - 1))
             }
+            Fault::HeldOpenOnEither(field) => open_on_either(state, field),
             _ => return None,
         }
         Some(())
+    }
+
+    /// The number that is told of held accounts in place of 3.
+    fn held_told<S: Fields + Clone>(
+        &self,
+        state: &S,
+        accepted: impl Fn(&S) -> bool,
+    ) -> Option<Answer> {
+        let Fault::HeldAccountTold(field) = self.fault else {
+            return None;
+        };
+        let mut mended = Box::new(state.clone());
+        set_all(&mut *mended, field, 0);
+        let number = if field == Field::Senders { 22 } else { 51 };
+        accepted(&mended).then_some(refused(number))
     }
 
     fn home_repaired(&self, state: &HomeState) -> Option<Box<HomeState>> {
@@ -757,7 +1017,15 @@ impl Wrong {
     fn pair_record(&mut self, state: &PairState, bytes: &[u8]) -> (Answer, Box<PairState>) {
         let bytes = self.record(bytes);
         let (mut answer, mut next) = self.right.pair_check_record(state, bytes);
+        if let Fault::PairAccounts(wrong, Handed::Record) = self.fault {
+            let right = |bytes: &[u8]| Oracle.pair_check_record(state, bytes).0;
+            return (wrong.told(bytes, counts_of(state), right), next);
+        }
         if answer.number() == 3 {
+            let accepted = |state: &PairState| state.figures().0.passed();
+            if let Some(told) = self.held_told(state, accepted) {
+                return (told, next);
+            }
             if let Some(repaired) = self.pair_repaired(state) {
                 answer = self.right.pair_check_record(&repaired, bytes).0;
             }
@@ -791,6 +1059,14 @@ impl Wrong {
         }
         let bytes = self.list(bytes);
         let (answer, next) = self.right.pair_check_list(state, bytes);
+        if let Fault::PairAccounts(wrong, Handed::List) = self.fault {
+            let right = |before: &[u8], record: &[u8]| {
+                let state = Oracle.pair_check_list(state, before).1;
+                Oracle.pair_check_record(&state, record).0
+            };
+            let told = wrong.told_of_list(answer, bytes, counts_of(state), right);
+            return (told, next);
+        }
         if let (Fault::KeepsWhatStoodBefore, Refused { place, .. }) = (self.fault, answer) {
             let before = &bytes[..place as usize * RECORD];
             return (answer, self.right.pair_check_list(state, before).1);
@@ -821,7 +1097,15 @@ impl Wrong {
     fn home_record(&mut self, state: &HomeState, bytes: &[u8]) -> (Answer, Box<HomeState>) {
         let bytes = self.record(bytes);
         let (mut answer, next) = self.right.home_check_record(state, bytes);
+        if let Fault::HomeAccounts(wrong, Handed::Record) = self.fault {
+            let right = |bytes: &[u8]| Oracle.home_check_record(state, bytes).0;
+            return (wrong.told(bytes, counts_of(state), right), next);
+        }
         if answer.number() == 3 {
+            let accepted = |state: &HomeState| state.figures().0.passed();
+            if let Some(told) = self.held_told(state, accepted) {
+                return (told, next);
+            }
             if let Some(repaired) = self.home_repaired(state) {
                 answer = self.right.home_check_record(&repaired, bytes).0;
             }
@@ -831,6 +1115,14 @@ impl Wrong {
 
     fn home_list(&mut self, state: &HomeState, bytes: &[u8]) -> (Answer, Box<HomeState>) {
         let (answer, next) = self.right.home_check_list(state, self.list(bytes));
+        if let Fault::HomeAccounts(wrong, Handed::List) = self.fault {
+            let right = |before: &[u8], record: &[u8]| {
+                let state = Oracle.home_check_list(state, before).1;
+                Oracle.home_check_record(&state, record).0
+            };
+            let told = wrong.told_of_list(answer, bytes, counts_of(state), right);
+            return (told, next);
+        }
         (self.place(answer), next)
     }
 
@@ -877,6 +1169,165 @@ impl Wrong {
             (Fault::DueOneTooHigh, 32) if record.amount == seen.due + 1 => Passed,
             (Fault::DueReached, 0) if seen.arrival_of(&record) == Some(seen.due) => refused(32),
             _ => answer,
+        }
+    }
+}
+
+impl Accounts {
+    /// Whether sender and receiver are open as a part sees it that is wrong in
+    /// this.
+    fn seen_open(self, record: &Record, counts: [u64; 2]) -> [bool; 2] {
+        let sender = (Field::Senders, record.sender, record.sender_ledger());
+        let receiver = (Field::Receivers, record.receiver, record.receiver_ledger());
+        [sender, receiver].map(|(field, account, ledger)| {
+            let [own, other] = [ledger, ledger.other()].map(|ledger| counts[ledger.index()]);
+            let account = u64::from(account);
+            let kind = record.kind.byte();
+            match self {
+                Accounts::NotLookedAt(wrong) if wrong == field => true,
+                Accounts::LowByte(wrong) if wrong == field => account & 0xff < own,
+                Accounts::OneTooMany(wrong) if wrong == field => account <= own,
+                Accounts::OneTooFew(wrong) if wrong == field => account + 1 < own,
+                Accounts::OnOtherLedger(of, wrong) if (of, wrong) == (kind, field) => {
+                    account < other
+                }
+                Accounts::OnLargerLedger => account < own.max(other),
+                Accounts::OnSmallerLedger => account < own.min(other),
+                _ => account < own,
+            }
+        })
+    }
+
+    /// The answer to one record. `right` is what the library answers on the
+    /// same state.
+    fn told(self, bytes: &[u8], counts: [u64; 2], right: impl Fn(&[u8]) -> Answer) -> Answer {
+        let answer = right(bytes);
+        let Some(record) = Record::read(bytes) else {
+            let early = self == Accounts::ReceiverBeforeForm && answer.number() == 21;
+            let astray = early && receiver_astray(bytes, counts);
+            return if astray { refused(51) } else { answer };
+        };
+        let [sender, receiver] = self.seen_open(&record, counts);
+        match (self, answer.number()) {
+            (Accounts::OneNumber | Accounts::Exchanged, 51) => refused(22),
+            (Accounts::OneNumberOf(kind, ledger), 51) if bytes[..2] == [kind, ledger] => {
+                refused(22)
+            }
+            (Accounts::Exchanged, 22) => refused(51),
+            (Accounts::ReceiverFirst, 22) if !receiver => refused(51),
+            (Accounts::ReceiverAfter(last), 51) => {
+                let receiver = 0;
+                let open = Record { receiver, ..record };
+                if_not_after(right(&open.bytes()), last).unwrap_or(answer)
+            }
+            (Accounts::SenderAfter(last), 22) => {
+                let open = Record {
+                    sender: 0,
+                    ..record
+                };
+                if_not_after(right(&open.bytes()), last).unwrap_or(answer)
+            }
+            (Accounts::ReceiverBeforeState, 3) if !receiver => refused(51),
+            (Accounts::ReceiverBeforeFarRecord, 33) if !receiver => refused(51),
+            (_, 3 | 33) => answer,
+            _ if !sender => refused(22),
+            _ if !receiver => refused(51),
+            _ => right(&opened(&record, counts).bytes()),
+        }
+    }
+
+    /// The answer to a list, from the right one. `right` is what the library
+    /// answers to a record after others of the list.
+    fn told_of_list(
+        self,
+        answer: Answer,
+        bytes: &[u8],
+        counts: [u64; 2],
+        right: impl Fn(&[u8], &[u8]) -> Answer,
+    ) -> Answer {
+        let passed = match answer {
+            Passed => bytes.len() / RECORD,
+            Refused { place, .. } => place as usize,
+        };
+        let mut records = bytes.chunks(RECORD).enumerate();
+        // Records that pass are told otherwise for their accounts alone.
+        for (place, record) in records.by_ref().take(passed) {
+            let record = Record::read(record).expect("a passed record");
+            let open = self.seen_open(&record, counts);
+            if open != [true; 2] {
+                let number = if open[0] { 51 } else { 22 };
+                let place = place as u64;
+                return Refused { number, place };
+            }
+        }
+        let Some((place, record)) = records.next() else {
+            return answer;
+        };
+        let before = &bytes[..place * RECORD];
+        match self.told(record, counts, |record| right(before, record)) {
+            Passed => Passed,
+            Refused { number, .. } => {
+                let place = place as u64;
+                Refused { number, place }
+            }
+        }
+    }
+}
+
+/// An answer, if it is a refusal that comes up to this one in the order.
+fn if_not_after(answer: Answer, last: u8) -> Option<Answer> {
+    let rank = |number| AFTER_SENDER.iter().position(|&other| other == number);
+    let early = rank(answer.number()).is_some_and(|own| Some(own) <= rank(last));
+    early.then_some(answer)
+}
+
+/// Whether bytes that do not read as a record have a receiver's account that is
+/// not open all the same.
+fn receiver_astray(bytes: &[u8], counts: [u64; 2]) -> bool {
+    if bytes.len() != RECORD {
+        return false;
+    }
+    let Some(kind) = Kind::from_bytes(bytes[0], bytes[1]) else {
+        return false;
+    };
+    let record = Record {
+        kind,
+        sender: 0,
+        receiver: u16::from_be_bytes([bytes[4], bytes[5]]),
+        number: 0,
+        amount: 1,
+        good: true,
+    };
+    !Accounts::OneNumber.seen_open(&record, counts)[1]
+}
+
+/// A record with account 0 for each that is not open.
+fn opened(record: &Record, counts: [u64; 2]) -> Record {
+    let [sender, receiver] = Accounts::OneNumber.seen_open(record, counts);
+    Record {
+        sender: if sender { record.sender } else { 0 },
+        receiver: if receiver { record.receiver } else { 0 },
+        ..*record
+    }
+}
+
+/// The open accounts of home and far.
+fn counts_of<S: Fields>(state: &S) -> [u64; 2] {
+    [0, 1].map(|ledger| state.get(Field::Accounts, ledger))
+}
+
+/// Held accounts that are open on the other ledger only become 0.
+fn open_on_either<S: Fields>(state: &mut S, field: Field) {
+    let counts = counts_of(state);
+    for ledger in 0..S::LEDGERS {
+        for entry in held_entries(state, ledger) {
+            let crossing = if field == Field::Senders { 3 } else { 2 };
+            let there = state.get(Field::Kinds, entry) == crossing;
+            let own = if there { 1 - ledger } else { ledger };
+            let account = state.get(field, entry);
+            if (counts[own]..counts[1 - own]).contains(&account) {
+                state.set(field, entry, 0);
+            }
         }
     }
 }
@@ -1236,7 +1687,12 @@ impl Part for Wrong {
         self.listener.note(bytes);
         self.listener.note_state(state);
         self.listener.pair_handed_in(state);
-        self.pair_record(state, bytes)
+        let handed = self.pair_record(state, bytes);
+        if self.listener.absent_at(handed.0).is_some() {
+            let right = |bytes: &[u8]| Oracle.pair_check_record(state, bytes).0;
+            self.listener.refused(Handed::Record, bytes, state, right);
+        }
+        handed
     }
 
     fn pair_check_list(&mut self, state: &PairState, bytes: &[u8]) -> (Answer, Box<PairState>) {
@@ -1244,6 +1700,12 @@ impl Part for Wrong {
         self.listener.pair_handed_in(state);
         let (answer, next) = self.pair_list(state, bytes);
         self.listener.pair_listed(&next);
+        if let Some(at) = self.listener.absent_at(answer) {
+            let state = Oracle.pair_check_list(state, &bytes[..at]).1;
+            let right = |bytes: &[u8]| Oracle.pair_check_record(&state, bytes).0;
+            let record = &bytes[at..at + RECORD];
+            self.listener.refused(Handed::List, record, &*state, right);
+        }
         (answer, next)
     }
 
@@ -1278,6 +1740,9 @@ impl Part for Wrong {
             return self.right.pair_balance(state, ledger.min(1), account);
         }
         let (answer, balance) = self.right.pair_balance(state, ledger, account);
+        if self.is(Fault::PairBalanceTellsReceiver) && answer.number() == 22 {
+            return (refused(51), balance);
+        }
         let account = usize::from(account);
         if self.is(Fault::BalanceBeyondAccounts) && answer.number() == 22 && account < 56 {
             return (Passed, state.balances(0)[account]);
@@ -1307,7 +1772,12 @@ impl Part for Wrong {
         self.listener.note(bytes);
         self.listener.note_state(state);
         self.listener.home_handed_in(state);
-        self.home_record(state, bytes)
+        let handed = self.home_record(state, bytes);
+        if self.listener.absent_at(handed.0).is_some() {
+            let right = |bytes: &[u8]| Oracle.home_check_record(state, bytes).0;
+            self.listener.refused(Handed::Record, bytes, state, right);
+        }
+        handed
     }
 
     fn home_check_list(&mut self, state: &HomeState, bytes: &[u8]) -> (Answer, Box<HomeState>) {
@@ -1315,6 +1785,12 @@ impl Part for Wrong {
         self.listener.home_handed_in(state);
         let (answer, next) = self.home_list(state, bytes);
         self.listener.home_listed(&next);
+        if let Some(at) = self.listener.absent_at(answer) {
+            let state = Oracle.home_check_list(state, &bytes[..at]).1;
+            let right = |bytes: &[u8]| Oracle.home_check_record(&state, bytes).0;
+            let record = &bytes[at..at + RECORD];
+            self.listener.refused(Handed::List, record, &*state, right);
+        }
         (answer, next)
     }
 
@@ -1335,7 +1811,11 @@ impl Part for Wrong {
 
     fn home_balance(&mut self, state: &HomeState, account: u16) -> (Answer, u64) {
         self.listener.home_handed_in(state);
-        self.right.home_balance(state, account)
+        let (answer, balance) = self.right.home_balance(state, account);
+        if self.is(Fault::HomeBalanceTellsReceiver) && answer.number() == 22 {
+            return (refused(51), balance);
+        }
+        (answer, balance)
     }
 
     fn home_places_left(&mut self, state: &HomeState) -> (Answer, u64) {

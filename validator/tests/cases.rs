@@ -1,4 +1,4 @@
-//! The cases of paper 01 and its listing.
+//! The cases of paper 01 and its listing, with change U1 of paper 02.
 
 use second_validator::answer::Answer::{self, Passed};
 use second_validator::guard::Guard;
@@ -73,6 +73,23 @@ fn case_6_self_transfer() {
 #[test]
 fn case_7_account() {
     assert_eq!(pair().call(&local(Home, 2, 0, 1, 1).bytes()), refused(22));
+    assert_eq!(guard().call(&local(Home, 2, 0, 1, 1).bytes()), refused(22));
+}
+
+/// Paper 02, U1: the receiver's account has its own number, after the sender's.
+#[test]
+fn case_7_with_the_other_account() {
+    for (record, number) in [
+        (local(Home, 0, 2, 1, 1), 51),
+        (local(Home, 2, 2, 1, 1), 22),
+        (sending(Home, 0, 1, 1, 1), 51),
+        (sending(Home, 2, 1, 1, 1), 22),
+        (arrival(Home, 0, 2, 1, 1), 51),
+        (arrival(Home, 1, 2, 1, 1), 22),
+    ] {
+        assert_eq!(pair().call(&record.bytes()), refused(number));
+        assert_eq!(guard().call(&record.bytes()), refused(number));
+    }
 }
 
 #[test]

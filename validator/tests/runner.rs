@@ -1,18 +1,19 @@
 //! The making of journals and the running of a program.
 
-use std::collections::BTreeMap;
+use std::collections::{BTreeMap, BTreeSet};
 use std::fs;
 use std::os::unix::fs::PermissionsExt;
 use std::path::{Path, PathBuf};
 use std::time::Duration;
 
-use second_validator::journal::{seal, BLOCK, FULL, ITEMS};
+use second_validator::journal::{records, seal, stakes, BLOCK, FULL, ITEMS};
 use second_validator::listing::listing;
-use second_validator::record::RECORD;
+use second_validator::record::{Kind, Ledger, Record, RECORD};
 use second_validator::runner::families::{self, Plan};
 use second_validator::runner::full::{self, Fill};
 use second_validator::runner::process::{PrivateFolder, Runner};
 use second_validator::runner::store;
+use second_validator::running::RunningBook;
 
 fn plan(journals: usize) -> Plan {
     Plan {
@@ -47,7 +48,7 @@ fn families_reach_every_answer() {
     })
     .unwrap();
     for family in ["faults", "full_tables"] {
-        for answer in [0, 21, 22, 23, 24, 25, 31, 41] {
+        for answer in [0, 21, 22, 23, 24, 25, 31, 41, 51] {
             let count = tallies[family].get(&(false, answer)).copied();
             assert!(count > Some(10), "{family} {answer} {count:?}");
         }
@@ -58,6 +59,120 @@ fn families_reach_every_answer() {
     }
     assert!(tallies["openings"][&(true, 2)] > 10);
     assert!(tallies["openings"][&(true, 14)] > 5);
+}
+
+/// A record with an account that is not open.
+#[derive(Clone, Copy, Debug, PartialEq, Eq, PartialOrd, Ord)]
+struct Absent {
+    kind: u8,
+    ledger: u8,
+    sender: bool,
+    receiver: bool,
+    /// What is answered once its accounts are open.
+    beside: u8,
+}
+
+/// The records of a sound journal with an account that is not open. What the
+/// journal lists for them is held to 22 and 51.
+fn absent_accounts(journal: &[u8]) -> BTreeSet<Absent> {
+    let [home, far] = [&journal[..BLOCK], &journal[BLOCK..]].map(stakes);
+    let mut book = RunningBook::open(&home, &far).unwrap();
+    let open = |ledger, account: u16| {
+        let stakes = if ledger == Ledger::Home { &home } else { &far };
+        usize::from(account) < stakes.len()
+    };
+    let text = String::from_utf8(listing(journal)).unwrap();
+    let listed = text.lines().skip(2).map(|line| line.split(' ').nth(2));
+    let blocks = journal[2 * BLOCK..].chunks_exact(BLOCK);
+    let mut found = BTreeSet::new();
+    for (bytes, listed) in blocks.flat_map(records).zip(listed) {
+        if let Some(record) = Record::read(bytes) {
+            let (from, to) = match record.kind {
+                Kind::Local(ledger) => (ledger, ledger),
+                Kind::Sending(ledger) => (ledger, ledger.other()),
+                Kind::Arrival(ledger) => (ledger.other(), ledger),
+            };
+            let [sender, receiver] = [open(from, record.sender), open(to, record.receiver)];
+            if !sender || !receiver {
+                let number = if sender { "51" } else { "22" };
+                assert_eq!(listed, Some(number), "{record:?}");
+                let opened = Record {
+                    sender: if sender { record.sender } else { 0 },
+                    receiver: if receiver { record.receiver } else { 0 },
+                    ..record
+                };
+                found.insert(Absent {
+                    kind: bytes[0],
+                    ledger: bytes[1],
+                    sender: !sender,
+                    receiver: !receiver,
+                    beside: book.judge(&opened.bytes()).unwrap_or(0),
+                });
+            }
+        }
+        book.call(bytes);
+    }
+    found
+}
+
+/// Each kind on each ledger with one account or both not open, and with each of
+/// some answers beside it; 31 in place of 0, 25 and 41 for arrivals, which no
+/// passed sending matches.
+fn every_absent(beside: &[u8]) -> BTreeSet<Absent> {
+    let mut all = BTreeSet::new();
+    for kind in 1..=3 {
+        for ledger in 0..=1 {
+            for (sender, receiver) in [(false, true), (true, false), (true, true)] {
+                for &beside in beside {
+                    let beside = match beside {
+                        0 | 25 | 41 if kind == 3 => 31,
+                        other => other,
+                    };
+                    all.insert(Absent {
+                        kind,
+                        ledger,
+                        sender,
+                        receiver,
+                        beside,
+                    });
+                }
+            }
+        }
+    }
+    all
+}
+
+#[test]
+fn families_have_every_sort_of_absent_accounts() {
+    let mut of_worlds = [BTreeSet::new(), BTreeSet::new()];
+    let mut named = 0;
+    families::each(&plan(0), |family| {
+        for index in 0..family.count() {
+            let sample = family.sample(index);
+            let absent = || absent_accounts(&sample.journal);
+            if let Some(rest) = sample.name.strip_prefix("absent_accounts_") {
+                let passed = if rest.ends_with("true") { 41 } else { 0 };
+                let missing: Vec<Absent> = every_absent(&[passed, 23, 24, 25])
+                    .difference(&absent())
+                    .copied()
+                    .collect();
+                assert_eq!(missing, [], "{rest}");
+                named += 1;
+            }
+            for (world, name) in ["world_3_", "world_4_"].into_iter().enumerate() {
+                if sample.name.starts_with(name) {
+                    of_worlds[world].extend(absent());
+                }
+            }
+        }
+        Ok::<(), ()>(())
+    })
+    .unwrap();
+    assert_eq!(named, 4);
+    for found in of_worlds {
+        let wanted = every_absent(&[0, 23, 24, 25]);
+        assert_eq!(wanted.difference(&found).next(), None);
+    }
 }
 
 #[test]
@@ -117,11 +232,11 @@ fn stored_journals() {
             );
         }
     }
-    assert!(samples.len() == 62 && size < 1_000_000);
+    assert!(samples.len() == 65 && size < 1_000_000);
     for key in [2, 11, 12, 13, 14].map(|number| (true, number)) {
         assert!(tally.contains_key(&key));
     }
-    for key in [0, 21, 22, 23, 24, 25, 31, 41].map(|number| (false, number)) {
+    for key in [0, 21, 22, 23, 24, 25, 31, 41, 51].map(|number| (false, number)) {
         assert!(tally.contains_key(&key));
     }
 }
@@ -129,6 +244,67 @@ fn stored_journals() {
 fn stored(name: &str) -> Vec<u8> {
     let mut samples = store::samples().into_iter();
     samples.find(|sample| sample.name == name).unwrap().journal
+}
+
+#[test]
+fn stored_journals_of_absent_accounts() {
+    for (name, counts, [more, fewer]) in [
+        ("refusal_51", [4, 2], [0, 1]),
+        ("refusal_51_far_larger", [2, 4], [1, 0]),
+    ] {
+        let journal = stored(name);
+        assert_eq!([journal[5], journal[BLOCK + 5]], counts, "{name}");
+        let found = absent_accounts(&journal);
+        assert!(found.is_superset(&every_absent(&[0])), "{name} {found:?}");
+        // Kind, ledger, sender and receiver of crossings with account 2 or 3,
+        // which are open on the larger ledger only: where they are not open,
+        // then where they are.
+        let blocks = journal[2 * BLOCK..].chunks_exact(BLOCK);
+        let crossings: BTreeSet<(u8, u8, u16, u16)> = blocks
+            .flat_map(records)
+            .filter_map(Record::read)
+            .map(|record| {
+                let [kind, ledger] = [record.kind.byte(), record.ledger().byte()];
+                (kind, ledger, record.sender, record.receiver)
+            })
+            .collect();
+        for crossing in [
+            (2, more, 3, 2),
+            (2, fewer, 2, 3),
+            (3, fewer, 3, 2),
+            (3, more, 2, 3),
+            (2, more, 3, 1),
+            (2, fewer, 1, 3),
+            (3, fewer, 3, 1),
+            (3, more, 1, 3),
+        ] {
+            assert!(crossings.contains(&crossing), "{name} {crossing:?}");
+        }
+        let answers = ledgers_and_answers(&journal);
+        let passed = answers.iter().filter(|(_, answer)| *answer == 0);
+        assert_eq!(passed.count(), 7, "{name}");
+    }
+}
+
+#[test]
+fn stored_order_of_51() {
+    let journal = stored("order_of_51");
+    let found = absent_accounts(&journal);
+    for wanted in every_absent(&[0, 23, 24, 25]) {
+        // Beside 22 either nothing or all of them are due.
+        let met = found.contains(&wanted) || wanted.sender && wanted.beside != 23;
+        assert!(met || !wanted.receiver, "{wanted:?}");
+    }
+    let answers = ledgers_and_answers(&journal);
+    for (place, (_, answer)) in answers.iter().enumerate() {
+        assert_eq!(*answer == 0, place < 2 || place % 2 == 1, "{place}");
+    }
+    for (answer, of_each_kind) in [(21, 2), (22, 2), (51, 5)] {
+        for ledger in [0, 1] {
+            let same = |other: &&(u8, u32)| **other == (ledger, answer);
+            assert_eq!(answers.iter().filter(same).count(), 3 * of_each_kind);
+        }
+    }
 }
 
 /// The ledger byte and the answer of each listed record.
@@ -191,7 +367,7 @@ fn long_stored_journals_pass_and_refuse_to_their_end() {
             assert!(some.iter().any(|&(_, answer)| answer != 0), "{block}");
         }
         for quarter in answers.chunks(answers.len().div_ceil(4)) {
-            for answer in [21, 22, 23, 24, 25, 31] {
+            for answer in [21, 22, 23, 24, 25, 31, 51] {
                 assert!(quarter.contains(&(0, answer)), "{answer}");
                 assert!(quarter.contains(&(1, answer)), "{answer}");
             }

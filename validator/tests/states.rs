@@ -6,7 +6,7 @@ use second_validator::answer::Answer::{self, Passed};
 use second_validator::journal::{
     block_balances, block_count, block_record, judge_place, part, seal, BLOCK, FULL,
 };
-use second_validator::record::Ledger::{Far, Home};
+use second_validator::record::Ledger::{self, Far, Home};
 use second_validator::record::{record_encode, record_read, Held, Record, MAX_AMOUNT};
 use second_validator::runner::build::{
     arrival, lawful_block, local, sending, stake_bytes, RESERVED,
@@ -66,11 +66,21 @@ fn traded_home() -> Box<HomeState> {
     state
 }
 
-/// Every call refuses the state with 3, alters nothing and shows nothing.
 fn assert_pair_refused(alter: impl Fn(&mut PairState)) {
     let mut state = traded();
     alter(&mut state);
-    let before = state.clone();
+    assert_pair_state_refused(&state);
+}
+
+fn assert_home_refused(alter: impl Fn(&mut HomeState)) {
+    let mut state = traded_home();
+    alter(&mut state);
+    assert_home_state_refused(&state);
+}
+
+/// Every call refuses the state with 3, alters nothing and shows nothing.
+fn assert_pair_state_refused(before: &PairState) {
+    let mut state = before.clone();
     let record = local(Home, 0, 0, 77, 1).bytes();
     for bytes in [&record[..], &[], &record[..5], &[record, record].concat()] {
         assert_eq!(state.check_record(bytes), refused(3));
@@ -80,13 +90,11 @@ fn assert_pair_refused(alter: impl Fn(&mut PairState)) {
     assert_eq!(state.balance(0, 0), (refused(3), 0));
     assert_eq!(state.balance(2, 60), (refused(3), 0));
     assert_eq!(state.places_left(), (refused(3), [0; 2]));
-    assert!(state == before);
+    assert!(state == *before);
 }
 
-fn assert_home_refused(alter: impl Fn(&mut HomeState)) {
-    let mut state = traded_home();
-    alter(&mut state);
-    let before = state.clone();
+fn assert_home_state_refused(before: &HomeState) {
+    let mut state = before.clone();
     let record = local(Home, 0, 0, 77, 1).bytes();
     for bytes in [&record[..], &[], &record[..5], &[record, record].concat()] {
         assert_eq!(state.check_record(bytes), refused(3));
@@ -96,7 +104,7 @@ fn assert_home_refused(alter: impl Fn(&mut HomeState)) {
     assert_eq!(state.balance(0), (refused(3), 0));
     assert_eq!(state.balance(60), (refused(3), 0));
     assert_eq!(state.places_left(), (refused(3), 0));
-    assert!(state == before);
+    assert!(state == *before);
 }
 
 /// The words of a held record.
@@ -316,6 +324,8 @@ fn cases_5_to_8() {
     assert_eq!(answer(local(Home, 0, 0, 1, 100)), Passed);
     assert_eq!(answer(local(Home, 0, 0, 1, 101)), refused(25));
     assert_eq!(answer(local(Home, 2, 0, 1, 1)), refused(22));
+    assert_eq!(answer(local(Home, 0, 2, 1, 1)), refused(51));
+    assert_eq!(answer(local(Home, 2, 2, 1, 1)), refused(22));
     assert_eq!(answer(local(Home, 0, 0, 1, 0)), refused(21));
     assert_eq!(answer(local(Home, 0, 0, 1, MAX_AMOUNT)), refused(25));
     assert_eq!(answer(local(Home, 0, 0, 1, 1 << 63)), refused(21));
@@ -580,6 +590,122 @@ fn forged_held_records() {
     }
 }
 
+/// A held record with a sender, a receiver or both that are not open, on states
+/// where home has more accounts and where far has. A sending and its arrival are
+/// altered alike, so that nothing else is wrong.
+#[test]
+fn forged_held_accounts() {
+    for counts in [[3_u64, 1], [1, 3]] {
+        let good = crossed(counts);
+        // The entries of a record and of its other half, and the ledgers of its
+        // sender and receiver.
+        for (entries, ledgers) in [
+            ([0, 0], [0, 0]),
+            ([FAR, FAR], [1, 1]),
+            ([1, FAR + 3], [0, 1]),
+            ([FAR + 1, 3], [1, 0]),
+            ([2, 2], [0, 1]),
+            ([FAR + 2, FAR + 2], [1, 0]),
+        ] {
+            for more in [0, 1, 253, 65_532] {
+                let [sender, receiver] = ledgers.map(|ledger| counts[ledger] + more);
+                let [sender, receiver] = [(Field::Senders, sender), (Field::Receivers, receiver)];
+                for fields in [&[sender][..], &[receiver], &[sender, receiver]] {
+                    let mut state = good.clone();
+                    for entry in entries {
+                        for &(field, account) in fields {
+                            state.set(field, entry, account);
+                        }
+                    }
+                    assert_pair_state_refused(&state);
+                    if entries.iter().any(|&entry| entry < FAR) {
+                        assert_home_state_refused(&home_of(&state));
+                    }
+                }
+            }
+        }
+        assert_eq!(good.places_left().0, Passed);
+        assert_eq!(home_of(&good).places_left().0, Passed);
+    }
+}
+
+/// A pair state with so many accounts whose ledgers each hold a local, a sending
+/// that has arrived, one in flight and an arrival.
+fn crossed(counts: [u64; 2]) -> Box<PairState> {
+    let [home, far] = counts.map(|count| vec![20; count as usize]);
+    let (_, mut state) = PairState::open(&home, &far);
+    let last = |ledger: Ledger| counts[ledger.index()] as u16 - 1;
+    for ledger in [Home, Far] {
+        let [here, there] = [last(ledger), last(ledger.other())];
+        for record in [
+            local(ledger, here, 0, 1, 1),
+            sending(ledger, here, there, 2 + u64::from(ledger.byte()), 2),
+            sending(ledger, 0, there, 4, 3),
+        ] {
+            assert_eq!(state.check_record(&record.bytes()), Passed);
+        }
+    }
+    for ledger in [Home, Far] {
+        let [here, there] = [last(ledger), last(ledger.other())];
+        let number = 2 + u64::from(ledger.other().byte());
+        let record = arrival(ledger, there, here, number, 2);
+        assert_eq!(state.check_record(&record.bytes()), Passed);
+    }
+    state
+}
+
+/// The guard's state with home's part of a pair state.
+fn home_of(state: &PairState) -> Box<HomeState> {
+    let home = state.balances(0)[..state.accounts(0) as usize].to_vec();
+    let rest = state.supply() - home.iter().sum::<u64>();
+    let (answer, mut guard) = HomeState::open(&home, state.accounts(1) as usize, rest);
+    assert_eq!(answer, Passed);
+    for entry in 0..state.count(0) as usize {
+        guard.put_held(entry, state.held(entry));
+    }
+    guard.words[HomeState::COUNTS] = state.count(0);
+    guard
+}
+
+/// 22 and 51 of both checkers, by record and by list, leave every word of the
+/// state, and a list tells their place.
+#[test]
+fn absent_accounts_leave_the_states() {
+    for counts in [[3_u64, 1], [1, 3]] {
+        let good = crossed(counts);
+        let guard = home_of(&good);
+        let [home, far] = counts.map(|count| count as u16);
+        for (record, number) in [
+            (local(Home, 0, home, 50, 1), 51),
+            (local(Home, home, 0, 50, 1), 22),
+            (local(Home, home, home, 50, 1), 22),
+            (sending(Home, 0, far, 50, 1), 51),
+            (sending(Home, home, 0, 50, 1), 22),
+            (sending(Home, home, far, 50, 1), 22),
+            (arrival(Home, 0, home, 50, 1), 51),
+            (arrival(Home, far, 0, 50, 1), 22),
+            (arrival(Home, far, home, 50, 1), 22),
+            (local(Far, 0, far, 50, 1), 51),
+            (sending(Far, 0, home, 50, 1), 51),
+            (arrival(Far, 0, far, 50, 1), 51),
+            (arrival(Far, home, far, 50, 1), 22),
+        ] {
+            let before = [local(Home, 0, 0, 51, 1), local(Home, 0, 0, 52, 1)];
+            let mut list: Vec<u8> = before.iter().flat_map(Record::bytes).collect();
+            list.extend(record.bytes());
+            let mut state = good.clone();
+            assert_eq!(state.check_record(&record.bytes()), refused(number));
+            assert_eq!(state.check_list(&list), refused_at(number, 2));
+            assert!(state == good);
+            let number = if record.ledger() == Far { 33 } else { number };
+            let mut state = guard.clone();
+            assert_eq!(state.check_record(&record.bytes()), refused(number));
+            assert_eq!(state.check_list(&list), refused_at(number, 2));
+            assert!(state == guard);
+        }
+    }
+}
+
 /// A sending that differs from what its arrival wants in one byte alone: its
 /// number has arrived all the same, so that no sum is altered but for the
 /// number, which is then in flight.
@@ -651,13 +777,16 @@ fn forged_states_that_are_accepted() {
 #[test]
 fn calls_in_place_are_those_by_value() {
     let own = |number| local(Home, 0, 1, number, 1).bytes();
+    let astray = local(Home, 0, 2, 21, 1).bytes();
     let list = [own(20), own(21)].concat();
     let late = [own(20), own(20)].concat();
+    let lost = [own(20), astray].concat();
     for (pair, home) in [
         (traded(), traded_home()),
         (Box::new(PairState::ZERO), Box::new(HomeState::ZERO)),
     ] {
-        for bytes in [&own(20)[..], &own(6), &list, &late, &list[..40], &[]] {
+        let handed = [&own(20)[..], &own(6), &list, &late, &astray, &lost];
+        for bytes in handed.into_iter().chain([&list[..40], &[]]) {
             let right = Oracle.pair_check_record(&pair, bytes);
             let mut state = pair.clone();
             assert_eq!(
@@ -711,6 +840,13 @@ fn balances_of_accounts() {
     for account in [2, 55, 56, 65_535] {
         assert_eq!(state.balance(account), (refused(22), 0));
     }
+    // Each ledger by its own number of accounts.
+    let (_, more_at_far) = PairState::open(&[1], &[2; 3]);
+    assert_eq!(more_at_far.balance(0, 1), (refused(22), 0));
+    assert_eq!(more_at_far.balance(1, 2), (Passed, 2));
+    assert_eq!(more_at_far.balance(1, 3), (refused(22), 0));
+    let (_, more_at_far) = HomeState::open(&[1], 3, 6);
+    assert_eq!(more_at_far.balance(1), (refused(22), 0));
     let (_, full) = PairState::open(&[1; 56], &[2; 56]);
     assert_eq!(full.balance(0, 55), (Passed, 1));
     assert_eq!(full.balance(1, 55), (Passed, 2));

@@ -1,5 +1,5 @@
 // Lists the journals that its arguments name, each after its name. The journals in data/ and the lines in stdout were made by the
-// second validator (validator/, `store`), which was written from document 01 alone.
+// second validator (validator/, `store`), which was written from documents 01 and 02 alone.
 use libc::STDOUT_FILENO;
 
 // The name of argument i, and the listing of its journal.

@@ -1,7 +1,8 @@
-//! Not part of paper 01: journals and calls made from a seed, the comparison of
+//! Not part of the papers: journals and calls made from a seed, the comparison of
 //! another program's listings and of another part's answers with the library's,
 //! and stored and full journals.
 
+pub mod absent;
 pub mod build;
 pub mod calls;
 pub mod compare;

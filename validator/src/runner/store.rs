@@ -20,7 +20,7 @@ use super::trader::{Numbers, Trader};
 use crate::journal::{seal, BLOCK, CHECK, FULL};
 use crate::listing::listing;
 use crate::record::Ledger::{self, Far, Home};
-use crate::record::{Record, MAX_AMOUNT};
+use crate::record::{Kind, Record, MAX_AMOUNT};
 use crate::rules::MAX_ACCOUNTS;
 
 /// Writes `NAME.journal` and `NAME.listing` for each stored journal.
@@ -253,7 +253,12 @@ fn push_records(samples: &mut Vec<Sample>) {
     push(samples, "refusal_24", used_numbers());
     push(samples, "refusal_25", small_balances());
     push(samples, "refusal_31", unmatched_arrivals());
+    let (more, fewer) = ([100, 50, 30, 7], [40, 20]);
+    push(samples, "refusal_51", absent_accounts(&more, &fewer));
+    let far_larger = absent_accounts(&fewer, &more);
+    push(samples, "refusal_51_far_larger", far_larger);
     push(samples, "order_of_refusals", several_faults());
+    push(samples, "order_of_51", beside_an_absent_receiver());
 }
 
 /// Each field that can be wrong by itself, between two records that pass.
@@ -279,7 +284,8 @@ fn wrong_forms() -> Vec<u8> {
     journal(&Opening::of_cases(), &records)
 }
 
-/// Accounts that are open on one ledger only: home has 0 and 1, far has 0.
+/// Accounts that are open on one ledger only: home has 0 and 1, far has 0. The
+/// sender's is wrong (22), the receiver's (51) or both (22).
 fn wrong_accounts() -> Vec<u8> {
     of_cases(&[
         local(Home, 2, 0, 1, 1),
@@ -377,6 +383,60 @@ fn unmatched_arrivals() -> Vec<u8> {
     journal(&Opening::new(&[100, 50], &[20, 4]), &bytes)
 }
 
+/// For each kind on each ledger a record that passes, and before it the same
+/// with accounts that are not open: the receiver's alone (51), the sender's
+/// alone (22), both (22).
+fn absent_accounts(home: &[u64], far: &[u64]) -> Vec<u8> {
+    let counts = [home.len() as u16, far.len() as u16];
+    let mut records = vec![local(Home, 0, 0, 1, 1)];
+    for kind in [Kind::Local, Kind::Sending, Kind::Arrival] {
+        for ledger in Ledger::BOTH {
+            let record = between_last_accounts(kind(ledger), counts);
+            let senders = not_open(record.sender_ledger(), counts);
+            let receivers = not_open(record.receiver_ledger(), counts);
+            records.extend(receivers.map(|receiver| Record { receiver, ..record }));
+            records.extend(senders.map(|sender| Record { sender, ..record }));
+            records.extend(senders.into_iter().zip(receivers).map(|both| Record {
+                sender: both.0,
+                receiver: both.1,
+                ..record
+            }));
+            records.push(record);
+        }
+    }
+    let bytes: Vec<Bytes> = records.iter().map(Record::bytes).collect();
+    journal(&Opening::new(home, far), &bytes)
+}
+
+/// A record between the last accounts of its two ledgers. A sending and its
+/// arrival have one number.
+fn between_last_accounts(kind: Kind, counts: [u16; 2]) -> Record {
+    let mut record = Record {
+        kind,
+        sender: 0,
+        receiver: 0,
+        number: 9,
+        amount: 5,
+        good: true,
+    };
+    let [from, to] = [record.sender_ledger(), record.receiver_ledger()];
+    record.sender = counts[from.index()] - 1;
+    record.receiver = counts[to.index()] - 1;
+    if from != to {
+        record.number = 7 + u64::from(from.byte());
+    }
+    record
+}
+
+/// Accounts that are not open on a ledger: the first beyond, one more that is
+/// open on the other ledger if that is larger, one with an open low byte, and
+/// the highest.
+fn not_open(ledger: Ledger, counts: [u16; 2]) -> [u16; 4] {
+    let count = counts[ledger.index()];
+    let last = counts[ledger.other().index()] - 1;
+    [count, last.max(count + 1), 256, 65_535]
+}
+
 /// Records with more and more faults, from the last in the order to the first.
 fn several_faults() -> Vec<u8> {
     let mut records = vec![
@@ -415,6 +475,60 @@ fn more_and_more(ledger: Ledger, shape: Shape) -> [Bytes; 5] {
         unsigned.bytes(),
         absent.bytes(),
         formless,
+    ]
+}
+
+/// A receiver's account that is not open, with each other refusal due beside
+/// it, for each kind on each ledger; between any two of them a record passes.
+fn beside_an_absent_receiver() -> Vec<u8> {
+    let mut records = vec![
+        local(Home, 0, 1, 1, 1).bytes(),
+        local(Far, 0, 0, 1, 1).bytes(),
+    ];
+    let mut crossings = there_and_back();
+    for ledger in [Home, Far] {
+        for shape in [local, sending, arrival] {
+            for refused in absent_with_others(ledger, shape) {
+                records.push(refused);
+                records.extend(crossings.next().map(|passing| passing.bytes()));
+            }
+        }
+    }
+    journal(&Opening::of_cases(), &records)
+}
+
+/// Sendings, each with its arrival after it, from home and from far in turn.
+fn there_and_back() -> impl Iterator<Item = Record> {
+    (1_000..).flat_map(|number| {
+        let from = if number % 2 == 0 { Home } else { Far };
+        let over = sending(from, 0, 0, number, 1);
+        [over, over.matching_arrival()]
+    })
+}
+
+/// 51 alone and with 21, 22, 23, 24, and 25 or 31 beside it, then with several
+/// of them.
+fn absent_with_others(ledger: Ledger, shape: Shape) -> [Bytes; 9] {
+    let absent = shape(ledger, 0, 2, 2, 1);
+    let with = |sender: u16, number: u64, amount: u64, good: bool| Record {
+        sender,
+        number,
+        amount,
+        good,
+        ..absent
+    };
+    let mut formless = absent.bytes();
+    formless[31] = 1;
+    [
+        absent.bytes(),
+        formless,
+        with(0, 2, 0, true).bytes(),
+        with(2, 2, 1, true).bytes(),
+        with(0, 2, 1, false).bytes(),
+        with(0, 1, 1, true).bytes(),
+        with(0, 2, 5_000, true).bytes(),
+        with(0, 1, 5_000, false).bytes(),
+        with(2, 1, 5_000, false).bytes(),
     ]
 }
 

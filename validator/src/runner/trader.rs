@@ -303,6 +303,18 @@ pub fn rich_opening(rng: &mut Rng) -> Opening {
     }
 }
 
+/// An opening with credit in every account and with more accounts on the given
+/// ledger than on the other.
+pub fn unequal_opening(rng: &mut Rng, larger: Ledger) -> Opening {
+    let [more, fewer] = rng.pick(&[[2, 1], [3, 2], [5, 2], [12, 7], [56, 1], [56, 55]]);
+    let more = rich_stakes(rng, more, 1_000_000);
+    let fewer = rich_stakes(rng, fewer, 1_000_000);
+    match larger {
+        Ledger::Home => Opening::new(&more, &fewer),
+        Ledger::Far => Opening::new(&fewer, &more),
+    }
+}
+
 fn rich_stakes(rng: &mut Rng, count: usize, scale: u64) -> Vec<u64> {
     (0..count).map(|_| 1_000 + rng.below(scale)).collect()
 }

@@ -19,8 +19,8 @@ use crate::record::{Held, RECORD};
 use crate::states::{HomeState, PairState};
 use families::FAMILIES;
 
-/// A part with all calls of paper 01, on plain words and numbers, and with the
-/// places left, which that paper does not have. Lent things stay as they are; a
+/// A part with all calls of the papers, on plain words and numbers, and with the
+/// places left, which they do not have. Lent things stay as they are; a
 /// state comes back beside the answer, refused or passed. Only the calls that
 /// take are lent a state to alter, and a refusal leaves each word of it as it
 /// was. There are no ready-made methods, so that none is left out unseen.
@@ -28,7 +28,7 @@ pub trait Part {
     /// Opens a pair book: 1, 2. The state of zeros beside a refusal.
     fn pair_open(&mut self, home: &[u64], far: &[u64]) -> (Answer, Box<PairState>);
 
-    /// One record: 3, 21 to 25, 31, 41.
+    /// One record: 3, 21, 22, 51, 23 to 25, 31, 41.
     fn pair_check_record(&mut self, state: &PairState, bytes: &[u8]) -> (Answer, Box<PairState>);
 
     /// A list of records: as one record, with the index of the refused one.
@@ -43,7 +43,7 @@ pub trait Part {
     /// Home total, far total and in flight: 3. Zeros beside a refusal.
     fn pair_figures(&mut self, state: &PairState) -> (Answer, [u64; 3]);
 
-    /// A balance: 3, 22. 0 beside a refusal.
+    /// A balance: 3, 22 where the account is not open. 0 beside a refusal.
     fn pair_balance(&mut self, state: &PairState, ledger: u8, account: u16) -> (Answer, u64);
 
     /// How many more passed records home and far can take: 3. Zeros beside a
@@ -53,7 +53,7 @@ pub trait Part {
     /// Opens a guard: 1, 2. The state of zeros beside a refusal.
     fn home_open(&mut self, home: &[u64], fars: usize, far_total: u64) -> (Answer, Box<HomeState>);
 
-    /// One record: 3, 21, 33, 22 to 25, 32, 41.
+    /// One record: 3, 21, 33, 22, 51, 23 to 25, 32, 41.
     fn home_check_record(&mut self, state: &HomeState, bytes: &[u8]) -> (Answer, Box<HomeState>);
 
     /// A list of records: as one record, with the index of the refused one.
@@ -68,7 +68,8 @@ pub trait Part {
     /// Home total and far due: 3. Zeros beside a refusal.
     fn home_figures(&mut self, state: &HomeState) -> (Answer, [u64; 2]);
 
-    /// A balance of home: 3, 22. 0 beside a refusal.
+    /// A balance of home: 3, 22 where the account is not open. 0 beside a
+    /// refusal.
     fn home_balance(&mut self, state: &HomeState, account: u16) -> (Answer, u64);
 
     /// How many more passed records home can take: 3. 0 beside a refusal.

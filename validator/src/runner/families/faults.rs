@@ -4,11 +4,12 @@
 use super::Sample;
 use crate::record::{Kind, Ledger, Record, MAX_AMOUNT};
 use crate::rules::{Book, CAPACITY};
+use crate::runner::absent::Sort;
 use crate::runner::build::{
-    set_u16, set_u64, Bytes, AMOUNT, NUMBER, RECEIVER, RESERVED, SENDER, VERDICT,
+    set_u16, set_u64, Bytes, Opening, AMOUNT, NUMBER, RECEIVER, RESERVED, SENDER, VERDICT,
 };
 use crate::runner::rng::Rng;
-use crate::runner::trader::{any_opening, rich_opening, Numbers, Trader};
+use crate::runner::trader::{any_opening, rich_opening, unequal_opening, Numbers, Trader};
 
 /// The faults that a record's author can make, the last in the order of
 /// refusals first, so that an earlier one is laid over it.
@@ -20,7 +21,7 @@ pub enum Fault {
     Number,
     /// 23.
     Verdict,
-    /// 22.
+    /// 22 or 51.
     Account,
     /// 21.
     Form,
@@ -128,8 +129,9 @@ pub fn some_faults(rng: &mut Rng) -> Vec<Fault> {
     (0..count).map(|_| rng.pick(&FAULTS)).collect()
 }
 
-/// Every subset of the faults on every kind of record, with tables that have
-/// places left and with full ones.
+/// Every subset of the faults on every kind of record, and every sort of
+/// accounts that are not open, with tables that have places left and with full
+/// ones.
 pub fn fixed(rng: &mut Rng) -> Vec<Sample> {
     let mut samples = Vec::new();
     for round in 0..4 {
@@ -138,11 +140,18 @@ pub fn fixed(rng: &mut Rng) -> Vec<Sample> {
             samples.push(Sample::new(name, every_set(rng, full)));
         }
     }
+    for larger in Ledger::BOTH {
+        for full in [false, true] {
+            let name = format!("absent_accounts_{larger:?}_larger_full_{full}").to_lowercase();
+            samples.push(Sample::new(name, absent_accounts(rng, larger, full)));
+        }
+    }
     samples
 }
 
-fn every_set(rng: &mut Rng, full: bool) -> Vec<u8> {
-    let mut trader = Trader::new(rich_opening(rng), Numbers::Random, Rng::new(rng.word()));
+/// A trader that has sent both ways, its tables full or not.
+fn sent_both_ways(rng: &mut Rng, opening: Opening, full: bool) -> Trader {
+    let mut trader = Trader::new(opening, Numbers::Random, Rng::new(rng.word()));
     trader.thrifty = true;
     for ledger in Ledger::BOTH {
         for _ in 0..60 {
@@ -154,6 +163,27 @@ fn every_set(rng: &mut Rng, full: bool) -> Vec<u8> {
             trader.fill(ledger, CAPACITY);
         }
     }
+    trader
+}
+
+/// Every sort of accounts that are open or not, three times.
+fn absent_accounts(rng: &mut Rng, larger: Ledger, full: bool) -> Vec<u8> {
+    let opening = unequal_opening(rng, larger);
+    let mut trader = sent_both_ways(rng, opening, full);
+    for _ in 0..3 {
+        for ledger in Ledger::BOTH {
+            for sort in Sort::all(ledger) {
+                let bytes = sort.record(&mut trader);
+                trader.hand_in(bytes);
+            }
+        }
+    }
+    trader.journal()
+}
+
+fn every_set(rng: &mut Rng, full: bool) -> Vec<u8> {
+    let opening = rich_opening(rng);
+    let mut trader = sent_both_ways(rng, opening, full);
     for set in 0..1 << FAULTS.len() {
         let faults: Vec<Fault> = (0..FAULTS.len())
             .filter(|bit| set >> bit & 1 == 1)

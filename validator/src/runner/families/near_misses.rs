@@ -12,7 +12,7 @@ use crate::runner::build::{
     SENDER, VERDICT,
 };
 use crate::runner::rng::Rng;
-use crate::runner::trader::{rich_opening, Numbers, Trader};
+use crate::runner::trader::{rich_opening, unequal_opening, Numbers, Trader};
 
 const NUMBERS: [u64; 7] = [0, 1, 7, 255, 1 << 32, 1 << 63, u64::MAX];
 const BITS: [u32; 7] = [4, 8, 11, 12, 16, 32, 63];
@@ -43,6 +43,10 @@ pub fn fixed(rng: &mut Rng) -> Vec<Sample> {
     samples.push(Sample::new("amounts", amounts(rng)));
     samples.push(Sample::new("amounts_at_limit", amounts_at_limit(rng)));
     samples.push(Sample::new("accounts", accounts(rng)));
+    for larger in Ledger::BOTH {
+        let name = format!("accounts_{larger:?}_larger").to_lowercase();
+        samples.push(Sample::new(name, accounts_unequal(rng, larger)));
+    }
     samples
 }
 
@@ -345,6 +349,19 @@ fn bound_amounts(trader: &mut Trader) {
 /// Account numbers at their bounds, for sender and receiver of each kind.
 fn accounts(rng: &mut Rng) -> Vec<u8> {
     let mut trader = trader(rng);
+    bound_accounts(&mut trader);
+    trader.journal()
+}
+
+/// The same with more accounts on one ledger than on the other.
+fn accounts_unequal(rng: &mut Rng, larger: Ledger) -> Vec<u8> {
+    let opening = unequal_opening(rng, larger);
+    let mut trader = Trader::new(opening, Numbers::Random, Rng::new(rng.word()));
+    bound_accounts(&mut trader);
+    trader.journal()
+}
+
+fn bound_accounts(trader: &mut Trader) {
     trader.thrifty = true;
     let counts = Ledger::BOTH.map(|ledger| trader.book.accounts(ledger) as u16);
     let mut bounds = vec![
@@ -371,5 +388,4 @@ fn accounts(rng: &mut Rng) -> Vec<u8> {
             }
         }
     }
-    trader.journal()
 }

@@ -48,6 +48,9 @@ impl SmallWorlds {
             worlds.push(World::new(&[3], &[3], &[0, 1, 2], 3, true, false));
             worlds.push(World::new(&[1, 1], &[1, 1], &[0, 1], 3, true, false));
         }
+        // An account that is open on one ledger only is tried on both.
+        worlds.push(World::new(&[1, 1], &[1], &[0], 2, true, true));
+        worlds.push(World::new(&[1], &[1, 1], &[0], 2, true, true));
         let ways = worlds
             .iter()
             .enumerate()

@@ -299,9 +299,19 @@ pub fn full<C: Checker>(both: &mut Both, rng: &mut Rng) -> Reached<C> {
     filled(both, rng, targets)
 }
 
-/// Fills the tables so far by few list calls.
+/// Fills the tables of a rich opening so far by few list calls.
 fn filled<C: Checker>(both: &mut Both, rng: &mut Rng, targets: [usize; 2]) -> Reached<C> {
     let opening = rich_opening(rng);
+    filled_from(both, rng, opening, targets)
+}
+
+/// Fills the tables so far by few list calls.
+pub fn filled_from<C: Checker>(
+    both: &mut Both,
+    rng: &mut Rng,
+    opening: Opening,
+    targets: [usize; 2],
+) -> Reached<C> {
     let mut reached = Reached::<C>::open(both, rng, opening);
     reached.trader.thrifty = true;
     let records = fill(&mut reached.trader, targets);

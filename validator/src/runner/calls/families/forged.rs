@@ -57,7 +57,7 @@ pub fn scenario<C: Checker>(both: &mut Both, rng: &mut Rng) {
 }
 
 /// The steps of a scenario, which begin where those of the one before end.
-fn steps(scenario: u64, length: u64) -> Range<u64> {
+pub(super) fn steps(scenario: u64, length: u64) -> Range<u64> {
     scenario * length..(scenario + 1) * length
 }
 

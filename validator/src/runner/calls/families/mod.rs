@@ -1,6 +1,7 @@
 //! The families of calls that are compared. A family makes its calls by
 //! scenarios, each from its own generator.
 
+pub mod accounts;
 pub mod beyond;
 pub mod blocks;
 pub mod checker;
@@ -23,18 +24,20 @@ pub struct Family {
     pub run: fn(&mut Both, &mut Rng),
 }
 
-pub const FAMILIES: [Family; 11] = [
-    family("pair_runs", 20, runs::scenario::<Pair>),
-    family("home_runs", 15, runs::scenario::<Home>),
-    family("pair_forged", 24, forged::scenario::<Pair>),
+pub const FAMILIES: [Family; 13] = [
+    family("pair_runs", 17, runs::scenario::<Pair>),
+    family("home_runs", 13, runs::scenario::<Home>),
+    family("pair_forged", 22, forged::scenario::<Pair>),
     family("home_forged", 15, forged::scenario::<Home>),
     family("pair_looks", 3, looks::scenario::<Pair>),
     family("home_looks", 2, looks::scenario::<Home>),
-    family("blocks", 12, blocks::scenario),
-    family("writes", 4, plain::writes),
+    family("blocks", 10, blocks::scenario),
+    family("writes", 3, plain::writes),
     family("records_read", 2, plain::records_read),
     family("records_encoded", 2, plain::records_encoded),
     family("sha256", 1, plain::sha256),
+    family("pair_accounts", 6, accounts::scenario::<Pair>),
+    family("home_accounts", 4, accounts::scenario::<Home>),
 ];
 
 const fn family(name: &'static str, share: u64, run: fn(&mut Both, &mut Rng)) -> Family {
