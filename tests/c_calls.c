@@ -425,13 +425,14 @@ static void pair_accounts(void)
     for (i = 0; i < sizeof wide / sizeof *wide; i++) {
         PAIR(s, local(0, wide[i], 0, 1, 1), 22);
         PAIR(s, local(0, 0, wide[i], 1, 1), 51);
+        PAIR(s, sending(0, wide[i], 0, 1, 1), 22);
         PAIR(s, sending(0, 0, wide[i], 1, 1), 51);
         PAIR(s, arrival(0, wide[i], wide[i], 1, 1), 22);
     }
     PAIR(s, local(0, 0, 2, 1, 0), 21);     /* after 21 */
     PAIR(s, rec(1, 0, 0, 2, 1, 1, 0), 51); /* before 23 */
     PAIR(s, rec(1, 0, 2, 2, 1, 1, 0), 22);
-    PAIR(s, local(0, 0, 2, 1, MAX), 51);   /* before 25 and 31 */
+    PAIR(s, local(0, 0, 2, 1, MAX), 51);   /* before 25; the arrivals above, before 31 */
     CHECK(memcmp(&s, &before, sizeof s) == 0);
     PAIR(s, sending(0, 1, 0, 1, 1), 0);
     PAIR(s, local(0, 0, 2, 1, 1), 51);     /* before 24 */

@@ -5,7 +5,7 @@ use mathlib.Core.Bool.{Bool, true, false}
 pub use Rattle.answers.specs.declared.Answer.{Answer}
 pub use Rattle.answers.specs.declared.Answer.the-variants.{Passed, Refused}
 
--- document 01's number of each case: 0 passed, or the refusal's
+-- the documents' number of each case: 0 passed, or the refusal's
 abbrev pub numberOf : Answer → ℕ
 numberOf Passed = 0
 numberOf (Refused n p) = n
@@ -17,7 +17,7 @@ placeOf (Refused n p) = p
 
 -- ## Which answer
 
--- the case with document 01's number n and place p: passed for 0, and else that refusal. Every definition that a contract cites
+-- the case with the documents' number n and place p: passed for 0, and else that refusal. Every definition that a contract cites
 -- makes its answers by it, so that none gives a refusal with number 0; claims name the case that then comes back
 abbrev pub answer : ℕ → ℕ → Answer
 answer zero p = Passed

@@ -8,7 +8,7 @@ pub use balance::Balance;
 pub use balance::balance_among;
 pub use balance::balance_refused;
 
-// Passed, or one of document 01's refusals with its place.
+// Passed, or one of the documents' refusals with its place.
 pub enum Answer {
     Passed,
     Refused { number: u32, place: u64 },

@@ -1,10 +1,10 @@
 -- The claims about the home validator's calls: runs over the program's states are runs over the rules' states. Assumes nothing.
 use Rattle.wire.proofs.Prelude.{List, _-_, _∙_, _≡_, ap, arith, dichotomy, inl, inr, leb, leb-false, leb-true, length, refl, sym, true, ℕ}
 use Rattle.answers.specs.Answers.{answer}
-use Rattle.home_claims.specs.Claims.{HomeCallsAsRules, HomeFullWhenNoneLeft, HomeInPlaceAsByValue, HomeListsAndRefusals, HomeRunsInPlaceAsByValue}
-use Rattle.home_claims.specs.Claims.{HomeHeldAccountsOpen, HomeOpenedAsRules, HomePlacesLeft, HomeStatesAnswer, HomeStatesStayAccepted}
-use Rattle.home_claims.specs.Claims.{HomeStatesWithin, HomeTellsAccount, HomeThreeExactly, HomeZeroRefused, homePassedOfRun}
-use Rattle.home_claims.specs.Claims.{homePlacesLeft, homeStateOfRun}
+use Rattle.home_claims.specs.Claims.{HomeCallsAsRules, HomeFullWhenNoneLeft, HomeHeldAccountsOpen, HomeInPlaceAsByValue}
+use Rattle.home_claims.specs.Claims.{HomeListsAndRefusals, HomeOpenedAsRules, HomePlacesLeft, HomeRunsInPlaceAsByValue}
+use Rattle.home_claims.specs.Claims.{HomeStatesAnswer, HomeStatesStayAccepted, HomeStatesWithin, HomeTellsAccount, HomeThreeExactly}
+use Rattle.home_claims.specs.Claims.{HomeZeroRefused, homePassedOfRun, homePlacesLeft, homeStateOfRun}
 use Rattle.home_core.proofs.Accept.{length-held, sound-accepts, sound-of}
 use Rattle.home_core.proofs.Opened.{opened-sound, opened-view, zero-refused}
 use Rattle.home_core.proofs.Passing.{next-of}

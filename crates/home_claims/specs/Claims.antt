@@ -90,7 +90,8 @@ unfoldable pub HomeStatesAnswer : Type 0
 HomeStatesAnswer =
     (s : HomeValidator) → acceptsHome (s .words) ≡ true → (b : List ℕ) → HomeStateAnswers s b
 
--- DOCUMENT 02, U1: in every state that the home validator accepts, 22 and 51 tell which account of a home record that reads is not open
+-- DOCUMENT 02, U1: in every state that the home validator accepts, 22 and 51 tell which account of a home record that reads, handed in
+-- alone, is not open (a list answers by its records in turn, below)
 unfoldable pub HomeTellsAccount : Type 0
 HomeTellsAccount =
     (s : HomeValidator) → acceptsHome (s .words) ≡ true → (b : List ℕ) (r : Record) → reading b ≡ Read r → ledgerOf (r .kind) ≡ Home

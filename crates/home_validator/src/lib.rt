@@ -58,8 +58,8 @@ impl HomeValidator {
         }
     }
 
-    // A call with a list of records: 3, then of each record 21, 33, 22, 51 and 23 to 41. A refusal has its record's index, and hands back the
-    // state as it came.
+    // A call with a list of records: 3, then of each record 21, 33, 22, 51 and 23 to 41. A refusal has its record's index, and hands
+    // back the state as it came.
     pub fn check_list(mut self, bytes: &[u8]) -> HomeOutcome
         ensures answers { λ r. ⌜ r .answer ≡ call homeChecker self (list (now (bytes .entry))) .answer ⌝ }
         ensures hands_back { λ r. ⌜ r .state ≡ call homeChecker self (list (now (bytes .entry))) .state ⌝ }

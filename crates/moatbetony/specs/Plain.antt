@@ -51,7 +51,7 @@ abbrev pub passedOf : Answer → ℕ
 passedOf Passed = 1
 passedOf (Refused n p) = 0
 
--- document 01's number and place, and whether it passed
+-- the documents' number and its place, and whether it passed
 abbrev pub plainAnswer : Answer → PlainAnswer
 plainAnswer a = record { number = numberOf a; passed = passedOf a; place = placeOf a }
 

@@ -3,10 +3,10 @@ use Rattle.wire.proofs.Prelude.{List, _+_, _-_, _∙_, _≡_, _≤_, ap, arith,
 use Rattle.wire.proofs.Prelude.{true, ℕ}
 use Rattle.ledgers.specs.Ledgers.{ledgerByte, ledgerOf}
 use Rattle.ledgers.specs.Limits.{capacity}
-use Rattle.pair_claims.specs.Claims.{PairCallsAsRules, PairFullWhenNoneLeft, PairInPlaceAsByValue, PairListsAndRefusals, PairRunsInPlaceAsByValue}
-use Rattle.pair_claims.specs.Claims.{PairHeldAccountsOpen, PairOpenedAsRules, PairPlacesLeft, PairStatesConserved, PairStatesFollowRules}
-use Rattle.pair_claims.specs.Claims.{PairStatesStayAccepted, PairTellsAccount, PairThreeExactly, PairZeroRefused, leftOn}
-use Rattle.pair_claims.specs.Claims.{pairPassedOfRun, pairPlacesLeft, pairStateOfRun}
+use Rattle.pair_claims.specs.Claims.{PairCallsAsRules, PairFullWhenNoneLeft, PairHeldAccountsOpen, PairInPlaceAsByValue}
+use Rattle.pair_claims.specs.Claims.{PairListsAndRefusals, PairOpenedAsRules, PairPlacesLeft, PairRunsInPlaceAsByValue}
+use Rattle.pair_claims.specs.Claims.{PairStatesConserved, PairStatesFollowRules, PairStatesStayAccepted, PairTellsAccount}
+use Rattle.pair_claims.specs.Claims.{PairThreeExactly, PairZeroRefused, leftOn, pairPassedOfRun, pairPlacesLeft, pairStateOfRun}
 use Rattle.pair_core.proofs.Accept.{sound-accepts, sound-of}
 use Rattle.pair_core.proofs.Ledgers.{byte-below, length-held, state-on}
 use Rattle.pair_core.proofs.Opened.{opened-sound, opened-view, zero-refused}

@@ -90,7 +90,8 @@ pub record PairStateFollowsRules (s : PairValidator) (b : List ℕ) : Type 0 whe
 unfoldable pub PairStatesFollowRules : Type 0
 PairStatesFollowRules = (s : PairValidator) → acceptsPair (s .words) ≡ true → (b : List ℕ) → PairStateFollowsRules s b
 
--- DOCUMENT 02, U1: in every state that the pair validator accepts, 22 and 51 tell which account of a record that reads is not open
+-- DOCUMENT 02, U1: in every state that the pair validator accepts, 22 and 51 tell which account of a record that reads, handed in alone, is
+-- not open (a list answers by its records in turn, below)
 unfoldable pub PairTellsAccount : Type 0
 PairTellsAccount =
     (s : PairValidator) → acceptsPair (s .words) ≡ true → (b : List ℕ) (r : Record) → reading b ≡ Read r

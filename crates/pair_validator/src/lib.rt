@@ -57,8 +57,8 @@ impl PairValidator {
         }
     }
 
-    // A call with a list of records: 3, then of each record 21, 22, 51 and 23 to 41. A refusal has its record's index, and hands back the state as
-    // it came.
+    // A call with a list of records: 3, then of each record 21, 22, 51 and 23 to 41. A refusal has its record's index, and hands
+    // back the state as it came.
     pub fn check_list(mut self, bytes: &[u8]) -> PairOutcome
         ensures answers { λ r. ⌜ r .answer ≡ call pairChecker self (list (now (bytes .entry))) .answer ⌝ }
         ensures hands_back { λ r. ⌜ r .state ≡ call pairChecker self (list (now (bytes .entry))) .state ⌝ }

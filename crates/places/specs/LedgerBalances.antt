@@ -1,5 +1,5 @@
--- The balances of a ledger, which stand in a list from a place on: zeros, one balance, a record that moves them, and a record's
--- refusals up to 25 by them. Assumes nothing.
+-- The balances of a ledger, which stand in a list from a place on: zeros, one balance, a record that moves them, and refusals
+-- 22, 51 and 23 to 25 by them. Assumes nothing.
 use Prim.Native.Nat.{_+_, _-_, ℕ}
 use mathlib.Core.Bool.{Bool, cond, not}
 use mathlib.Core.List.{List, _++_}

@@ -13,7 +13,8 @@ pub record TellsAccount (accounts : Ledger → ℕ) (r : Record) (a : Answer) : 
   -- 22 exactly when the sender's account is not open
   pub sender : (a ≡ Refused 22 0) ↔ (accounts (senderLedger (r .kind)) ≤ r .sender)
   -- 51 exactly when the sender's is open and the receiver's is not
-  pub receiver : (a ≡ Refused 51 0) ↔ ((r .sender < accounts (senderLedger (r .kind))) × (accounts (receiverLedger (r .kind)) ≤ r .receiver))
+  pub receiver : (a ≡ Refused 51 0)
+      ↔ ((r .sender < accounts (senderLedger (r .kind))) × (accounts (receiverLedger (r .kind)) ≤ r .receiver))
 
 -- both accounts of a record are open
 pub record AccountsOpen (accounts : Ledger → ℕ) (r : Record) : Type 0 where

@@ -25,6 +25,8 @@ pub data CaseRow : Type 0 where
   refusalRow : ℕ → List (List ℕ) → List ℕ → ℕ → CaseRow
   -- the home validator gives the number (0: passed)
   homeRow : ℕ → List (List ℕ) → List ℕ → ℕ → CaseRow
+  -- the home validator in this state gives the number
+  homeRowIn : HomeView → List ℕ → ℕ → CaseRow
   -- an opening with these balances gets the number (0: accepted)
   openingRow : ℕ → List ℕ → List ℕ → ℕ → CaseRow
   -- an opening of the home validator, with home balances, far accounts and far total, gets the number
@@ -91,6 +93,7 @@ holds (homeRow n before now number) =
     ∷ eqb (homeValidator capacity .judge (homeAfterAll homeCaseOpening before) now) number
     ∷ []
     )
+holds (homeRowIn v now number) = eqb (homeValidator capacity .judge v now) number
 holds (openingRow n homes fars number) = eqb (pairOpeningRefusal homes fars) number
 holds (homeOpeningRow n homes farAccounts farTotal number) = eqb (homeOpeningRefusal homes farAccounts farTotal) number
 holds (stateRow room v accepted) = sameTruth (pairAccepts room v) accepted
@@ -137,8 +140,12 @@ cases =
 
 -- ## Rows of our own
 
+-- the home validator with fewer accounts at home than the far ledger has
+unfoldable pub farLarger : HomeView
+farLarger = homeOpened (100 ∷ []) 2 20
+
 -- of each kind on each ledger the sender's account alone, the receiver's alone and both not open; home has accounts 0 and 1, far has
--- account 0 only, so that 1 is open for those at home alone (document 02, U1; Refusals: 22)
+-- account 0 only, so that 1 is open for those at home alone, and in the last rows the other way round (document 02, U1; Refusals: 22)
 unfoldable pub accountRows : List CaseRow
 accountRows =
     refusalRow 0 [] (good (Local Home) 2 1 1 1) 22
@@ -174,6 +181,17 @@ accountRows =
     ∷ passRow 0 (good (Sending Far) 0 1 1 1 ∷ []) (good (Receiving Home) 0 1 1 1) (100 ∷ 51 ∷ []) (19 ∷ []) 0
     ∷ homeRow 0 [] (good (Sending Home) 1 0 1 1) 0
     ∷ homeRow 0 [] (good (Receiving Home) 0 1 1 1) 0
+    ∷ homeRowIn farLarger (good (Local Home) 1 0 1 1) 22
+    ∷ homeRowIn farLarger (good (Local Home) 0 1 1 1) 51
+    ∷ homeRowIn farLarger (good (Local Home) 1 1 1 1) 22
+    ∷ homeRowIn farLarger (good (Sending Home) 1 1 1 1) 22
+    ∷ homeRowIn farLarger (good (Sending Home) 0 2 1 1) 51
+    ∷ homeRowIn farLarger (good (Sending Home) 1 2 1 1) 22
+    ∷ homeRowIn farLarger (good (Receiving Home) 2 0 1 1) 22
+    ∷ homeRowIn farLarger (good (Receiving Home) 1 1 1 1) 51
+    ∷ homeRowIn farLarger (good (Receiving Home) 2 1 1 1) 22
+    ∷ homeRowIn farLarger (good (Sending Home) 0 1 1 1) 0
+    ∷ homeRowIn farLarger (good (Receiving Home) 1 0 1 1) 0
     ∷ []
 
 -- neighbouring refusals where both are due: the earlier is given (Refusals: order)
@@ -272,6 +290,9 @@ stateRows =
     ∷ stateRow 2 (pairHolding (heldRecord (Local Home) 0 2 1 1 true ∷ []) [] 170) false
     ∷ stateRow 2 (pairHolding (heldRecord (Local Home) 2 2 1 1 true ∷ []) [] 170) false
     ∷ stateRow 2 (pairHolding (heldRecord (Sending Home) 0 1 1 1 true ∷ []) [] 171) false
+    ∷ stateRow 2 (pairHolding (heldRecord (Sending Home) 2 0 1 1 true ∷ []) [] 171) false
+    ∷ stateRow 2 (pairHolding (heldRecord (Receiving Home) 0 2 8 5 true ∷ []) (heldRecord (Sending Far) 0 2 8 5 true ∷ []) 170) false
+    ∷ stateRow 2 (pairHolding (heldRecord (Receiving Home) 1 0 8 5 true ∷ []) (heldRecord (Sending Far) 1 0 8 5 true ∷ []) 170) false
     ∷ stateRow 2 (pairHolding [] (heldRecord (Local Far) 1 0 1 1 true ∷ []) 170) false
     ∷ stateRow 2 (pairHolding [] (heldRecord (Local Far) 0 1 1 1 true ∷ []) 170) false
     ∷ stateRow 2 (pairHolding [] (heldRecord (Sending Far) 0 1 1 1 true ∷ []) 171) true
@@ -294,6 +315,8 @@ stateRows =
     ∷ homeStateRow 1 (homeHolding (heldRecord (Local Home) 0 1 1 0 true ∷ []) 1 20 170) false
     ∷ homeStateRow 1 (homeHolding (heldRecord (Local Home) 2 0 1 1 true ∷ []) 1 20 170) false
     ∷ homeStateRow 1 (homeHolding (heldRecord (Local Home) 0 2 1 1 true ∷ []) 1 20 170) false
+    ∷ homeStateRow 1 (homeHolding (heldRecord (Sending Home) 1 0 1 1 true ∷ []) 1 20 170) true
+    ∷ homeStateRow 1 (homeHolding (heldRecord (Sending Home) 2 0 1 1 true ∷ []) 1 20 170) false
     ∷ homeStateRow 1 (homeHolding (heldRecord (Sending Home) 0 1 1 1 true ∷ []) 1 20 170) false
     ∷ homeStateRow 1 (homeHolding (heldRecord (Receiving Home) 1 0 8 5 true ∷ []) 1 20 170) false
     ∷ homeStateRow 1 (homeHolding (heldRecord (Receiving Home) 0 2 8 5 true ∷ []) 1 20 170) false

@@ -1,6 +1,7 @@
--- The rules of document 01 (Rules of the pair book), over balances and passed records, with no table limit. A
--- comment in brackets names the sentence of document 01 that a definition renders, and the line of PRIViLEDGE D3.2's Algorithm 2
--- that it comes from. Where the two differ document 01 decides: it counts numbers by ledger and tests accounts. Assumes nothing.
+-- The rules of document 01 (Rules of the pair book) as document 02 alters them (U1), over balances and passed records, with no table
+-- limit. A comment in brackets names the sentence of document 01 that a definition renders, and the line of PRIViLEDGE D3.2's
+-- Algorithm 2 that it comes from. Where the two differ document 01 decides: it counts numbers by ledger and tests accounts. Assumes
+-- nothing.
 use Prim.Native.Nat.{ℕ, _+_}
 use mathlib.Core.Path.{_≡_}
 use mathlib.Core.Bool.{Bool, true, false, not, cond, _&&_}

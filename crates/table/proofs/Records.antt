@@ -17,7 +17,7 @@ pub length-held-records : (s : List ℕ) (from n : ℕ) → length (recordsFrom 
 unfolding recordsFrom
 length-held-records s from n = length-list (recordAt s from) 0 n
 
--- all records of a table read, stand under the ledger, and are ones that 21, 22 and 23 would not refuse
+-- all records of a table read, stand under the ledger, and are ones that 21, 22, 51 and 23 would not refuse
 pub record AllHeld (s : List ℕ) (from n : ℕ) (l : Ledger) (accounts : Ledger → ℕ) : Type 0 where
   pub read : allAt (λ (i : ℕ). formed (wordsAt s from i)) 0 n ≡ true
   pub stand : all (standsUnder l) (recordsFrom s from n) ≡ true

@@ -68,7 +68,8 @@ accountsBy Home own other Far = other
 accountsBy Far own other Home = other
 accountsBy Far own other Far = own
 
--- a ledger may hold what was read: 21, 22 and 23 would not refuse it, and it is a record of that ledger (Refusals: 3, a held record)
+-- a ledger may hold what was read: 21, 22, 51 and 23 would not refuse it, and it is a record of that ledger (Refusals: 3, a held
+-- record)
 abbrev pub mayHold : Ledger → (Ledger → ℕ) → Reading → Bool
 mayHold l accounts Unreadable = false
 mayHold l accounts (Read r) = standsUnder l r && heldAllowed accounts r
