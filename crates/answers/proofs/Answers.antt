@@ -1,12 +1,17 @@
 -- Laws of answers: the number and the place of an answer, and what follows from the case that came back. Assumes nothing.
-use Rattle.wire.proofs.Prelude.{Bool, _<_, _≡_, arith, false, refl, suc, true, zero, ℕ}
-use Rattle.answers.specs.Answers.{Passed, Refused, Tells, answer, orElse, refuse, unlessRefused}
+use Rattle.wire.proofs.Prelude.{Bool, _<_, _∙_, _≡_, ap, arith, false, refl, suc, sym, true, zero, ℕ}
+use Rattle.answers.specs.Answers.{Passed, Refused, Tells, answer, numberOf, orElse, refuse, unlessRefused}
 
 -- an answer tells its number and its place
 pub tells : Tells
 unfolding Tells
 tells zero p = (refl, λ h. absurd (omega arith))
 tells (suc n) p = (refl, λ h. refl)
+
+-- one answer has one number
+pub same-number : (n m p : ℕ) → answer n p ≡ answer m p → n ≡ m
+unfolding Tells
+same-number n m p h = sym (tells n p .0) ∙ ap numberOf h ∙ tells m p .0
 
 -- an answer that passed has number 0
 pub passed-zero : (n p : ℕ) → answer n p ≡ Passed → n ≡ 0

@@ -1,20 +1,14 @@
--- Refusals by the balances of a list, and one refusal after others, as the rules say. Assumes nothing.
+-- Refusals by the balances of a list, and those of a record in order, as the rules say. Assumes nothing.
 use Rattle.wire.proofs.Prelude.{Bool, List, _∙_, _≡_, drop, sym, take, ℕ}
-use Rattle.answers.proofs.Answers.{refuse-later}
 use Rattle.answers.specs.Answers.{orElse}
 use Rattle.ledgers.specs.Ledgers.{receiverLedger, senderLedger}
 use Rattle.ledgers.specs.Limits.{capacity}
 use Rattle.places.proofs.PassedRecord.{balance-part}
 use Rattle.places.specs.LedgerBalances.{firstBy, fundsAt}
+use Rattle.rules.proofs.Refusals.{first-else}
 use Rattle.rules.specs.Lists.{any}
 use Rattle.rules.specs.PairValidator.{roomRefusal}
 use Rattle.rules.specs.Rules.{Ledger, Record, clashes, firstRefusal, fundsRefusal}
-
--- a refusal after 22, 51, 23, 24 and the later ones
-pub first-else : (accounts : Ledger → ℕ) (passed : List Record) (r : Record) (later x : ℕ)
-    → orElse (firstRefusal accounts passed r later) x ≡ firstRefusal accounts passed r (orElse later x)
-unfolding firstRefusal
-first-else accounts passed r later x = rw (refuse-later, refuse-later, refuse-later, refuse-later)
 
 -- the refusals of a record in order, 41 last, from those that were worked out
 pub judged-by : (accounts : Ledger → ℕ) (passed : List Record) (r : Record) (x : ℕ) {senders receivers last full later n : ℕ} {taken : Bool}

@@ -1,10 +1,11 @@
 -- 22 and 51 tell which account is not open, and a held record has both open. Assumes nothing.
-use Rattle.wire.proofs.Prelude.{Bool, List, [], _∙_, _∷_, _≡_, ap, arith, false, leb, leb-false, leb-true, refl, sym, true, ℕ}
-use Rattle.answers.proofs.Answers.{refuse-later, tells}
-use Rattle.answers.specs.Answers.{Tells, answer, numberOf, orElse, refuse}
+use Rattle.wire.proofs.Prelude.{Bool, List, [], _∷_, _≡_, arith, false, leb, leb-false, leb-true, refl, true, ℕ}
+use Rattle.answers.proofs.Answers.{same-number}
+use Rattle.answers.specs.Answers.{answer, orElse, refuse}
 use Rattle.ledgers.specs.Ledgers.{ledgerOf, receiverLedger, senderLedger}
 use Rattle.rules.proofs.Numbers.{Other, others}
 use Rattle.rules.proofs.PairAccepted.{held-allowed}
+use Rattle.rules.proofs.Refusals.{first-else}
 use Rattle.rules.specs.Accounts.{AccountsOpen, TellsAccount}
 use Rattle.rules.specs.HomeValidator.{HomeView, homeAccounts, homeJudge, homeJudgeRecord, homeLastRefusal, poolRefusal}
 use Rattle.rules.specs.Lists.{all}
@@ -13,11 +14,6 @@ use Rattle.rules.specs.Rules.{Home, Kind, Ledger, Local, PairState, Read
 use Rattle.rules.specs.Rules.{fundsRefusal, judge, lastRefusal, matchRefusal}
 use Rattle.wire.proofs.Lists.{and-both}
 use Rattle.wire.specs.BigEndian.{All}
-
--- answers are the same for the same number only
-same-number : (n m : ℕ) → answer n 0 ≡ answer m 0 → n ≡ m
-unfolding Tells
-same-number n m h = sym (tells n 0 .0) ∙ ap numberOf h ∙ tells m 0 .0
 
 -- 22 by one test, 51 by the next, and then numbers that are neither
 told-by : (accounts : Ledger → ℕ) (r : Record) (s t : Bool) (rest : ℕ) → leb (accounts (senderLedger (r .kind))) (r .sender) ≡ s
@@ -28,20 +24,20 @@ told-by accounts r true t rest es et a b =
     let senderAbsent = leb-true (accounts (senderLedger (r .kind))) (r .sender) es in
     record {
       sender = (λ h. senderAbsent, λ h. refl);
-      receiver = (λ h. absurd (omega (arith, same-number 22 51 h)), λ h. absurd (omega (arith, h .0, senderAbsent)));
+      receiver = (λ h. absurd (omega (arith, same-number 22 51 0 h)), λ h. absurd (omega (arith, h .0, senderAbsent)));
     }
 told-by accounts r false true rest es et a b =
     let senderOpen = leb-false (accounts (senderLedger (r .kind))) (r .sender) es in
     record {
-      sender = (λ h. absurd (omega (arith, same-number 51 22 h)), λ h. absurd (omega (arith, h, senderOpen)));
+      sender = (λ h. absurd (omega (arith, same-number 51 22 0 h)), λ h. absurd (omega (arith, h, senderOpen)));
       receiver = (λ h. (senderOpen, leb-true (accounts (receiverLedger (r .kind))) (r .receiver) et), λ h. refl);
     }
 told-by accounts r false false rest es et a b =
     let senderOpen = leb-false (accounts (senderLedger (r .kind))) (r .sender) es in
     let receiverOpen = leb-false (accounts (receiverLedger (r .kind))) (r .receiver) et in
     record {
-      sender = (λ h. absurd (a (same-number rest 22 h)), λ h. absurd (omega (arith, h, senderOpen)));
-      receiver = (λ h. absurd (b (same-number rest 51 h)), λ h. absurd (omega (arith, h .1, receiverOpen)));
+      sender = (λ h. absurd (a (same-number rest 22 0 h)), λ h. absurd (omega (arith, h, senderOpen)));
+      receiver = (λ h. absurd (b (same-number rest 51 0 h)), λ h. absurd (omega (arith, h .1, receiverOpen)));
     }
 
 -- the refusals up to 24, those by kind and then 41, in one order
@@ -49,7 +45,7 @@ in-order : (accounts : Ledger → ℕ) (passed : List Record) (r : Record) (last
     → Other 51 room → TellsAccount accounts r (answer (orElse (firstRefusal accounts passed r last) room) 0)
 unfolding firstRefusal
 in-order accounts passed r last room a b c d =
-    rw (refuse-later, refuse-later)
+    rw (first-else accounts passed r last room)
     (told-by accounts r _ _ _ refl refl (search (others, a, c)) (search (others, b, d)))
 
 -- the pair validator's answer

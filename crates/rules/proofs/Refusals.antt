@@ -2,7 +2,8 @@
 use Rattle.wire.proofs.Prelude.{Iff·rfl, List, _<_, _↔_, _≡_, _≤_, arith, false, getD, le-leb, le-ltb, leb-false, length, lit<, lt-leb}
 use Rattle.wire.proofs.Prelude.{ltb-false, not-false, refl, subst, sym, true, ℕ}
 use Rattle.rules.proofs.Lists.{never-both-tests}
-use Rattle.answers.proofs.Answers.{or-else-zero, refuse-zero}
+use Rattle.answers.proofs.Answers.{or-else-zero, refuse-later, refuse-zero}
+use Rattle.answers.specs.Answers.{orElse}
 use Rattle.ledgers.specs.Ledgers.{counterpart, ledgerOf, receiverLedger, senderLedger}
 use Rattle.rules.specs.HomeValidator.{HomeView, homeAccounts, homeJudge, homeJudgeRecord, homeLastRefusal, isFar, poolRefusal}
 use Rattle.rules.specs.Lists.{any}
@@ -39,6 +40,12 @@ pub none-first : (accounts : Ledger → ℕ) (passed : List Record) (r : Record)
     → firstRefusal accounts passed r later ≡ 0
 unfolding firstRefusal
 none-first accounts passed r later a h = simp (lt-leb _ _ (a .sender-open), lt-leb _ _ (a .receiver-open), a .signed, a .fresh, h)
+
+-- a refusal after 22, 51, 23, 24 and the later ones
+pub first-else : (accounts : Ledger → ℕ) (passed : List Record) (r : Record) (later x : ℕ)
+    → orElse (firstRefusal accounts passed r later) x ≡ firstRefusal accounts passed r (orElse later x)
+unfolding firstRefusal
+first-else accounts passed r later x = rw (refuse-later, refuse-later, refuse-later, refuse-later)
 
 -- ## 25, 31, 32 and 41
 
