@@ -19,7 +19,7 @@ use Rattle.rules.specs.PairValidator.{supplyAllowed}
 use Rattle.rules.specs.Rules.{Far, Home, Ledger}
 use Rattle.table.proofs.Numbers.{apart-records}
 use Rattle.table.proofs.Records.{AllHeld, all-held, held-all, length-held-records}
-use Rattle.table.specs.Table.{accountsBy, ledgerIn, mayHoldAt, numberAt, wordsAt}
+use Rattle.table.specs.Table.{accountsBy, ledgerIn, mayHoldAt, sharedAt, wordsAt}
 use Rattle.wire.proofs.Lists.{and-both, every-both, every-first, every-none, same-tests}
 use Rattle.wire.specs.BigEndian.{every}
 
@@ -133,7 +133,7 @@ holdsAll s = allAt (mayHoldAt s 0 Home (accountsBy Home (homeAccountsOf s) (farA
 
 -- the test of their numbers
 abbrev apartAll : List ℕ → Bool
-apartAll s = apartAt (numberAt s 0) 0 (homeCountOf s)
+apartAll s = apartAt (sharedAt s 0) 0 (homeCountOf s)
 
 -- the sum of the balances and of the far pool
 abbrev sumAll : List ℕ → ℕ

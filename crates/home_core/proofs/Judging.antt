@@ -14,7 +14,7 @@ use Rattle.rules.specs.HomeValidator.{homeAccounts, homeJudge, homeJudgeRecord,
 use Rattle.rules.specs.PairValidator.{roomRefusal}
 use Rattle.rules.specs.Rules.{Kind, Local, Read, Receiving, Record, Sending, firstRefusal, isReceiving}
 use Rattle.table.proofs.Numbers.{clash-records}
-use Rattle.table.specs.Table.{ledgerIn, numberedAt}
+use Rattle.table.specs.Table.{ledgerIn, usedAt}
 
 module _ (s : List ℕ) (r : Record) where
   -- an arrival is within the pool
@@ -35,7 +35,7 @@ module _ (s : List ℕ) (r : Record) where
       → senders ≡ homeAccounts (homeViewOf s) (senderLedger (r .kind))
       → receivers ≡ homeAccounts (homeViewOf s) (receiverLedger (r .kind))
       → last ≡ homeLastRefusal (homeViewOf s) r (r .kind) → full ≡ refuse (leb capacity (homeCountOf s)) 41 0 → later ≡ orElse last full
-      → taken ≡ anyAt (numberedAt (r .number) s 0) 0 (homeCountOf s) → rest ≡ firstBy senders receivers r taken later
+      → taken ≡ anyAt (usedAt (isReceiving (r .kind)) (r .number) s 0) 0 (homeCountOf s) → rest ≡ firstBy senders receivers r taken later
       → n ≡ orElse far rest → n ≡ homeJudge capacity (homeViewOf s) (Read r)
   unfolding homeJudgeRecord roomRefusal ledgerIn
   judge-by ef es ev el eu ea et er h =

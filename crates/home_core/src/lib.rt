@@ -181,7 +181,7 @@ pub fn judge<'a>(s: &'a [u64], index: &'a [u16], r: Record) -> u32
     let receivers = accounts_on(s, kind.receiver_ledger());
     let last = last_refusal(s, r);
     let full = refusal_if(Ledger::CAPACITY <= count, 41);
-    let used = is_used(s, index, 0, 0, count, r.number);
+    let used = is_used(s, index, 0, 0, count, is_receiving(kind), r.number);
     let rest = first_refusals(senders, receivers, r, used, first_refusal(last, full));
     first_refusal(far, rest)
 }

@@ -1,10 +1,11 @@
 -- The claims about the pair validator's calls: runs over the program's states are runs over the rules' states. Assumes nothing.
 use Rattle.wire.proofs.Prelude.{List, _+_, _-_, _∙_, _≡_, _≤_, ap, arith, dichotomy, inl, inr, leb, leb-false, leb-true, length, refl, sym}
 use Rattle.wire.proofs.Prelude.{true, ℕ}
-use Rattle.ledgers.specs.Ledgers.{ledgerByte, ledgerOf}
+use Rattle.ledgers.specs.Ledgers.{counterpart, ledgerByte, ledgerOf}
 use Rattle.ledgers.specs.Limits.{capacity}
 use Rattle.pair_claims.specs.Claims.{PairCallsAsRules, PairFullWhenNoneLeft, PairHeldAccountsOpen, PairInPlaceAsByValue}
-use Rattle.pair_claims.specs.Claims.{PairListsAndRefusals, PairOpenedAsRules, PairPlacesLeft, PairRunsInPlaceAsByValue}
+use Rattle.pair_claims.specs.Claims.{PairListsAndRefusals, PairNothingStranded, PairOpenedAsRules, PairPlacesLeft}
+use Rattle.pair_claims.specs.Claims.{PairRunsInPlaceAsByValue, PairRunsStrandNothing}
 use Rattle.pair_claims.specs.Claims.{PairStatesConserved, PairStatesFollowRules, PairStatesStayAccepted, PairTellsAccount}
 use Rattle.pair_claims.specs.Claims.{PairThreeExactly, PairZeroRefused, leftOn, pairPassedOfRun, pairPlacesLeft, pairStateOfRun}
 use Rattle.pair_core.proofs.Accept.{sound-accepts, sound-of}
@@ -14,8 +15,9 @@ use Rattle.pair_core.proofs.Passing.{next-of}
 use Rattle.pair_core.specs.Layout.{acceptsPair, pairWordsChecker}
 use Rattle.pair_validator.specs.State.{pairChecker, pairOpenedState, pairViewOfState, pairZeroState}
 use Rattle.pair_validator.specs.declared.PairValidator.{PairValidator}
-use Rattle.records.specs.Records.{reading}
+use Rattle.records.specs.Records.{encoding, reading}
 use Rattle.rules.proofs.Accounts.{held-open, pair-tells}
+use Rattle.rules.proofs.Arrivals.{nothing-stranded}
 use Rattle.rules.proofs.ListCalls.{lists-in-turn}
 use Rattle.rules.proofs.NeverThree.{never-3, pair-never-3}
 use Rattle.rules.proofs.PairAccepted.{accepts-facts}
@@ -23,8 +25,10 @@ use Rattle.rules.proofs.PairConserved.{conserved}
 use Rattle.rules.proofs.PairRules.{as-the-rules}
 use Rattle.rules.proofs.Parts.{call-unaccepted}
 use Rattle.rules.proofs.Refusals.{full-room, pair-read}
+use Rattle.rules.proofs.RunBytes.{among-readable, arrival-reads, passed-bytes}
 use Rattle.rules.proofs.Runs.{call-in-turn, never-both, one-passed, one-refused, refused-unaltered}
 use Rattle.rules.proofs.Simulation.{Agree, agree-call, simulation}
+use Rattle.rules.specs.Arrivals.{Flying, NothingStranded, receivingOf}
 use Rattle.rules.specs.Calls.{Call, InTurn, call, callOne, one}
 use Rattle.rules.specs.Lists.{total}
 use Rattle.rules.specs.PairValidator.{AsTheRules, Conserved, PairView, inFlightOf, pairOpened, pairValidator}
@@ -122,6 +126,14 @@ unfolding PairHeldAccountsOpen
 pair-held-accounts-open s a l =
     held-open _ _ (accepts-facts capacity (pairViewOfState s) (sound-of (s .words) a .accepted) .ledgers l .allowed)
 
+-- nothing is stranded
+pub pair-nothing-stranded : PairNothingStranded
+unfolding PairNothingStranded PairStatesFollowRules NothingStranded receivingOf
+pair-nothing-stranded s a l r fly b q =
+    let f = pair-states-follow-rules s a b in
+    let j = nothing-stranded capacity (pairViewOfState s) (sound-of (s .words) a .accepted) l r fly in
+    ((λ room. f .passes-when (receivingOf l r) q .1 (j, room)), (λ full. f .refuses-full (receivingOf l r) q j full))
+
 -- lists in turn, and refusals
 pub pair-lists-and-refusals : PairListsAndRefusals
 unfolding PairListsAndRefusals
@@ -158,6 +170,20 @@ pair-states-conserved homes fars ok ds =
       accepted = f .invariant;
       never-3 = never-3 pairChecker judge-never-3 t (f .invariant);
     }
+
+-- no run strands a sending
+pub pair-runs-strand-nothing : PairRunsStrandNothing
+unfolding PairRunsStrandNothing PairStatesConserved PairNothingStranded
+pair-runs-strand-nothing homes fars ok ds by l r fly =
+    let s = pairStateOfRun homes fars ds in
+    let c = pair-states-conserved homes fars ok ds in
+    let own = c .tables l in
+    let other = c .tables (counterpart l) in
+    let reads = arrival-reads l r (among-readable l r _ (passed-bytes pairChecker (pairOpenedState homes fars) ds by) (fly .passed)) in
+    let here : Flying l (stateOf l (pairViewOfState s .pair) .passed) (stateOf (counterpart l) (pairViewOfState s .pair) .passed) r =
+    record { sends = fly .sends; passed = rw own (fly .passed); not-arrived = rw other (fly .not-arrived) } in
+    let t = pair-nothing-stranded s (c .accepted) l r here (encoding (receivingOf l r)) reads in
+    record { reads = reads; passes = λ room. t .0 (rw other room); full = λ full. t .1 (rw other full) }
 
 -- a refused opening's state is refused by every call
 pub pair-zero-is-refused : PairZeroRefused

@@ -1,5 +1,5 @@
 -- What is claimed of the pair validator's calls over the state that the program holds: demand 2, the first half of demand 3, what 22 and
--- 51 say of a record's accounts, and what the places left say of 41. Assumes nothing.
+-- 51 say of a record's accounts, that no sending is stranded, and what the places left say of 41. Assumes nothing.
 use Prim.Native.Nat.{_+_, _<_, _≤_, suc, ℕ}
 use mathlib.Core.Bool.{false, true}
 use mathlib.Core.List.{List}
@@ -8,7 +8,7 @@ use mathlib.Core.Path.{_≡_}
 use lib.ListN.{length}
 use Rattle.answers.specs.Answers.{answer}
 use Rattle.answers.specs.declared.Answer.the-variants.{Passed, Refused}
-use Rattle.ledgers.specs.Ledgers.{ledgerOf}
+use Rattle.ledgers.specs.Ledgers.{counterpart, ledgerOf}
 use Rattle.ledgers.specs.Limits.{capacity}
 use Rattle.ledgers.specs.declared.Ledger.{Ledger}
 use Rattle.ledgers.specs.declared.Ledger.the-variants.{Far, Home}
@@ -17,11 +17,12 @@ use Rattle.pair_validator.specs.Figures.{pairFiguresOf, pairPlacesOf}
 use Rattle.pair_validator.specs.State.{pairChecker, pairOpenedState, pairViewOfState, pairZeroState}
 use Rattle.pair_validator.specs.declared.PairValidator.{PairValidator}
 use Rattle.pair_validator.specs.declared.asked.PairPlaces.{PairPlaces}
-use Rattle.records.specs.Records.{reading}
+use Rattle.records.specs.Records.{encoding, reading}
 use Rattle.records.specs.declared.Reading.the-variants.{Read, Unreadable}
 use Rattle.records.specs.declared.Record.{Record}
 use Rattle.rules.specs.Accounts.{AccountsOpen, TellsAccount}
-use Rattle.rules.specs.Calls.{Call, ListsInTurn, RefusedUnaltered, call, one, passedRecords, recordsOn, run}
+use Rattle.rules.specs.Arrivals.{Flying, receivingOf}
+use Rattle.rules.specs.Calls.{Call, CallBytes, ListsInTurn, RefusedUnaltered, call, one, passedRecords, recordsOn, run}
 use Rattle.rules.specs.Lists.{total}
 use Rattle.rules.specs.PairValidator.{inFlightOf, pairOpened, pairOpeningRefusal, pairValidator}
 use Rattle.rules.specs.Rules.{accountsOf, afterBytes, judge, judgeBytes, stateOf}
@@ -103,6 +104,17 @@ PairHeldAccountsOpen =
     (s : PairValidator) → acceptsPair (s .words) ≡ true → (l : Ledger)
     → All (AccountsOpen (accountsOf (pairViewOfState s .pair))) (stateOf l (pairViewOfState s .pair) .passed)
 
+-- DOCUMENT 02, U2: in every state that the pair validator accepts, the arrival of a sending in flight, in any bytes that read as it, passes
+-- where its ledger's table is not full, and is refused 41 where it is
+unfoldable pub PairNothingStranded : Type 0
+PairNothingStranded =
+    (s : PairValidator) → acceptsPair (s .words) ≡ true → (l : Ledger) (r : Record)
+    → Flying l (stateOf l (pairViewOfState s .pair) .passed) (stateOf (counterpart l) (pairViewOfState s .pair) .passed) r
+    → (b : List ℕ) → reading b ≡ Read (receivingOf l r)
+    → (length (stateOf (counterpart l) (pairViewOfState s .pair) .passed) < capacity → call pairChecker s (one b) .answer ≡ Passed)
+    × (capacity ≤ length (stateOf (counterpart l) (pairViewOfState s .pair) .passed)
+    → call pairChecker s (one b) ≡ record { answer = Refused 41 0; state = s })
+
 -- a call with a list answers by its records in turn; a refusal of any call hands back the state handed in
 unfoldable pub PairListsAndRefusals : Type 0
 PairListsAndRefusals = ListsInTurn pairChecker × RefusedUnaltered pairChecker
@@ -152,6 +164,25 @@ pub record PairStateConserved (homes fars : List ℕ) (ds : List Call) : Type 0 
 -- DEMAND 3, FIRST HALF, of the program's states: at every accepted opening and after every list of calls
 unfoldable pub PairStatesConserved : Type 0
 PairStatesConserved = (homes fars : List ℕ) → pairOpeningRefusal homes fars ≡ 0 → (ds : List Call) → PairStateConserved homes fars ds
+
+-- what holds after the calls of a run of a sending in flight, worked out from the passed records
+pub record PairArrives (homes fars : List ℕ) (ds : List Call) (l : Ledger) (r : Record) : Type 0 where
+  -- the bytes of its arrival read as it
+  pub reads : reading (encoding (receivingOf l r)) ≡ Read (receivingOf l r)
+  -- they pass where the arrival's ledger has passed fewer records than the capacity
+  pub passes : length (recordsOn (counterpart l) (pairPassedOfRun homes fars ds)) < capacity
+      → call pairChecker (pairStateOfRun homes fars ds) (one (encoding (receivingOf l r))) .answer ≡ Passed
+  -- and are refused 41 where it has passed as many
+  pub full : capacity ≤ length (recordsOn (counterpart l) (pairPassedOfRun homes fars ds))
+      → call pairChecker (pairStateOfRun homes fars ds) (one (encoding (receivingOf l r)))
+      ≡ record { answer = Refused 41 0; state = pairStateOfRun homes fars ds }
+
+-- DOCUMENT 02, U2, of runs: at every accepted opening and after every list of calls, each of bytes, no sending is stranded
+unfoldable pub PairRunsStrandNothing : Type 0
+PairRunsStrandNothing =
+    (homes fars : List ℕ) → pairOpeningRefusal homes fars ≡ 0 → (ds : List Call) → All CallBytes ds → (l : Ledger) (r : Record)
+    → Flying l (recordsOn l (pairPassedOfRun homes fars ds)) (recordsOn (counterpart l) (pairPassedOfRun homes fars ds)) r
+    → PairArrives homes fars ds l r
 
 -- beside a refused opening stands a state that every call refuses with 3
 unfoldable pub PairZeroRefused : Type 0

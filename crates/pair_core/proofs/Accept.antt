@@ -25,7 +25,7 @@ use Rattle.table.proofs.Crossings.{FormedUnder, all-backed-is, received-sum, se
 use Rattle.table.proofs.Growing.{index-beside}
 use Rattle.table.proofs.Numbers.{apart-records}
 use Rattle.table.proofs.Records.{AllHeld, all-held, held-all}
-use Rattle.table.specs.Table.{EmptyIndex, IndexOf, accountsBy, indexLength, ledgerIn, mayHoldAt, numberAt, recordAt, recordsFrom, wordsAt}
+use Rattle.table.specs.Table.{EmptyIndex, IndexOf, accountsBy, indexLength, ledgerIn, mayHoldAt, recordAt, recordsFrom, sharedAt, wordsAt}
 use Rattle.wire.proofs.Lists.{and-both, every-both, every-first, every-none, same-tests}
 use Rattle.wire.specs.BigEndian.{every}
 
@@ -148,10 +148,10 @@ module _ (s : List ℕ) (z : length s ≡ pairWords) (b : PairBounds s) (small :
   -- a ledger's records that are held, and their numbers apart
   record HeldOn (L : Ledger) : Type 0 where
     records : AllHeld s (recordsStart (ledgerByte L)) (countOn s (ledgerByte L)) L (accountsOf (pairViewOf s .pair))
-    apart : apartAt (numberAt s (recordsStart (ledgerByte L))) 0 (countOn s (ledgerByte L)) ≡ true
+    apart : apartAt (sharedAt s (recordsStart (ledgerByte L))) 0 (countOn s (ledgerByte L)) ≡ true
 
   -- from the test
-  held-by : (L : Ledger) → (heldBy L && apartAt (numberAt s (recordsStart (ledgerByte L))) 0 (countOn s (ledgerByte L))) ≡ true → HeldOn L
+  held-by : (L : Ledger) → (heldBy L && apartAt (sharedAt s (recordsStart (ledgerByte L))) 0 (countOn s (ledgerByte L))) ≡ true → HeldOn L
   held-by L h =
       let a = and-both _ _ h in
       record {
@@ -160,7 +160,7 @@ module _ (s : List ℕ) (z : length s ≡ pairWords) (b : PairBounds s) (small :
       }
 
   -- and back
-  by-held : (L : Ledger) → HeldOn L → (heldBy L && apartAt (numberAt s (recordsStart (ledgerByte L))) 0 (countOn s (ledgerByte L))) ≡ true
+  by-held : (L : Ledger) → HeldOn L → (heldBy L && apartAt (sharedAt s (recordsStart (ledgerByte L))) 0 (countOn s (ledgerByte L))) ≡ true
   by-held L h =
       both-tests _ _
       (held-all s (recordsStart (ledgerByte L)) (countOn s (ledgerByte L)) L _ (rw (accounts-same s z b L) (h .records)))

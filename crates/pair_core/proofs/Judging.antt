@@ -18,7 +18,7 @@ use Rattle.rules.specs.Rules.{Kind, LedgerState, Local, Read, Receiving, Record
 use Rattle.rules.specs.Rules.{lastRefusal, matchRefusal, matches}
 use Rattle.table.proofs.Crossings.{asked, backed-is}
 use Rattle.table.proofs.Numbers.{clash-records}
-use Rattle.table.specs.Table.{backedBy, ledgerIn, numberedAt}
+use Rattle.table.specs.Table.{backedBy, ledgerIn, usedAt}
 
 module _ (s : List ℕ) (r : Record) where
   -- a local or sending is paid
@@ -54,7 +54,7 @@ module _ (s : List ℕ) (r : Record) where
       → senders ≡ accountsOf (pairViewOf s .pair) (senderLedger (r .kind))
       → receivers ≡ accountsOf (pairViewOf s .pair) (receiverLedger (r .kind))
       → last ≡ lastRefusal (pairViewOf s .pair) r (r .kind) → full ≡ refuse (leb capacity (countOn s l)) 41 0 → later ≡ orElse last full
-      → taken ≡ anyAt (numberedAt (r .number) s (recordsStart l)) 0 (countOn s l) → n ≡ firstBy senders receivers r taken later
+      → taken ≡ anyAt (usedAt (isReceiving (r .kind)) (r .number) s (recordsStart l)) 0 (countOn s l) → n ≡ firstBy senders receivers r taken later
       → n ≡ pairJudge capacity (pairViewOf s .pair) (Read r)
   unfolding judge roomRefusal ledgerIn
   judge-by {l} eb es ev el eu ea et h =

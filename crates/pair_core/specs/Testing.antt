@@ -8,13 +8,13 @@ use lib.ListN.{getD}
 use Rattle.ledgers.specs.Ledgers.{ledgerAt}
 use Rattle.pair_core.specs.Layout.{accountsOn, balancesStart, countOn, pairSupplyOf, recordsStart}
 use Rattle.places.specs.OverPlaces.{allAt, apartAt, sumAt}
-use Rattle.table.specs.Table.{accountsBy, backedAt, flowAt, mayHoldAt, numberAt}
+use Rattle.table.specs.Table.{accountsBy, backedAt, flowAt, mayHoldAt, sharedAt}
 
 -- a ledger may hold each of its records, and their numbers are apart
 abbrev pub heldOn : List ℕ → ℕ → Bool
 heldOn s l =
     allAt (mayHoldAt s (recordsStart l) (ledgerAt l) (accountsBy (ledgerAt l) (accountsOn s l) (accountsOn s (1 - l)))) 0 (countOn s l)
-    && apartAt (numberAt s (recordsStart l)) 0 (countOn s l)
+    && apartAt (sharedAt s (recordsStart l)) 0 (countOn s l)
 
 -- each of its arrivals has its sending on the other ledger
 abbrev pub backedOn : List ℕ → ℕ → Bool

@@ -257,7 +257,16 @@ pub fn judge<'a>(s: &'a [u64], index: &'a [u16], w: Words, r: Record) -> u32
     let receivers = accounts_on(s, kind.receiver_ledger());
     let last = last_refusal(s, index, w, r);
     let full = refusal_if(Ledger::CAPACITY <= count, 41);
-    let used = is_used(s, index, l * RECORD_WORDS, l * INDEX, count, r.number);
+    let arrival = is_receiving(kind);
+    let used = is_used(
+        s,
+        index,
+        l * RECORD_WORDS,
+        l * INDEX,
+        count,
+        arrival,
+        r.number,
+    );
     first_refusals(senders, receivers, r, used, first_refusal(last, full))
 }
 

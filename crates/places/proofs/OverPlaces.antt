@@ -90,26 +90,24 @@ all-each p i (suc n) h j a b =
     let u = and-both (p i) (allAt p (suc i) n) h in
     ⊎-elim (λ q. rw (← q) (u .0)) (λ q. all-each p (suc i) n (u .1) j q (omega arith)) (eq-or-lt-of-le a)
 
--- values that are apart
-pub apart-all : (f : ℕ → ℕ) (i n : ℕ) → ((a b : ℕ) → i ≤ a → a < b → b < i + n → f a ≡ f b → ⊥) → apartAt f i n ≡ true
+-- a test that holds at no two places
+pub apart-all : (p : ℕ → ℕ → Bool) (i n : ℕ) → ((a b : ℕ) → i ≤ a → a < b → b < i + n → p a b ≡ false) → apartAt p i n ≡ true
 unfolding apartAt
-apart-all f i zero h = refl
-apart-all f i (suc n) h =
+apart-all p i zero h = refl
+apart-all p i (suc n) h =
     rw (
-      any-none (λ (j : ℕ). eqb (f i) (f j)) (suc i) n
-          (λ j a b. ne-eqb (f i) (f j) (λ q. h i j (omega arith) (omega arith) (omega arith) q)),
-      apart-all f (suc i) n (λ a b x y z. h a b (omega arith) y (omega arith)),
+      any-none (p i) (suc i) n (λ j a b. h i j (omega arith) (omega arith) (omega arith)),
+      apart-all p (suc i) n (λ a b x y z. h a b (omega arith) y (omega arith)),
     )
 
--- two values that are one
-pub apart-not : (f : ℕ → ℕ) (i n a b : ℕ) → i ≤ a → a < b → b < i + n → f a ≡ f b → apartAt f i n ≡ false
+-- one that holds at two
+pub apart-not : (p : ℕ → ℕ → Bool) (i n a b : ℕ) → i ≤ a → a < b → b < i + n → p a b ≡ true → apartAt p i n ≡ false
 unfolding apartAt
-apart-not f i zero a b x y z q = absurd (omega arith)
-apart-not f i (suc n) a b x y z q =
+apart-not p i zero a b x y z q = absurd (omega arith)
+apart-not p i (suc n) a b x y z q =
     ⊎-elim
-    (λ r. rw (any-some (λ (j : ℕ). eqb (f i) (f j)) (suc i) n b (omega arith) (omega arith) (eq-eqb (f i) (f b) (ap f r ∙ q))))
-    (λ r. and-right (not (anyAt (λ (j : ℕ). eqb (f i) (f j)) (suc i) n)) (apartAt f (suc i) n)
-    (apart-not f (suc i) n a b r y (omega arith) q))
+    (λ (r : i ≡ a). rw (any-some (p i) (suc i) n b (omega arith) (omega arith) (ap (λ (k : ℕ). p k b) r ∙ q)))
+    (λ r. and-right (not (anyAt (p i) (suc i) n)) (apartAt p (suc i) n) (apart-not p (suc i) n a b r y (omega arith) q))
     (eq-or-lt-of-le x)
 
 -- ## Against the rules' lists

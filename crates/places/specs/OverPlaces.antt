@@ -2,7 +2,6 @@
 use Prim.Native.Nat.{ℕ, zero, suc, _+_}
 use mathlib.Core.Bool.{Bool, true, false, not, _&&_, _||_}
 use mathlib.Core.List.{List, [], _∷_}
-use lib.Dec.{eqb}
 
 -- what a function gives at the places
 unfoldable pub listAt : {A : Type 0} → (ℕ → A) → ℕ → ℕ → List A
@@ -24,7 +23,7 @@ unfoldable pub sumAt : (ℕ → ℕ) → ℕ → ℕ → ℕ
 sumAt f i zero = 0
 sumAt f i (suc n) = f i + sumAt f (suc i) n
 
--- no two of the places have one value
-unfoldable pub apartAt : (ℕ → ℕ) → ℕ → ℕ → Bool
-apartAt f i zero = true
-apartAt f i (suc n) = not (anyAt (λ (j : ℕ). eqb (f i) (f j)) (suc i) n) && apartAt f (suc i) n
+-- a test of two places holds at no two of them
+unfoldable pub apartAt : (ℕ → ℕ → Bool) → ℕ → ℕ → Bool
+apartAt p i zero = true
+apartAt p i (suc n) = not (anyAt (p i) (suc i) n) && apartAt p (suc i) n

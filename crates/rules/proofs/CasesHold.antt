@@ -2,8 +2,8 @@
 use mathlib.Core.Path.{refl}
 use Rattle.records.specs.Fields.{fieldBytes}
 use Rattle.records.specs.Records.{encoding, formed, reading, readingWords, recordIn}
-use Rattle.rules.specs.Cases.{CasesHold, FurtherRowsHold, accountRows, afterAll, allPass, bad, caseOpening, cases, farLarger, good}
-use Rattle.rules.specs.Cases.{holds, homeAfterAll, homeAllPass, homeCaseOpening, nearRows, openingRows, orderRows, shows, stateRows}
+use Rattle.rules.specs.Cases.{CasesHold, FurtherRowsHold, accountRows, afterAll, allPass, bad, caseOpening, cases, classRows, farLarger}
+use Rattle.rules.specs.Cases.{good, holds, homeAfterAll, homeAllPass, homeCaseOpening, nearRows, openingRows, orderRows, shows, stateRows}
 use Rattle.rules.specs.HomeValidator.{homeAccepts, homeJudgeRecord, poolRefusal}
 use Rattle.rules.specs.Lists.{all, any, lowered, raised, sum}
 use Rattle.rules.specs.PairValidator.{countAllowed, heldAllowed, matched, openingRefusal, roomRefusal, supplyAllowed, unshared}
@@ -22,7 +22,7 @@ cases-hold = refl
 
 -- the rows of our own
 pub further-rows-hold : FurtherRowsHold
-unfolding FurtherRowsHold farLarger accountRows orderRows nearRows openingRows stateRows heldAllowed unshared matched standsUnder
+unfolding FurtherRowsHold farLarger accountRows orderRows classRows nearRows openingRows stateRows heldAllowed unshared matched standsUnder
     pairAccepts homeAccepts holds all every any sum lowered raised valueAfter field formed recordIn
     reading readingWords bytesOf encoding fieldBytes clashes matches firstRefusal fundsRefusal matchRefusal judge after judgeBytes
     afterBytes arrived flight inFlight poolRefusal homeJudgeRecord roomRefusal countAllowed supplyAllowed openingRefusal caseOpening

@@ -1,40 +1,79 @@
 -- Laws of clashing records. Only those of the first section open the definition of `clashes`. Assumes nothing.
-use Rattle.wire.proofs.Prelude.{Bool, List, [], _++_, _||_, _∙_, _∷_, _≡_, eq-eqb, eqb, eqb-false, false, ne-eqb, not-true, refl, sym, true}
-use Rattle.wire.proofs.Prelude.{ℕ}
+use Rattle.wire.proofs.Prelude.{Bool, List, [], _&&_, _++_, _||_, _∙_, _∷_, _≡_, ap, ap₂, dichotomy, eq-eqb, eqb, eqb-false, eqb-true}
+use Rattle.wire.proofs.Prelude.{false, inl, inr, ne-eqb, not, not-true, refl, sym, true, ℕ}
 use Rattle.rules.proofs.Lists.{any-snoc, or-neither}
-use Rattle.rules.specs.Lists.{any}
+use Rattle.rules.specs.Lists.{any, sameTruth}
 use Rattle.rules.specs.PairValidator.{unshared}
-use Rattle.rules.specs.Rules.{Record, clashes}
+use Rattle.rules.specs.Rules.{Record, arrived, clashes, isReceiving}
 use Rattle.wire.proofs.Lists.{every-first}
 use Rattle.wire.specs.BigEndian.{every}
 
+-- ## Tests
+
+-- a test has its own outcome
+pub same-self : (t : Bool) → sameTruth t t ≡ true
+same-self true = refl
+same-self false = refl
+
+-- either way round
+pub same-turned : (s t : Bool) → sameTruth s t ≡ sameTruth t s
+same-turned true true = refl
+same-turned true false = refl
+same-turned false true = refl
+same-turned false false = refl
+
+-- of what does not hold where the other does
+pub same-not : (s t : Bool) → sameTruth (not s) t ≡ sameTruth s (not t)
+same-not true t = refl
+same-not false true = refl
+same-not false false = refl
+
+-- two numbers are the same either way round
+pub eqb-turned : (a b : ℕ) → eqb a b ≡ eqb b a
+eqb-turned a b =
+    elim (dichotomy (eqb a b)) [
+      | inl q ↦ q ∙ sym (ne-eqb b a (λ e. eqb-false a b q (sym e)))
+      | inr q ↦ q ∙ sym (eq-eqb b a (sym (eqb-true a b q)))
+    ]
+
 -- ## What clashes
 
--- a record of the list has the number
-unfoldable pub used : ℕ → List Record → Bool
-used n records = any (λ (r : Record). eqb n (r .number)) records
+-- a record of the list has the number, and is an arrival or not as the test says
+unfoldable pub used : Bool → ℕ → List Record → Bool
+used arrival n records = any (λ (r : Record). sameTruth arrival (isReceiving (r .kind)) && eqb n (r .number)) records
 
--- a record clashes with one of a list where its number is used there
-pub clash-used : (r : Record) (xs : List Record) → any (clashes r) xs ≡ used (r .number) xs
+-- a record clashes with one of a list where its number is used there in its class
+pub clash-used : (r : Record) (xs : List Record) → any (clashes r) xs ≡ used (isReceiving (r .kind)) (r .number) xs
 unfolding clashes used
 clash-used r xs = refl
 
+-- an arrival clashes with one of a list where an arrival with its number is there
+pub clash-arrived : (r : Record) (xs : List Record) → isReceiving (r .kind) ≡ true → any (clashes r) xs ≡ arrived (r .number) xs
+unfolding used arrived
+clash-arrived r xs q = rw (clash-used r xs, q)
+
 -- a clash goes both ways
-clash-both : (r x : Record) → clashes r x ≡ false → clashes x r ≡ false
+pub clash-turned : (r x : Record) → clashes r x ≡ clashes x r
 unfolding clashes
-clash-both r x h = ne-eqb (x .number) (r .number) (λ q. eqb-false (r .number) (x .number) h (sym q))
+clash-turned r x = ap₂ _&&_ (same-turned (isReceiving (r .kind)) (isReceiving (x .kind))) (eqb-turned (r .number) (x .number))
 
 -- a record clashes with itself
 pub clash-self : (r : Record) → clashes r r ≡ true
 unfolding clashes
-clash-self r = eq-eqb (r .number) (r .number) refl
+clash-self r = rw (same-self (isReceiving (r .kind)), eq-eqb (r .number) (r .number) refl)
+
+-- two records of one class and one number clash
+pub class-clash : (r x : Record) → isReceiving (r .kind) ≡ isReceiving (x .kind) → r .number ≡ x .number → clashes r x ≡ true
+unfolding clashes
+class-clash r x c q = rw (c, same-self (isReceiving (x .kind)), eq-eqb (r .number) (x .number) q)
 
 -- ## Lists
 
 -- the numbers of a list with one record more
-pub used-snoc : (n : ℕ) (xs : List Record) (r : Record) → used n (xs ++ r ∷ []) ≡ (used n xs || eqb n (r .number))
+pub used-snoc : (arrival : Bool) (n : ℕ) (xs : List Record) (r : Record)
+    → used arrival n (xs ++ r ∷ []) ≡ (used arrival n xs || (sameTruth arrival (isReceiving (r .kind)) && eqb n (r .number)))
 unfolding used
-used-snoc n xs r = any-snoc (λ (x : Record). eqb n (x .number)) xs r
+used-snoc arrival n xs r = any-snoc (λ (x : Record). sameTruth arrival (isReceiving (x .kind)) && eqb n (x .number)) xs r
 
 -- no two records of a list clash
 unfoldable pub Distinct : List Record → Type 0
@@ -47,7 +86,7 @@ unfolding Distinct any
 distinct-snoc [] r d h = (refl, tt)
 distinct-snoc (x ∷ xs) r d h =
     let u = or-neither (clashes r x) (any (clashes r) xs) h in
-    (any-snoc (clashes x) xs r ∙ simp (clash-both r x (u .0), d .0), distinct-snoc xs r (d .1) (u .1))
+    (any-snoc (clashes x) xs r ∙ simp (sym (clash-turned r x) ∙ u .0, d .0), distinct-snoc xs r (d .1) (u .1))
 
 -- the test of refusal 3
 pub unshared-distinct : (xs : List Record) → unshared xs ≡ true → Distinct xs

@@ -2,24 +2,24 @@
 -- records that pass the rules. Far account 0 holds the far pool: what home sends goes on to it, and what home receives comes
 -- from it. The far locals for that take their numbers from a block of 2^32 that no home record uses. Assumes nothing.
 use Rattle.rules.specs.Calls.{InTurn}
-use Rattle.wire.proofs.Prelude.{List, [], _*_, _+_, _-_, _/_, _<_, _^_, _∙_, _∷_, _≡_, _≤_, ap, arith, drop, drop-cons, drop-of-length-le}
-use Rattle.wire.proofs.Prelude.{drop-set-lt, eqb, false, getD, getD-set-other, getD-set-same, length, lt-length-set, ne-eqb, refl, set-getD}
-use Rattle.wire.proofs.Prelude.{set-set, suc, sym, true, zero, ℕ}
+use Rattle.wire.proofs.Prelude.{Bool, List, [], _&&_, _*_, _+_, _-_, _/_, _<_, _^_, _∙_, _∷_, _≡_, _≤_, and-false, ap, arith, drop}
+use Rattle.wire.proofs.Prelude.{drop-cons, drop-of-length-le, drop-set-lt, eqb, false, getD, getD-set-other, getD-set-same, length}
+use Rattle.wire.proofs.Prelude.{lt-length-set, ne-eqb, not, refl, set-getD, set-set, suc, sym, true, zero, ℕ}
 use native.Mathlib.Decide.{ℕ-discrete}
 use Rattle.ledgers.specs.Ledgers.{ledgerOf}
 use Rattle.ledgers.specs.Limits.{maxAmount}
 use Rattle.records.proofs.Exactly.{encoding-bytes, encoding-reads, reads-exactly}
 use Rattle.records.proofs.Formed.{read-formed}
 use Rattle.records.specs.Records.{EncodingReads, Readable, ReadsExactly, encoding, reading, recordIn}
-use Rattle.rules.proofs.Clashes.{clash-used, used, used-snoc}
+use Rattle.rules.proofs.Clashes.{clash-used, same-not, used, used-snoc}
 use Rattle.rules.proofs.HomeSound.{after-far, after-home, pairOf, viewOf}
 use Rattle.rules.proofs.InFlight.{matched-matches}
 use Rattle.rules.proofs.Lists.{any-last, length-lowered, length-moved, length-raised, lowered-same, or-neither, raised-same}
 use Rattle.rules.proofs.Refusals.{HomePassable, Passable, home-judge-none, home-read, none-judge}
 use Rattle.rules.specs.HomeValidator.{Possible, homeValidator, isFar, poolAfter, readsFar}
-use Rattle.rules.specs.Lists.{left, lowered, none, raised, right, sum, total}
+use Rattle.rules.specs.Lists.{any, left, lowered, none, raised, right, sameTruth, sum, total}
 use Rattle.rules.specs.Rules.{Far, Home, Kind, LedgerState, Local, Read, Receiving, Record, Sending, held, isSending, judge, matches}
-use Rattle.rules.specs.Rules.{Passes, afterBytes, judgeBytes}
+use Rattle.rules.specs.Rules.{Passes, afterBytes, clashes, isReceiving, judgeBytes}
 use Rattle.wire.specs.BigEndian.{All, Bytes, field}
 
 -- a far record with a good signature: kind, sender, receiver, number, amount
@@ -60,18 +60,26 @@ module _ (H F : LedgerState) (r : Record) (bs : List (List ℕ)) where
 
 -- home uses no number of the block
 abbrev Outside : ℕ → LedgerState → Type 0
-Outside block H = (n : ℕ) → n / 2 ^ 32 ≡ block → used n (H .passed) ≡ false
+Outside block H = (arrival : Bool) (n : ℕ) → n / 2 ^ 32 ≡ block → used arrival n (H .passed) ≡ false
 
--- a number that home does not use, and that is none of the first k of the block, is not used on far
+-- a number that is none of the first k of the block is not used by a far arrival where no home local or sending uses it, and by no far
+-- local or sending where no home arrival uses it
 abbrev Unused : ℕ → ℕ → LedgerState → LedgerState → Type 0
-Unused block k H F = (n : ℕ) → (n / 2 ^ 32 ≡ block → block * 2 ^ 32 + k ≤ n) → used n (H .passed) ≡ false → used n (F .passed) ≡ false
+Unused block k H F =
+    (arrival : Bool) (n : ℕ) → (n / 2 ^ 32 ≡ block → block * 2 ^ 32 + k ≤ n) → used (not arrival) n (H .passed) ≡ false
+    → used arrival n (F .passed) ≡ false
 
--- a record more of one number on each ledger leaves it so
-unused-both : (block k : ℕ) (H F : LedgerState) (r x : Record) → x .number ≡ r .number → Unused block k H F
-    → Unused block k (held H r) (held F x)
-unused-both block k H F r x q u n i h =
-    let v = or-neither (used n (H .passed)) (eqb n (r .number)) (sym (used-snoc n (H .passed) r) ∙ h) in
-    used-snoc n (F .passed) x ∙ simp (q, v .1, u n i (v .0))
+-- what home does not use with a record more it does not use without it
+used-less : (arrival : Bool) (n : ℕ) (H : LedgerState) (r : Record) → used arrival n (held H r .passed) ≡ false
+    → (used arrival n (H .passed) ≡ false) × ((sameTruth arrival (isReceiving (r .kind)) && eqb n (r .number)) ≡ false)
+used-less arrival n H r h = or-neither _ _ (sym (used-snoc arrival n (H .passed) r) ∙ h)
+
+-- a record more of one number on each ledger, an arrival on one of them, leaves it so
+unused-both : (block k : ℕ) (H F : LedgerState) (r x : Record) → x .number ≡ r .number
+    → isReceiving (x .kind) ≡ not (isReceiving (r .kind)) → Unused block k H F → Unused block k (held H r) (held F x)
+unused-both block k H F r x q c u arrival n i h =
+    let v = used-less (not arrival) n H r h in
+    used-snoc arrival n (F .passed) x ∙ simp (q, c, ← same-not arrival (isReceiving (r .kind)), v .1, u arrival n i (v .0))
 
 -- what was given to an account is taken again
 lowered-raised : (balances : List ℕ) (i a : ℕ) → i < length balances → lowered (raised balances i a) i a ≡ balances
@@ -104,13 +112,17 @@ module _ (farAccounts block : ℕ) (few : farAccounts ≤ 2 ^ 16) (top : block *
       let number : ℕ = block * 2 ^ 32 + k in
       let z : Record = farRecord (Local Far) i j number a in
       let here : number / 2 ^ 32 ≡ block = omega arith in
-      let fresh = clash-used z (F .passed) ∙ un number (λ w. omega arith) (out number here) in
+      let fresh = clash-used z (F .passed) ∙ un false number (λ w. omega arith) (out true number here) in
       possible-far H F z bs (omega arith) refl
       (none-judge (pairOf H F) z (Local Far) refl
       (record { sender-open = rw ln p; receiver-open = rw ln q; signed = refl; fresh = fresh }, l))
-      (next (λ n i u.
-      used-snoc n (F .passed) z
-      ∙ simp (ne-eqb n number (λ w. omega (arith, i (ap (λ (y : ℕ). y / 2 ^ 32) w ∙ here))), un n (λ w. omega (arith, i w)) u)))
+      (next (λ arrival n i u.
+      used-snoc arrival n (F .passed) z
+      ∙ simp (
+        ne-eqb n number (λ w. omega (arith, i (ap (λ (y : ℕ). y / 2 ^ 32) w ∙ here))),
+        and-false,
+        un arrival n (λ w. omega (arith, i w)) u,
+      )))
 
 module _ (farAccounts supply block : ℕ) (some : 0 < farAccounts) (few : farAccounts ≤ 2 ^ 16)
     (top : block * 2 ^ 32 + 2 ^ 32 ≤ 2 ^ 64) where
@@ -128,9 +140,14 @@ module _ (farAccounts supply block : ℕ) (some : 0 < farAccounts) (few : farAcc
       (follow : (F′ : LedgerState) → Ready (held H r) F′ (poolAfter pool r (r .kind)) (suc k) → Possible (pairOf (held H r) F′) bs) where
     -- home still uses no number of the block
     outside-next : Outside block (held H r)
-    outside-next n i =
-        used-snoc n (H .passed) r
-        ∙ simp (ne-eqb n (r .number) (λ w. out (sym (ap (λ (y : ℕ). y / 2 ^ 32) w) ∙ i)), rd .outside n i)
+    outside-next arrival n i =
+        used-snoc arrival n (H .passed) r
+        ∙ simp (ne-eqb n (r .number) (λ w. out (sym (ap (λ (y : ℕ). y / 2 ^ 32) w) ∙ i)), and-false, rd .outside arrival n i)
+
+    -- its number is not used in its class
+    own-unused : (arrival : Bool) → isReceiving (r .kind) ≡ arrival → any (clashes r) (H .passed) ≡ false
+        → used arrival (r .number) (H .passed) ≡ false
+    own-unused arrival c h = rw (clash-used r (H .passed), c) at h
 
     -- a home record that passes has a far list
     home-one : (kind : Kind) → r .kind ≡ kind → HomePassable (viewOf H farAccounts pool supply) r kind → Possible (pairOf H F) (b ∷ bs)
@@ -143,9 +160,7 @@ module _ (farAccounts supply block : ℕ) (some : 0 < farAccounts) (few : farAcc
           count = rd .count;
           pool-there = rw q (rd .pool-there);
           outside = outside-next;
-          unused = λ n i u.
-              rd .unused n (λ w. omega (arith, i w))
-              (or-neither (used n (H .passed)) (eqb n (r .number)) (sym (used-snoc n (H .passed) r) ∙ u) .0);
+          unused = λ arrival n i u. rd .unused arrival n (λ w. omega (arith, i w)) (used-less (not arrival) n H r u .0);
         }))
     -- a sending: its arrival on far, and from there on to account 0
     home-one (Sending Home) q h =
@@ -153,8 +168,8 @@ module _ (farAccounts supply block : ℕ) (some : 0 < farAccounts) (few : farAcc
         let F₁ : LedgerState = held F x in
         let open-receiver : r .receiver < length (F .balances) = rw (rd .count) (h .0 .receiver-open) in
         let open-sender : r .sender < length (held H r .balances) = rw (length-moved (H .balances) r (r .kind)) (h .0 .sender-open) in
-        let fresh : used (r .number) (F .passed) ≡ false =
-        rd .unused (r .number) (λ w. absurd (out w)) (sym (clash-used r (H .passed)) ∙ h .0 .fresh) in
+        let fresh : used true (r .number) (F .passed) ≡ false = rd .unused true (r .number) (λ w. absurd (out w)) (own-unused false (ap
+        isReceiving q) (h .0 .fresh)) in
         possible-home H F r bs b is (ap ledgerOf q) (none-judge (pairOf H F) r (Sending Home) q (rw (rd .count) h))
         (possible-far (held H r) F x bs (omega (arith, g)) refl
         (none-judge (pairOf (held H r) F) x (Receiving Far) refl (
@@ -165,7 +180,7 @@ module _ (farAccounts supply block : ℕ) (some : 0 < farAccounts) (few : farAcc
         (local-far farAccounts block few top (held H r) F₁ (r .receiver) 0 (r .amount) k bs (simp length-raised (rd .count))
         (h .0 .receiver-open) some (g .amount-some) (g .amount-most)
         (omega (arith, raised-same (F .balances) (r .receiver) (r .amount) open-receiver)) room outside-next
-        (unused-both block k H F r x refl (rd .unused))
+        (unused-both block k H F r x refl (sym (ap (λ (t : Kind). not (isReceiving t)) q)) (rd .unused))
         (λ u.
         follow (held F₁ (farRecord (Local Far) (r .receiver) 0 (block * 2 ^ 32 + k) (r .amount)))
         (record {
@@ -191,7 +206,7 @@ module _ (farAccounts supply block : ℕ) (some : 0 < farAccounts) (few : farAcc
             sender-open = rw length-raised open-sender;
             receiver-open = h .0 .receiver-open;
             signed = refl;
-            fresh = clash-used x (F₁ .passed) ∙ u (r .number) (λ w. absurd (out w)) (sym (clash-used r (H .passed)) ∙ h .0 .fresh);
+            fresh = clash-used x (F₁ .passed) ∙ u false (r .number) (λ w. absurd (out w)) (own-unused true (ap isReceiving q) (h .0 .fresh));
           },
           omega (arith, raised-same left-over (r .sender) (r .amount) open-sender),
         ))
@@ -208,7 +223,7 @@ module _ (farAccounts supply block : ℕ) (some : 0 < farAccounts) (few : farAcc
               rw (q, lowered-raised left-over (r .sender) (r .amount) open-sender)
               (omega (arith, rd .pool-there, lowered-same (F .balances) 0 (r .amount) (rw (rd .count) some)));
           outside = outside-next;
-          unused = unused-both block (suc k) H F₁ r x refl u;
+          unused = unused-both block (suc k) H F₁ r x refl (sym (ap (λ (t : Kind). not (isReceiving t)) q)) u;
         }))))
     home-one (Local Far) q h = absurd h
     home-one (Sending Far) q h = absurd h

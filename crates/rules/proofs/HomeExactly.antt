@@ -2,8 +2,6 @@
 -- Assumes nothing.
 use Rattle.wire.proofs.Prelude.{List, [], _*_, _++_, _+_, _-_, _/_, _<_, _^_, _∙_, _∷_, _≡_, _≤_, arith, drop, eqb, eqb-false, false, getD}
 use Rattle.wire.proofs.Prelude.{leb-true, length, length-append, length-map, ltb-true, map, refl, subst, suc, sym, zero, ℕ}
-use Rattle.answers.specs.declared.Answer.{Answer}
-use Rattle.answers.specs.declared.Answer.the-variants.{Passed, Refused}
 use Rattle.ledgers.specs.Limits.{accountLimit, maxAmount}
 use Rattle.rules.proofs.Clashes.{used}
 use Rattle.rules.proofs.FarList.{gather}
@@ -13,14 +11,15 @@ use Rattle.rules.proofs.HomeSound.{Sound, interleaving-sound, sound-ope
 use Rattle.rules.proofs.Lacking.{isIn, lacking}
 use Rattle.rules.proofs.Lists.{every-all, or-neither}
 use Rattle.rules.proofs.PairConserved.{opening-none}
+use Rattle.rules.proofs.RunBytes.{handed-bytes, passed-bytes}
 use Rattle.rules.proofs.Runs.{call-in-turn, in-turn-append, in-turn-call, in-turn-split, reached-run}
-use Rattle.rules.specs.Calls.{Call, CallBytes, Checker, InTurn, call, handed, ifPassed, list, one, passedRecords, recordsIn, run}
+use Rattle.rules.specs.Calls.{InTurn, call, handed, passedRecords, run}
 use Rattle.rules.specs.HomeValidator.{HomeRecord, Possible, homeOpened, homeValidator, mostCapacity, received, sent}
 use Rattle.rules.specs.HomeValidator.{ExactlyWhenPossible}
-use Rattle.rules.specs.Lists.{any, cut, sum, total}
+use Rattle.rules.specs.Lists.{any, sum, total}
 use Rattle.rules.specs.PairValidator.{countAllowed, supplyAllowed}
 use Rattle.rules.specs.Rules.{newLedger, opened}
-use Rattle.wire.proofs.Lists.{all-append, all-drop, all-take}
+use Rattle.wire.proofs.Lists.{all-append}
 use Rattle.wire.specs.BigEndian.{All, Bytes, field}
 
 -- ## A block of numbers that no home record uses
@@ -57,36 +56,9 @@ complete homes fars farAccounts farTotal capacity bs some few small ln tot len m
     let block = l .0 in
     let le : block ≤ length bs = omega (arith, l .1, length-map bs blockOf) in
     let top : block * 2 ^ 32 + 2 ^ 32 ≤ 2 ^ 64 = omega arith in
-    gather farAccounts (total homes + farTotal) block some (omega arith) top bs capacity farTotal (newLedger homes) small (λ n i. refl)
+    gather farAccounts (total homes + farTotal) block some (omega arith) top bs capacity farTotal (newLedger homes) small (λ arrival n i. refl)
     (clear-block block bs (l .2)) by it (farAccounts - 1) 1 0 (newLedger fars)
-    (omega arith) (omega arith) (omega arith) ln (first-and-rest fars (omega arith) ∙ tot) (λ n i u. refl)
-
--- ## Bytes
-
--- parts of bytes are bytes
-bytes-cut : (most n : ℕ) (b : List ℕ) → Bytes b → All Bytes (cut most n b)
-unfolding cut All
-bytes-cut zero n b h = tt
-bytes-cut (suc most) n [] h = tt
-bytes-cut (suc most) n (x ∷ b) h = (
-  all-take (λ (x : ℕ). x < 256) n (x ∷ b) h,
-  bytes-cut most n (drop n (x ∷ b)) (all-drop (λ (x : ℕ). x < 256) n (x ∷ b) h),
-)
-
--- the records that a call hands in are bytes
-handed-bytes : (d : Call) → CallBytes d → All Bytes (handed d)
-unfolding All recordsIn
-handed-bytes (one b) h = (h, tt)
-handed-bytes (list b) h = bytes-cut (length b) 32 b h
-
--- the passed records of a run are bytes
-passed-bytes : {S : Type 0} (c : Checker S) (s : S) (ds : List Call) → All CallBytes ds → All Bytes (passedRecords c s ds)
-unfolding passedRecords All
-passed-bytes c s [] h = tt
-passed-bytes c s (d ∷ ds) h =
-    let part : (a : Answer) → All Bytes (ifPassed a (handed d)) = elim [ Passed ↦ handed-bytes d (h .0) | Refused n place ↦ tt ] in
-    all-append Bytes (ifPassed (call c s d .answer) (handed d)) (passedRecords c (call c s d .state) ds) (part (call c s d .answer))
-    (passed-bytes c (call c s d .state) ds (h .1))
+    (omega arith) (omega arith) (omega arith) ln (first-and-rest fars (omega arith) ∙ tot) (λ arrival n i u. refl)
 
 -- ## The theorem
 

@@ -5,6 +5,7 @@ pub mod Lists
 pub mod Bytes
 pub mod Refusals
 pub mod Runs
+pub mod RunBytes
 pub mod ListCalls
 pub mod Simulation
 pub mod Clashes
@@ -24,4 +25,5 @@ pub mod ValidityLanguage
 pub mod Numbers
 pub mod NeverThree
 pub mod Accounts
+pub mod Arrivals
 pub mod Parts

@@ -1,14 +1,15 @@
 -- What D3.2 asks of a validity language, proved of the rules. Assumes nothing.
-use Rattle.wire.proofs.Prelude.{Bool, List, [], _++_, _∙_, _∷_, _≡_, ap, refl, sym, true, ℕ}
+use Rattle.wire.proofs.Prelude.{Bool, List, [], _++_, _∙_, _∷_, _≡_, ap, false, refl, sym, true, ℕ}
 use Rattle.ledgers.specs.Ledgers.{counterpart, ledgerOf}
 use Rattle.records.specs.Records.{reading}
-use Rattle.rules.proofs.Clashes.{clash-self}
+use Rattle.rules.proofs.Clashes.{clash-arrived, clash-self}
 use Rattle.rules.proofs.InFlight.{matched-matches, matches-matched}
 use Rattle.rules.proofs.Ledgers.{accounts-with, counterpart-twice}
 use Rattle.rules.proofs.Lists.{any-append, any-last, any-split, never-both-tests}
 use Rattle.rules.proofs.PairConserved.{passed-after}
 use Rattle.rules.proofs.Refusals.{Passable, first-none, judge-none, none-judge, rules-read}
-use Rattle.rules.specs.Beyond.{ClosedUnderBeginnings, NoClashPasses, NonePassesTwice, ReceivingsWereSent, SendingsArrive, receivingOf}
+use Rattle.rules.specs.Arrivals.{receivingOf}
+use Rattle.rules.specs.Beyond.{ClosedUnderBeginnings, NoClashPasses, NonePassesTwice, ReceivingsWereSent, SendingsArrive}
 use Rattle.rules.specs.Cases.{afterAll}
 use Rattle.rules.specs.Lists.{any}
 use Rattle.rules.specs.Rules.{Far, Home, Ledger, PairState, Read, Reading, Receiving, Record, Sending, Unreadable, stateOf}
@@ -110,13 +111,14 @@ receivings-were-sent p r l q h =
 
 -- ## Sendings arrive
 
--- the arrival of a sending that has passed passes after any list, unless its number is taken
+-- the arrival of a sending that has passed passes after any list exactly when none with its number has passed
 pub sendings-arrive : SendingsArrive
 unfolding SendingsArrive Passes judgeBytes afterBytes afterAll Passable receivingOf
-sendings-arrive p xs ys b c r l rb k rc h free =
+sendings-arrive p xs ys b c r l rb k rc h =
     let start = afterAll p xs in
     let now = afterAll p (xs ++ b ∷ ys) in
     let e = receivingOf l r in
+    let clashing = clash-arrived e (stateOf (counterpart l) now .passed) refl in
     let sent-passes : judge start r ≡ 0 = rw rb at (passes-split p xs (b ∷ ys) h .1 .0) in
     let allowed = judge-none start r (Sending l) k sent-passes .0 in
     let accounts : accountsOf now ≡ accountsOf start = rw (after-all-append p xs (b ∷ ys)) (accounts-stay start (b ∷ ys)) in
@@ -127,14 +129,19 @@ sendings-arrive p xs ys b c r l rb k rc h free =
     (last-passed (matches e) start r l (ap ledgerOf k)
     (matched-matches e r (record { sending = ap isSending k; number = refl; sender = refl; receiver = refl; amount = refl }))))) in
     let twice = counterpart-twice l in
-    let passes : judge now e ≡ 0 =
+    let passes : any (clashes e) (stateOf (counterpart l) now .passed) ≡ false → judge now e ≡ 0 =
+    λ free.
     none-judge now e (Receiving (counterpart l)) refl (
       record {
         sender-open = rw (twice, ap (λ (f : Ledger → ℕ). f l) accounts) (allowed .sender-open);
         receiver-open = rw (ap (λ (f : Ledger → ℕ). f (counterpart l)) accounts) (allowed .receiver-open);
-        signed = allowed .signed;
+        signed = refl;
         fresh = free;
       },
       rw twice there,
-    ) in
-    rest-passes p (xs ++ b ∷ ys) (c ∷ []) h (rw rc passes, tt)
+    ) in (
+      (λ g.
+          let j : judge now e ≡ 0 = rw rc at (passes-split p (xs ++ b ∷ ys) (c ∷ []) g .1 .0) in
+          sym clashing ∙ judge-none now e (Receiving (counterpart l)) refl j .0 .fresh),
+      (λ free. rest-passes p (xs ++ b ∷ ys) (c ∷ []) h (rw rc (passes (clashing ∙ free)), tt)),
+    )

@@ -3,11 +3,12 @@ use Prim.Native.Nat.{ℕ}
 use mathlib.Core.Path.{_≡_}
 use mathlib.Core.Bool.{true, false}
 use mathlib.Core.List.{List, [], _∷_, _++_}
+use mathlib.Core.Logic.{_↔_}
 use Rattle.ledgers.specs.Ledgers.{counterpart, ledgerOf}
 use Rattle.records.specs.Records.{reading}
+use Rattle.rules.specs.Arrivals.{receivingOf}
 use Rattle.rules.specs.Cases.{afterAll}
-use Rattle.rules.specs.Lists.{any}
-use Rattle.rules.specs.Rules.{Ledger, PairState, Passes, Read, Receiving, Record, Sending, clashes, isSending, judge, stateOf}
+use Rattle.rules.specs.Rules.{Ledger, PairState, Passes, Read, Receiving, Record, Sending, arrived, clashes, isSending, judge, stateOf}
 
 -- every beginning of a list that passes the rules passes them (D3.2, section 6.3: closed under prefixes)
 unfoldable pub ClosedUnderBeginnings : Type 0
@@ -40,23 +41,11 @@ unfoldable pub ReceivingsWereSent : Type 0
 ReceivingsWereSent =
     (p : PairState) (r : Record) (l : Ledger) → r .kind ≡ Receiving l → judge p r ≡ 0 → WasSent (stateOf (counterpart l) p .passed) r
 
--- the arrival of a sending on ledger l: the same record on the other ledger (D3.2, Definition 12: effect)
-unfoldable pub receivingOf : Ledger → Record → Record
-receivingOf l r =
-    record {
-      kind = Receiving (counterpart l);
-      sender = r .sender;
-      receiver = r .receiver;
-      number = r .number;
-      amount = r .amount;
-      verified = r .verified;
-    }
-
--- however much has passed since a sending, its arrival still passes unless a record of its ledger clashes with it (D3.2,
--- Definition 15, which has no such exception: there only the arrival itself may not have passed yet)
+-- however much has passed since a sending, its arrival passes exactly when no arrival with its number has passed on its ledger (D3.2,
+-- Definition 15: when the arrival itself has not; from a state that is accepted the one is the other, by ArrivedIsOwn)
 unfoldable pub SendingsArrive : Type 0
 SendingsArrive =
     (p : PairState) (xs ys : List (List ℕ)) (b c : List ℕ) (r : Record) (l : Ledger) → reading b ≡ Read r → r .kind ≡ Sending l
     → reading c ≡ Read (receivingOf l r) → Passes p (xs ++ b ∷ ys)
-    → any (clashes (receivingOf l r)) (stateOf (counterpart l) (afterAll p (xs ++ b ∷ ys)) .passed) ≡ false
-    → Passes p ((xs ++ b ∷ ys) ++ c ∷ [])
+    → (Passes p ((xs ++ b ∷ ys) ++ c ∷ [])
+    ↔ (arrived (r .number) (stateOf (counterpart l) (afterAll p (xs ++ b ∷ ys)) .passed) ≡ false))

@@ -1,5 +1,5 @@
--- The starred cases of document 01 as rows of one table, and rows of our own: accounts that are not open, the order of refusals,
--- matches that look near enough, openings, and states that refusal 3 has something against. Assumes nothing.
+-- The starred cases of document 01 as rows of one table, and rows of our own: accounts that are not open, the order of refusals, numbers
+-- by class, matches that look near enough, openings, and states that refusal 3 has something against. Assumes nothing.
 use Prim.Native.Nat.{ℕ, _-_, _^_}
 use mathlib.Core.Path.{_≡_}
 use mathlib.Core.Bool.{Bool, true, false, _&&_, not}
@@ -9,7 +9,7 @@ use lib.ListN.{set, replicate}
 use Rattle.ledgers.specs.Limits.{capacity}
 use Rattle.records.specs.Records.{encoding}
 use Rattle.rules.specs.HomeValidator.{HomeView, homeAccepts, homeOpened, homeOpeningRefusal, homeValidator}
-use Rattle.rules.specs.Lists.{all}
+use Rattle.rules.specs.Lists.{all, sameTruth}
 use Rattle.rules.specs.PairValidator.{PairView, pairAccepts, pairOpened, pairOpeningRefusal}
 use Rattle.rules.specs.Rules.{Far, Home, Kind, Local, PairState, Receiving, Record, Sending, afterBytes, inFlight, judgeBytes, opened}
 use Rattle.wire.specs.BigEndian.{every, same}
@@ -67,11 +67,6 @@ homeAllPass v (b ∷ bs) = eqb (homeValidator capacity .judge v b) 0 && homeAllP
 -- the figures of a state are those of the row
 unfoldable pub shows : PairState → List ℕ → List ℕ → ℕ → Bool
 shows p homes fars flying = every (same (p .home .balances) homes ∷ same (p .far .balances) fars ∷ eqb (inFlight p) flying ∷ [])
-
--- two tests have one outcome
-abbrev pub sameTruth : Bool → Bool → Bool
-sameTruth true t = t
-sameTruth false t = not t
 
 -- the rules give the row
 unfoldable pub holds : CaseRow → Bool
@@ -207,7 +202,7 @@ orderRows =
     ∷ refusalRow 0 (good (Local Home) 0 0 1 1 ∷ []) (good (Local Home) 0 2 1 101) 51
     ∷ refusalRow 0 (good (Sending Home) 0 0 1 1 ∷ []) (bad (Sending Home) 0 0 1 1) 23
     ∷ refusalRow 0 (good (Local Home) 0 0 1 1 ∷ []) (good (Local Home) 0 0 1 101) 24
-    ∷ refusalRow 0 (good (Local Far) 0 0 1 1 ∷ []) (good (Receiving Far) 0 0 1 1) 24
+    ∷ refusalRow 0 (good (Sending Home) 0 0 7 30 ∷ good (Receiving Far) 0 0 7 30 ∷ []) (good (Receiving Far) 0 0 7 31) 24
     ∷ homeRow 0 [] (good (Local Far) 0 0 1 0) 21
     ∷ homeRow 0 [] (good (Local Home) 0 2 1 0) 21
     ∷ homeRow 0 [] (good (Local Far) 2 2 1 1) 33
@@ -219,7 +214,37 @@ orderRows =
     ∷ homeRow 0 (good (Local Home) 0 0 1 1 ∷ []) (good (Receiving Home) 0 2 1 21) 51
     ∷ homeRow 0 (good (Local Home) 0 0 1 1 ∷ []) (bad (Local Home) 0 0 1 1) 23
     ∷ homeRow 0 (good (Local Home) 0 0 1 1 ∷ []) (good (Sending Home) 0 0 1 101) 24
-    ∷ homeRow 0 (good (Local Home) 0 0 1 1 ∷ []) (good (Receiving Home) 0 0 1 21) 24
+    ∷ homeRow 0 (good (Receiving Home) 0 0 1 1 ∷ []) (good (Receiving Home) 0 0 1 21) 24
+    ∷ []
+
+-- on each ledger arrivals are counted apart from locals and sendings: of each two kinds, in both orders, one number (document 02, U2)
+unfoldable pub classRows : List CaseRow
+classRows =
+    passRow 0 (good (Local Far) 0 0 7 5 ∷ good (Sending Home) 0 0 7 30 ∷ []) (good (Receiving Far) 0 0 7 30) (70 ∷ 50 ∷ []) (50 ∷ []) 0
+    ∷ passRow 0 (good (Sending Home) 0 0 7 30 ∷ good (Local Far) 0 0 7 5 ∷ []) (good (Receiving Far) 0 0 7 30) (70 ∷ 50 ∷ []) (50 ∷ []) 0
+    ∷ passRow 0 (good (Local Home) 0 0 7 5 ∷ good (Sending Far) 0 1 7 20 ∷ []) (good (Receiving Home) 0 1 7 20) (100 ∷ 70 ∷ []) (0 ∷ []) 0
+    ∷ passRow 0 (good (Sending Home) 0 0 7 30 ∷ good (Sending Far) 0 0 7 10 ∷ []) (good (Receiving Home) 0 0 7 10) (80 ∷ 50 ∷ []) (10 ∷ []) 30
+    ∷ passRow 0 (good (Sending Home) 0 0 7 30 ∷ good (Sending Far) 0 0 7 10 ∷ []) (good (Receiving Far) 0 0 7 30) (70 ∷ 50 ∷ []) (40 ∷ []) 10
+    ∷ passRow 0 (good (Sending Home) 0 0 7 30 ∷ good (Receiving Far) 0 0 7 30 ∷ []) (good (Sending Far) 0 0 7 10) (70 ∷ 50 ∷ []) (40 ∷ []) 10
+    ∷ passRow 0 (good (Sending Home) 0 0 7 30 ∷ good (Receiving Far) 0 0 7 30 ∷ []) (good (Local Far) 0 0 7 50) (70 ∷ 50 ∷ []) (50 ∷ []) 0
+    ∷ refusalRow 0 (good (Sending Home) 0 0 7 30 ∷ good (Receiving Far) 0 0 7 30 ∷ []) (good (Receiving Home) 0 0 7 30) 31
+    ∷ refusalRow 0 (good (Local Far) 0 0 7 5 ∷ []) (good (Receiving Far) 0 0 7 5) 31
+    ∷ refusalRow 0 (good (Local Home) 0 0 7 1 ∷ []) (good (Sending Home) 0 0 7 1) 24
+    ∷ refusalRow 0 (good (Sending Home) 0 0 7 1 ∷ []) (good (Local Home) 0 0 7 1) 24
+    ∷ refusalRow 0 (good (Sending Home) 0 0 7 1 ∷ []) (good (Sending Home) 1 0 7 1) 24
+    ∷ refusalRow 0 (good (Local Far) 0 0 7 1 ∷ []) (good (Sending Far) 0 0 7 1) 24
+    ∷ refusalRow 0 (good (Sending Far) 0 0 7 1 ∷ []) (good (Local Far) 0 0 7 1) 24
+    ∷ refusalRow 0 (good (Sending Far) 0 0 7 1 ∷ []) (good (Sending Far) 0 1 7 1) 24
+    ∷ refusalRow 0 (good (Sending Far) 0 0 7 1 ∷ good (Receiving Home) 0 0 7 1 ∷ []) (good (Receiving Home) 0 0 7 1) 24
+    ∷ refusalRow 0 (good (Sending Home) 0 0 7 1 ∷ good (Receiving Far) 0 0 7 1 ∷ good (Local Far) 0 0 7 1 ∷ []) (good (Receiving Far) 0 0 7 1) 24
+    ∷ homeRow 0 (good (Local Home) 0 0 7 1 ∷ []) (good (Receiving Home) 0 0 7 20) 0
+    ∷ homeRow 0 (good (Sending Home) 0 0 7 1 ∷ []) (good (Receiving Home) 0 0 7 21) 0
+    ∷ homeRow 0 (good (Receiving Home) 0 0 7 1 ∷ []) (good (Local Home) 0 0 7 101) 0
+    ∷ homeRow 0 (good (Receiving Home) 0 0 7 1 ∷ []) (good (Sending Home) 0 0 7 101) 0
+    ∷ homeRow 0 (good (Local Home) 0 0 7 1 ∷ []) (good (Sending Home) 0 0 7 1) 24
+    ∷ homeRow 0 (good (Sending Home) 0 0 7 1 ∷ []) (good (Local Home) 0 0 7 1) 24
+    ∷ homeRow 0 (good (Sending Home) 0 0 7 1 ∷ []) (good (Sending Home) 1 0 7 1) 24
+    ∷ homeRow 0 (good (Receiving Home) 0 0 7 1 ∷ []) (good (Receiving Home) 0 1 7 1) 24
     ∷ []
 
 -- arrivals that differ from the sending in one field, or find a local; number 0 is used like any other (Matches and sums)
@@ -300,6 +325,24 @@ stateRows =
     ∷ stateRow 2 (pairHolding (heldRecord (Local Home) 0 1 1 1 false ∷ []) [] 170) false
     ∷ stateRow 2 (pairHolding (heldRecord (Local Home) 0 1 1 1 true ∷ heldRecord (Local Home) 1 0 1 2 true ∷ []) [] 170) false
     ∷ stateRow 2 (pairHolding [] (heldRecord (Local Far) 0 0 1 1 true ∷ heldRecord (Local Far) 0 0 1 2 true ∷ []) 170) false
+    ∷ stateRow 2 (pairHolding (heldRecord (Local Home) 0 1 1 1 true ∷ heldRecord (Sending Home) 0 0 1 1 true ∷ []) [] 171) false
+    ∷ stateRow 2 (pairHolding (heldRecord (Sending Home) 0 0 1 1 true ∷ heldRecord (Sending Home) 0 0 1 1 true ∷ []) [] 172) false
+    ∷ stateRow 2
+    (pairHolding (heldRecord (Receiving Home) 0 0 8 5 true ∷ heldRecord (Receiving Home) 0 0 8 5 true ∷ [])
+    (heldRecord (Sending Far) 0 0 8 5 true ∷ []) 170)
+    false
+    ∷ stateRow 2
+    (pairHolding (heldRecord (Sending Home) 0 0 8 5 true ∷ [])
+    (heldRecord (Receiving Far) 0 0 8 5 true ∷ heldRecord (Receiving Far) 0 0 8 5 true ∷ []) 170)
+    false
+    ∷ stateRow 2
+    (pairHolding (heldRecord (Receiving Home) 0 0 8 5 true ∷ heldRecord (Sending Home) 0 0 8 30 true ∷ [])
+    (heldRecord (Sending Far) 0 0 8 5 true ∷ []) 200)
+    true
+    ∷ stateRow 2
+    (pairHolding (heldRecord (Sending Home) 0 0 8 5 true ∷ [])
+    (heldRecord (Local Far) 0 0 8 1 true ∷ heldRecord (Receiving Far) 0 0 8 5 true ∷ []) 170)
+    true
     ∷ stateRow 2 (pairHolding (heldRecord (Receiving Home) 0 0 8 5 true ∷ []) [] 170) false
     ∷ stateRow 2 (pairHolding [] (heldRecord (Receiving Far) 0 0 8 5 true ∷ []) 170) false
     ∷ stateRow 2 (pairHolding (heldRecord (Local Far) 0 0 1 1 true ∷ []) [] 170) false
@@ -322,6 +365,11 @@ stateRows =
     ∷ homeStateRow 1 (homeHolding (heldRecord (Receiving Home) 0 2 8 5 true ∷ []) 1 20 170) false
     ∷ homeStateRow 1 (homeHolding (heldRecord (Local Home) 0 1 1 1 false ∷ []) 1 20 170) false
     ∷ homeStateRow 2 (homeHolding (heldRecord (Local Home) 0 1 1 1 true ∷ heldRecord (Local Home) 1 0 1 2 true ∷ []) 1 20 170) false
+    ∷ homeStateRow 2 (homeHolding (heldRecord (Local Home) 0 1 1 1 true ∷ heldRecord (Sending Home) 0 0 1 2 true ∷ []) 1 20 170) false
+    ∷ homeStateRow 2 (homeHolding (heldRecord (Sending Home) 0 0 1 1 true ∷ heldRecord (Sending Home) 0 0 1 2 true ∷ []) 1 20 170) false
+    ∷ homeStateRow 2 (homeHolding (heldRecord (Receiving Home) 0 0 1 1 true ∷ heldRecord (Receiving Home) 0 0 1 2 true ∷ []) 1 20 170) false
+    ∷ homeStateRow 2 (homeHolding (heldRecord (Receiving Home) 0 0 1 1 true ∷ heldRecord (Sending Home) 0 0 1 2 true ∷ []) 1 20 170) true
+    ∷ homeStateRow 2 (homeHolding (heldRecord (Local Home) 0 1 1 1 true ∷ heldRecord (Receiving Home) 0 0 1 2 true ∷ []) 1 20 170) true
     ∷ homeStateRow 1 (homeHolding (heldRecord (Local Far) 0 0 1 1 true ∷ []) 1 20 170) false
     ∷ homeStateRow 1 (homeHolding [] 1 19 170) false
     ∷ homeStateRow 1 (homeHolding [] 1 21 170) false
@@ -335,4 +383,4 @@ CasesHold = all holds cases ≡ true
 
 -- and every row of our own
 unfoldable pub FurtherRowsHold : Type 0
-FurtherRowsHold = all holds (accountRows ++ (orderRows ++ (nearRows ++ (openingRows ++ stateRows)))) ≡ true
+FurtherRowsHold = all holds (accountRows ++ (orderRows ++ (classRows ++ (nearRows ++ (openingRows ++ stateRows))))) ≡ true

@@ -6,5 +6,6 @@ pub mod Calls
 pub mod PairValidator
 pub mod HomeValidator
 pub mod Accounts
+pub mod Arrivals
 pub mod Cases
 pub mod Beyond

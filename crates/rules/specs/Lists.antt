@@ -2,7 +2,7 @@
 --
 -- Of the language's library: `getD xs i 0` is the number at index i, or 0 past the end; `set xs i x` is the list with x at i.
 use Prim.Native.Nat.{ℕ, zero, suc, _+_, _-_}
-use mathlib.Core.Bool.{Bool, true, false, _&&_, _||_}
+use mathlib.Core.Bool.{Bool, true, false, not, _&&_, _||_}
 use mathlib.Core.List.{List, [], _∷_}
 use lib.ListN.{take, drop, getD, set}
 
@@ -29,6 +29,11 @@ module _ {A : Type 0} where
     none : Interleaving [] [] []
     left : {x : A} {xs ys zs : List A} → Interleaving xs ys zs → Interleaving (x ∷ xs) ys (x ∷ zs)
     right : {y : A} {xs ys zs : List A} → Interleaving xs ys zs → Interleaving xs (y ∷ ys) (y ∷ zs)
+
+-- two tests have one outcome
+abbrev pub sameTruth : Bool → Bool → Bool
+sameTruth true t = t
+sameTruth false t = not t
 
 -- the total of a list of numbers
 abbrev pub total : List ℕ → ℕ

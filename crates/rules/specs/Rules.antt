@@ -1,4 +1,4 @@
--- The rules of document 01 (Rules of the pair book) as document 02 alters them (U1), over balances and passed records, with no table
+-- The rules of document 01 (Rules of the pair book) as document 02 alters them (U1, U2), over balances and passed records, with no table
 -- limit. A comment in brackets names the sentence of document 01 that a definition renders, and the line of PRIViLEDGE D3.2's
 -- Algorithm 2 that it comes from. Where the two differ document 01 decides: it counts numbers by ledger and tests accounts. Assumes
 -- nothing.
@@ -11,7 +11,7 @@ use lib.ListN.{length, getD}
 use Rattle.answers.specs.Answers.{refuse}
 use Rattle.ledgers.specs.Ledgers.{counterpart, ledgerOf, receiverLedger, senderLedger}
 use Rattle.records.specs.Records.{reading, readingRefusal}
-use Rattle.rules.specs.Lists.{any, lowered, raised, sum}
+use Rattle.rules.specs.Lists.{any, lowered, raised, sameTruth, sum}
 use Rattle.wire.specs.BigEndian.{every}
 pub use Rattle.ledgers.specs.declared.Ledger.{Ledger}
 pub use Rattle.ledgers.specs.declared.Ledger.the-variants.{Far, Home}
@@ -71,9 +71,10 @@ isReceiving (Receiving l) = true
 
 -- ## The refusals, in order
 
--- two records of one ledger of which only one may pass: they have one number (Rules: number)
+-- two records of one ledger of which only one may pass: they have one number, and both are arrivals or neither is; a ledger counts the
+-- numbers of arrivals apart from those of locals and sendings (Rules: number; document 02, U2)
 unfoldable pub clashes : Record → Record → Bool
-clashes r x = eqb (r .number) (x .number)
+clashes r x = sameTruth (isReceiving (r .kind)) (isReceiving (x .kind)) && eqb (r .number) (x .number)
 
 -- what a local or sending takes from its sender
 abbrev pub debit : Record → ℕ

@@ -4,6 +4,7 @@ pub mod Limits
 pub mod Holding
 pub mod Records
 pub mod Numbers
+pub mod Arriving
 pub mod Walking
 pub mod Crossings
 pub mod Growing

@@ -7,11 +7,12 @@ use Rattle.places.specs.OverPlaces.{anyAt, apartAt, listAt}
 use Rattle.records.specs.Records.{recordIn}
 use Rattle.rules.specs.Lists.{any}
 use Rattle.rules.specs.PairValidator.{unshared}
-use Rattle.rules.specs.Rules.{Record, clashes}
-use Rattle.table.specs.Table.{EmptyIndex, IndexOf, numberAt, numberedAt, recordAt, recordsFrom}
+use Rattle.rules.proofs.Clashes.{eqb-turned, same-turned}
+use Rattle.rules.specs.Rules.{Record, clashes, isReceiving}
+use Rattle.table.specs.Table.{EmptyIndex, IndexOf, arrivalIn, headAt, numberAt, recordAt, recordsFrom, sharedAt, usedAt}
 use Rattle.wire.specs.BigEndian.{every}
 
--- ## Records with one number
+-- ## Records that share a number
 
 -- two tests
 every-two : (a b : Bool) → every (a ∷ b ∷ []) ≡ (a && b)
@@ -21,18 +22,26 @@ every-two true false = refl
 every-two false b = refl
 
 module _ (s : List ℕ) (from : ℕ) where
-  -- a record clashes with those at places where its number is
-  clash-places : (r : Record) (i n : ℕ) → any (clashes r) (listAt (recordAt s from) i n) ≡ anyAt (numberedAt (r .number) s from) i n
+  -- a record clashes with those at places where its number is used in its class
+  clash-places : (r : Record) (i n : ℕ)
+      → any (clashes r) (listAt (recordAt s from) i n) ≡ anyAt (usedAt (isReceiving (r .kind)) (r .number) s from) i n
   unfolding clashes recordIn
   clash-places r i n = any-list (recordAt s from) (clashes r) i n
 
   -- with those of a table
-  pub clash-records : (r : Record) (n : ℕ) → any (clashes r) (recordsFrom s from n) ≡ anyAt (numberedAt (r .number) s from) 0 n
+  pub clash-records : (r : Record) (n : ℕ)
+      → any (clashes r) (recordsFrom s from n) ≡ anyAt (usedAt (isReceiving (r .kind)) (r .number) s from) 0 n
   unfolding recordsFrom
   clash-records r n = clash-places r 0 n
 
+  -- two places share a number either way round
+  pub shared-turned : (j k : ℕ) → sharedAt s from j k ≡ sharedAt s from k j
+  shared-turned j k =
+      ap₂ _&&_ (same-turned (arrivalIn (headAt s from j)) (arrivalIn (headAt s from k)))
+      (eqb-turned (numberAt s from j) (numberAt s from k))
+
   -- numbers that are apart are of records that share none
-  apart-places : (i n : ℕ) → apartAt (numberAt s from) i n ≡ unshared (listAt (recordAt s from) i n)
+  apart-places : (i n : ℕ) → apartAt (sharedAt s from) i n ≡ unshared (listAt (recordAt s from) i n)
   unfolding listAt apartAt unshared recordIn
   apart-places i zero = refl
   apart-places i (suc n) =
@@ -41,7 +50,7 @@ module _ (s : List ℕ) (from : ℕ) where
       (unshared (listAt (recordAt s from) (suc i) n)))
 
   -- so with those of a table
-  pub apart-records : (n : ℕ) → apartAt (numberAt s from) 0 n ≡ unshared (recordsFrom s from n)
+  pub apart-records : (n : ℕ) → apartAt (sharedAt s from) 0 n ≡ unshared (recordsFrom s from n)
   unfolding recordsFrom
   apart-records n = apart-places 0 n
 

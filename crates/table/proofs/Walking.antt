@@ -1,14 +1,16 @@
 -- Walks down the chain of a number of a table, for a test that only places with the number meet. Assumes nothing.
-use Rattle.wire.proofs.Prelude.{Bool, List, _%_, _+_, _-_, _<_, _≡_, eqb-true, false, getD, true, ℕ}
+use Rattle.wire.proofs.Prelude.{Bool, List, _%_, _+_, _-_, _<_, _≡_, eqb, eqb-true, false, getD, true, ℕ}
 use Rattle.places.proofs.Walks.{WalkOver, over-end, over-first, over-found, over-lower, over-next}
 use Rattle.places.specs.NumberIndex.{chainCount}
 use Rattle.places.specs.OverPlaces.{anyAt}
-use Rattle.table.specs.Table.{IndexOf, numberAt, numberedAt, sentAt}
-use Rattle.wire.proofs.Lists.{every-first}
+use Rattle.rules.specs.Lists.{sameTruth}
+use Rattle.table.specs.Table.{IndexOf, arrivalIn, headAt, numberAt, sentAt, usedAt}
+use Rattle.wire.proofs.Lists.{and-both, every-first}
 
--- a place with a number has the number
-pub number-found : (x : ℕ) (s : List ℕ) (from j : ℕ) → numberedAt x s from j ≡ true → x ≡ numberAt s from j
-number-found x s from j h = eqb-true x (numberAt s from j) h
+-- a place with a number in a class has the number
+pub used-numbered : (arrival : Bool) (x : ℕ) (s : List ℕ) (from j : ℕ) → usedAt arrival x s from j ≡ true → x ≡ numberAt s from j
+used-numbered arrival x s from j h =
+    eqb-true x (numberAt s from j) (and-both (sameTruth arrival (arrivalIn (headAt s from j))) (eqb x (numberAt s from j)) h .1)
 
 -- and so has a place with a number, a head and an amount
 pub sent-numbered : (x head amount : ℕ) (s : List ℕ) (from j : ℕ) → sentAt x head amount s from j ≡ true → x ≡ numberAt s from j

@@ -6,6 +6,7 @@ use mathlib.Core.List.{List, [], _∷_}
 use mathlib.Core.Path.{_≡_}
 use lib.Dec.{eqb}
 use lib.ListN.{drop, getD, set, take}
+use Rattle.ledgers.specs.Ledgers.{kindAt, ledgerAt}
 use Rattle.ledgers.specs.Limits.{capacity}
 use Rattle.ledgers.specs.declared.Ledger.{Ledger}
 use Rattle.ledgers.specs.declared.Ledger.the-variants.{Far, Home}
@@ -19,8 +20,9 @@ use Rattle.records.specs.declared.Reading.{Reading}
 use Rattle.records.specs.declared.Reading.the-variants.{Read, Unreadable}
 use Rattle.records.specs.declared.Record.{Record}
 use Rattle.records.specs.declared.Words.{Words}
+use Rattle.rules.specs.Lists.{sameTruth}
 use Rattle.rules.specs.PairValidator.{heldAllowed, standsUnder}
-use Rattle.rules.specs.Rules.{LedgerState}
+use Rattle.rules.specs.Rules.{LedgerState, isReceiving}
 use Rattle.wire.specs.BigEndian.{every}
 
 -- ## The records
@@ -98,9 +100,21 @@ receiverLimits own other = 0 ∷ own ∷ other ∷ own ∷ []
 abbrev pub numberAt : List ℕ → ℕ → ℕ → ℕ
 numberAt s from i = getD s (from + 4 * i + 1) 0
 
--- the record at a place has number x
-abbrev pub numberedAt : ℕ → List ℕ → ℕ → ℕ → Bool
-numberedAt x s from i = eqb x (numberAt s from i)
+-- its head
+abbrev pub headAt : List ℕ → ℕ → ℕ → ℕ
+headAt s from i = getD s (from + 4 * i) 0
+
+-- the record with a head is an arrival
+abbrev pub arrivalIn : ℕ → Bool
+arrivalIn head = isReceiving (kindAt (within 0 1 head) (ledgerAt (within 1 1 head)))
+
+-- the record at a place has number x, and is an arrival or not as the test says
+abbrev pub usedAt : Bool → ℕ → List ℕ → ℕ → ℕ → Bool
+usedAt arrival x s from i = sameTruth arrival (arrivalIn (headAt s from i)) && eqb x (numberAt s from i)
+
+-- the records at two places have one number, and both are arrivals or neither is
+abbrev pub sharedAt : List ℕ → ℕ → ℕ → ℕ → Bool
+sharedAt s from i = usedAt (arrivalIn (headAt s from i)) (numberAt s from i) s from
 
 -- the elements of the index of a ledger's numbers: the heads of the chains, then the places
 abbrev pub indexLength : ℕ
@@ -122,11 +136,7 @@ withNumber index base n x =
 
 -- ## For inner functions: arrivals and their sendings
 
--- the head of the record at a place
-abbrev pub headAt : List ℕ → ℕ → ℕ → ℕ
-headAt s from i = getD s (from + 4 * i) 0
-
--- its amount
+-- the amount of the record at a place
 abbrev pub amountAt : List ℕ → ℕ → ℕ → ℕ
 amountAt s from i = getD s (from + 4 * i + 2) 0
 

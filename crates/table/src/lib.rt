@@ -11,8 +11,8 @@ ghost use Rattle.places.specs.OverPlaces.{allAt, anyAt, apartAt};
 ghost use Rattle.records.specs.Records.{readingWords};
 ghost use Rattle.rules.specs.Lists.{lowered, raised};
 ghost use Rattle.table.specs.Table.{accountsBy, headBases, mayHold, mayHoldAt, receiverLimits, senderLimits, wordsAt};
-ghost use Rattle.table.specs.Table.{EmptyIndex, FlowsAt, IndexOf, backedAt, backedBy, flowBy, numberAt, numberedAt};
-ghost use Rattle.table.specs.Table.{sendingHead, sentAt, stored, withNumber, withWords};
+ghost use Rattle.table.specs.Table.{EmptyIndex, FlowsAt, IndexOf, arrivalIn, backedAt, backedBy, flowBy, sendingHead, sentAt};
+ghost use Rattle.table.specs.Table.{sharedAt, stored, usedAt, withNumber, withWords};
 use ledgers::Ledger;
 use places::CHAINS;
 use places::Flows;
@@ -127,14 +127,37 @@ pub const INDEX: usize = CHAINS + Ledger::CAPACITY;
 // The steps down a chain after which the places are scanned instead.
 const STEPS: usize = 3;
 
-// Whether one of n records has the number, by a scan.
-fn scanned(words: &[u64], from: usize, n: usize, x: u64) -> bool
+// Whether the record with a head is an arrival.
+fn is_arrival(head: u64) -> bool
+    ensures { λ b. ⌜ b ≡ arrivalIn head ⌝ }
+{
+    let kind = head / FIRST_BYTE % 256;
+    if kind == 1 {
+        return false;
+    }
+    kind != 2
+}
+
+// Whether the record at a place has the number, and is an arrival or not as asked: the numbers of arrivals are counted apart.
+fn used_at(words: &[u64], from: usize, i: usize, arrival: bool, x: u64) -> bool
+    requires { ⌜ from + 4 * i + 4 ≤ length (now words) ⌝ }
+    ensures { λ b. ⌜ b ≡ usedAt arrival x (now (words .entry)) from i ⌝ }
+{
+    let at = from + 4 * i;
+    if x != words[at + 1] {
+        return false;
+    }
+    arrival == is_arrival(words[at])
+}
+
+// Whether one of n records has the number in its class, by a scan.
+fn scanned(words: &[u64], from: usize, n: usize, arrival: bool, x: u64) -> bool
     requires { ⌜ from + 4 * n ≤ length (now words) ⌝ }
-    ensures { λ b. ⌜ b ≡ anyAt (numberedAt x (now (words .entry)) from) 0 n ⌝ }
+    ensures { λ b. ⌜ b ≡ anyAt (usedAt arrival x (now (words .entry)) from) 0 n ⌝ }
 {
     let mut i = 0;
     while i < n {
-        if x == words[from + 4 * i + 1] {
+        if used_at(words, from, i, arrival, x) {
             return true;
         }
         i += 1;
@@ -142,28 +165,29 @@ fn scanned(words: &[u64], from: usize, n: usize, x: u64) -> bool
     false
 }
 
-// Whether one of n records has the number.
+// Whether one of n records has the number, among arrivals or among locals and sendings.
 pub fn is_used<'a>(
     words: &'a [u64],
     index: &'a [u16],
     from: usize,
     base: usize,
     n: usize,
+    arrival: bool,
     x: u64,
 ) -> bool
     requires { ⌜ (from + 4 * n ≤ length (now words)) × (base + chainCount + n ≤ length (now index))
         × IndexOf (now words) from (now index) base n ⌝ }
-    ensures { λ b. ⌜ b ≡ anyAt (numberedAt x (now (words .entry)) from) 0 n ⌝ }
+    ensures { λ b. ⌜ b ≡ anyAt (usedAt arrival x (now (words .entry)) from) 0 n ⌝ }
 {
     let mut at = as_index(index[base + low_bits(x)]);
     let mut steps = 0;
     while 0 < at {
         let j = at - 1;
-        if x == words[from + 4 * j + 1] {
+        if used_at(words, from, j, arrival, x) {
             return true;
         }
         if STEPS <= steps {
-            return scanned(words, from, n, x);
+            return scanned(words, from, n, arrival, x);
         }
         at = as_index(index[base + CHAINS + j]);
         steps += 1;
@@ -181,18 +205,20 @@ pub fn add_number(index: &mut [u16], base: usize, n: usize, x: u64)
     index[h] = next_place(n);
 }
 
-// Whether none of n records has the number; where so, it joins their index as that of the next place, whose element is still zero.
+// Whether none of n records has the number in its class; where so, it joins their index as that of the next place, whose element is still
+// zero.
 fn add_if_unused<'a, 'b>(
     words: &'a [u64],
     index: &'b mut [u16],
     from: usize,
     base: usize,
     n: usize,
+    arrival: bool,
     x: u64,
 ) -> bool
     requires { ⌜ (from + 4 * n ≤ length (now words)) × (base + chainCount + n < length (now index)) × (n < capacity)
         × IndexOf (now words) from (now index) base n × (getD (now index) (base + chainCount + n) 0 ≡ 0) ⌝ }
-    ensures answers { λ b. ⌜ b ≡ not (anyAt (numberedAt x (now (words .entry)) from) 0 n) ⌝ }
+    ensures answers { λ b. ⌜ b ≡ not (anyAt (usedAt arrival x (now (words .entry)) from) 0 n) ⌝ }
     ensures leaves { λ b. ⌜ now (index .exit) ≡ cond b (withNumber (now (index .entry)) base n x) (now (index .entry)) ⌝ }
 {
     let h = base + low_bits(x);
@@ -200,14 +226,14 @@ fn add_if_unused<'a, 'b>(
         index[h] = next_place(n); // the first of its chain
         return true;
     }
-    if is_used(words, index, from, base, n, x) {
+    if is_used(words, index, from, base, n, arrival, x) {
         return false;
     }
     add_number(index, base, n, x);
     true
 }
 
-// Whether a ledger may hold each of n records and no two of them share a number; where so, their index is made in place of an empty one.
+// Whether a ledger may hold each of n records and no two of a class share a number; where so, their index is made in place of an empty one.
 pub fn hold_indexed<'a, 'b>(
     words: &'a [u64],
     index: &'b mut [u16],
@@ -221,7 +247,7 @@ pub fn hold_indexed<'a, 'b>(
     requires { ⌜ (from + 4 * n ≤ length (now words)) × (base + chainCount + n ≤ length (now index)) × (n ≤ capacity)
         × EmptyIndex (now index) base × (l ≤ 1) × (own ≤ accountLimit) × (other ≤ accountLimit) ⌝ }
     ensures holds { λ b. ⌜ b ≡ (allAt (mayHoldAt (now (words .entry)) from (ledgerAt l) (accountsBy (ledgerAt l) own other)) 0 n
-        && apartAt (numberAt (now (words .entry)) from) 0 n) ⌝ }
+        && apartAt (sharedAt (now (words .entry)) from) 0 n) ⌝ }
     ensures indexed { λ b. ⌜ (b ≡ true → IndexOf (now (words .entry)) from (now (index .exit)) base n) ⌝ }
     ensures others { λ b. ⌜ Kept base (base + chainCount + n) (now (index .entry)) (now (index .exit)) ⌝ }
 {
@@ -234,7 +260,7 @@ pub fn hold_indexed<'a, 'b>(
         if !may_hold(&bases, &senders, &receivers, l, own, other, w) {
             return false;
         }
-        if !add_if_unused(words, index, from, base, i, w.number) {
+        if !add_if_unused(words, index, from, base, i, is_arrival(w.head), w.number) {
             return false;
         }
         i += 1;

@@ -1,8 +1,8 @@
 -- `table::add_if_unused` meets its contract. Assumes nothing.
 use Rattle.wire.proofs.Prelude.{_∙_, ap, needs, not, refl, sym}
 use Rattle.table.proofs.Growing.{grown-first}
-use Rattle.table.proofs.Walking.{number-found, walk-end, walk-first}
-use Rattle.table.specs.Table.{numberedAt}
+use Rattle.table.proofs.Walking.{used-numbered, walk-end, walk-first}
+use Rattle.table.specs.Table.{usedAt}
 use Rattle.table.proofs.add_if_unused.Statement.{statement}
 use Rattle.table.proofs.add_if_unused.Tie as tie
 
@@ -15,9 +15,10 @@ returns c =
     let s = a .words .now in
     let i = a .index .now in
     let z = sym (c .before .if1 .taken) in
-    let has = number-found (a .x) s (a .from) in
-    let w = walk-first s (a .from) i (a .base) (a .n) (o .pre .3) (numberedAt (a .x) s (a .from)) (a .x) has 0 (low .result) (low .ensures) z in (
-      sym (ap not (walk-end s (a .from) i (a .base) (a .n) (o .pre .3) (numberedAt (a .x) s (a .from)) (a .x) has 0 w refl)),
+    let has = used-numbered (a .arrival) (a .x) s (a .from) in
+    let test = usedAt (a .arrival) (a .x) s (a .from) in
+    let w = walk-first s (a .from) i (a .base) (a .n) (o .pre .3) test (a .x) has 0 (low .result) (low .ensures) z in (
+      sym (ap not (walk-end s (a .from) i (a .base) (a .n) (o .pre .3) test (a .x) has 0 w refl)),
       rw (c .next-place .ensures, low .ensures) (grown-first i (a .base) (a .n) (a .x) (rw (low .ensures) at (sym z)) (o .pre .4)),
     )
 

@@ -1,7 +1,8 @@
 -- `table::hold_indexed` meets its contract. Assumes nothing.
-use Rattle.wire.proofs.Prelude.{Bool, _*_, _+_, _-_, _<_, _∙_, _≡_, _≤_, ap, arith, cond, false, getD, length, needs, not-false, not-true, refl, sym, ℕ}
+use Rattle.wire.proofs.Prelude.{Bool, List, _*_, _+_, _-_, _<_, _∙_, _≡_, _≤_, ap, ap₂, arith, cond, false, getD, length, needs}
+use Rattle.wire.proofs.Prelude.{not-false, not-true, refl, sym, ℕ}
 use Rattle.ledgers.specs.Ledgers.{ledgerAt}
-use Rattle.places.proofs.Apart.{Apart, apart-every, apart-more, value-fresh, value-twice}
+use Rattle.places.proofs.Apart.{Apart, apart-every, apart-more, place-fresh, place-twice}
 use Rattle.places.proofs.NumberIndex.{kept-twice}
 use Rattle.places.proofs.OverPlaces.{all-end, all-here, all-on}
 use Rattle.places.specs.NumberIndex.{Kept, chainCount}
@@ -10,8 +11,8 @@ use Rattle.records.specs.Records.{readingWords}
 use Rattle.records.specs.declared.Words.{Words}
 use Rattle.rules.proofs.Lists.{never-both-tests}
 use Rattle.table.proofs.Growing.{grown-else, grown-kept, index-grown}
-use Rattle.table.proofs.Numbers.{index-empty}
-use Rattle.table.specs.Table.{IndexOf, accountsBy, mayHold, mayHoldAt, numberAt, numberedAt, withNumber}
+use Rattle.table.proofs.Numbers.{index-empty, shared-turned}
+use Rattle.table.specs.Table.{IndexOf, accountsBy, arrivalIn, mayHold, mayHoldAt, numberAt, sharedAt, usedAt, withNumber, wordsAt}
 use Rattle.wire.proofs.Lists.{and-false}
 use Rattle.table.proofs.hold_indexed.Statement.{statement}
 use Rattle.table.proofs.hold_indexed.Tie as tie
@@ -20,6 +21,14 @@ use Rattle.table.proofs.hold_indexed.Tie as tie
 abbrev holding : ℕ → ℕ → ℕ → Words → Bool
 holding l own other w = mayHold (ledgerAt l) (accountsBy (ledgerAt l) own other) (readingWords w)
 
+-- a record before place i shares its number where its number is used in its class
+shared-any : (s : List ℕ) (from i : ℕ) (w : Words) {arrival : Bool} → w ≡ wordsAt s from i → arrival ≡ arrivalIn (w .head)
+    → anyAt (sharedAt s from i) 0 i ≡ anyAt (usedAt arrival (w .number) s from) 0 i
+shared-any s from i w e a =
+    sym
+    (ap₂ (λ (t : Bool) (x : ℕ). anyAt (usedAt t x s from) 0 i) (a ∙ ap (λ (y : Words). arrivalIn (y .head)) e)
+    (ap (λ (y : Words). y .number) e))
+
 abbrev Inv-loop : tie.InvT-loop
 Inv-loop words index₀ from base n l own other bases senders receivers i₀ index i =
     (i ≤ n)
@@ -27,7 +36,7 @@ Inv-loop words index₀ from base n l own other bases senders receivers i₀ ind
     (accountsBy (ledgerAt l) own other)) i (n - i))
     × Kept base (base + chainCount + n) index₀ index
     × IndexOf words from index base i
-    × Apart (numberAt words from) i
+    × Apart (sharedAt words from) i
     × ((k : ℕ) → i ≤ k → k < n → getD index (base + chainCount + k) 0 ≡ 0)
 
 abbrev μ-loop : tie.MeasureT-loop
@@ -88,7 +97,7 @@ returns c =
 
 add-if-unused-requires : tie.Need-add-if-unused-requires Inv-loop μ-loop
 add-if-unused-requires c κs =
-    let w = c .before .before .before .before .before .before in
+    let w = c .before .before .before .before .before .before .before in
     let t = w .before .loop-test .taken in
     let i = w .before .before in
     let o = i .before .before .before .before .before .before in (
@@ -101,28 +110,28 @@ add-if-unused-requires c κs =
 
 -- the index stays where the number is used
 stays : (c : tie.Then2 Inv-loop μ-loop) → let u = c .before .before .before in
-    let i = u .before .before .before .before .before .before .before .before .before in u .add-if-unused .last .1 .0 ≡ i .loop .index
+    let i = u .before .before .before .before .before .before .before .before .before .before in
+    u .add-if-unused .last .1 .0 ≡ i .loop .index
 stays c =
     let u = c .before .before .before in
     rw (not-true (u .add-if-unused .result) (c .if2 .taken)) at (u .add-if-unused .ensures .1)
 
 same-length-2 : tie.Need-same-length-2 Inv-loop μ-loop
 same-length-2 c =
-    let i = c .before .before .before .before .before .before .before .before .before .before .before .before in
+    let i = c .before .before .before .before .before .before .before .before .before .before .before .before .before in
     ap length (stays c) ∙ i .loop .inv .2 .long
 
 returns-2 : tie.Need-returns-2 Inv-loop μ-loop
 returns-2 c =
     let u = c .before .before .before in
-    let w = u .before .before .before .before .before .before .before in
+    let w = u .before .before .before .before .before .before .before .before in
     let i = w .before .before in
     let o = i .before .before .before .before .before .before in
     let s = o .args .words .now in
-    let x : w .words-at .result .number ≡ numberAt s (o .args .from) (i .loop .i) = ap (λ (y : Words). y .number) (w .words-at
-    .ensures) in
+    let from = o .args .from in
     let used = not-false _ (sym (u .add-if-unused .ensures .0) ∙ not-true _ (c .if2 .taken)) in
-    let f = sym (ap (λ (y : ℕ). anyAt (numberedAt y s (o .args .from)) 0 (i .loop .i)) x) ∙ used in
-    let z = value-twice (numberAt s (o .args .from)) (i .loop .i) (o .args .n) (w .before .loop-test .taken) f in (
+    let f = shared-any s from (i .loop .i) (w .words-at .result) (w .words-at .ensures) (u .before .is-arrival .ensures) ∙ used in
+    let z = place-twice (sharedAt s from) (shared-turned s from) (i .loop .i) (o .args .n) (w .before .loop-test .taken) f in (
       rw z (sym (and-false (allAt (mayHoldAt s (o .args .from) (ledgerAt (o .args .l)) (accountsBy (ledgerAt (o .args .l)) (o .args .own)
           (o .args .other))) 0 (o .args .n)))),
       (λ h. absurd (never-both-tests (sym h)), rw (stays c) (i .loop .inv .2)),
@@ -131,7 +140,7 @@ returns-2 c =
 loop-again : tie.Need-loop-again Inv-loop μ-loop
 loop-again c =
     let u = c .before .before .before in
-    let q = u .before .before in
+    let q = u .before .before .before in
     let j = q .before in
     let w = j .before .before .before .before in
     let t = w .before .loop-test .taken in
@@ -144,7 +153,9 @@ loop-again c =
     let e = sym (ap (λ (y : Words). holding (o .args .l) (o .args .own) (o .args .other) y) (w .words-at .ensures)) ∙ sym (j .may-hold
     .ensures) ∙ not-false _ (q .if1 .left) in
     let r = not-false _ (c .if2 .left) in
-    let unused : anyAt (numberedAt number s f) 0 (i .loop .i) ≡ false = not-true _ (sym (u .add-if-unused .ensures .0) ∙ r) in
+    let unused : anyAt (usedAt (u .before .is-arrival .result) number s f) 0 (i .loop .i) ≡ false =
+    not-true _ (sym (u .add-if-unused .ensures .0) ∙ r) in
+    let fresh = shared-any s f (i .loop .i) (w .words-at .result) (w .words-at .ensures) (u .before .is-arrival .ensures) ∙ unused in
     let g =
     u .add-if-unused .ensures .1
     ∙ ap (λ (b : Bool). cond b (withNumber (i .loop .index) (o .args .base) (i .loop .i) number) (i .loop .index)) r in (
@@ -158,8 +169,7 @@ loop-again c =
         i .loop
             .inv .2 .long,
       )) (λ h p. refl) x),
-      apart-more (numberAt s f) (i .loop .i) (i .loop .inv .4) (value-fresh (numberAt s f) (i .loop .i) (sym (ap (λ (y : ℕ).
-          anyAt (numberedAt y s f) 0 (i .loop .i)) x) ∙ unused)),
+      apart-more (sharedAt s f) (i .loop .i) (i .loop .inv .4) (place-fresh (sharedAt s f) (shared-turned s f) (i .loop .i) fresh),
       λ k p l. rw g (grown-else (i .loop .index) (o .args .base) (i .loop .i) number k (λ z. omega (arith, z, p)) ∙ i .loop .inv .5 k (omega
           (arith, p)) l),
     )
@@ -173,10 +183,10 @@ returns-3 c =
     let o = i .before .before .before .before .before .before in
     let z : i .loop .i ≡ o .args .n = omega (arith, i .loop .inv .0, c .loop-test .left) in
     let a = i .loop .inv .1 ∙ all-end _ (i .loop .i) (o .args .n) (omega (arith, c .loop-test .left)) in
-    let b = apart-every (numberAt (o .args .words .now) (o .args .from)) (o .args .n) (rw z at (i .loop .inv .4)) in
+    let b = apart-every (sharedAt (o .args .words .now) (o .args .from)) (o .args .n) (rw z at (i .loop .inv .4)) in
     (rw (a, b), (λ h. rw z at (i .loop .inv .3), i .loop .inv .2))
 
 pub hold-indexed-spec : {M : Type 1} → statement M
 hold-indexed-spec = tie.close (tie.spec Inv-loop μ-loop (λ c κs. search needs) (λ c κs. search needs) (λ c κs. search needs) loop-holds
-    words-at-requires may-hold-requires same-length returns add-if-unused-requires same-length-2 returns-2 (λ c. search needs)
+    words-at-requires may-hold-requires same-length returns (λ c κs. search needs) add-if-unused-requires same-length-2 returns-2 (λ c. search needs)
     (λ c. search needs) loop-again same-length-3 returns-3)
