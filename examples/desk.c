@@ -232,7 +232,11 @@ static void serve_customers(const char *path, moatbetony_home_t *state)
     serve(path, state, "a payment of our account to itself", wire(LOCAL, HOME, OURS, OURS, 5, 30), 32, 1);
     serve(path, state, "an arrival of 21, above the far pool of 20", wire(ARRIVAL, HOME, 0, OURS, 6, 21), 32, 1);
     serve(path, state, "a sending of 30", wire(SENDING, HOME, OURS, 0, 7, 30), 32, 1);
-    serve(path, state, "an arrival of 50, now in the far pool", wire(ARRIVAL, HOME, 0, OURS, 6, 50), 32, 1);
+    /* arrivals' numbers are counted apart: the number of a payment does not stop one, that of an arrival does */
+    serve(path, state, "an arrival of 50, now in the far pool, under the first payment's number", wire(ARRIVAL, HOME, 0, OURS, 1, 50),
+        32, 1);
+    serve(path, state, "the same arrival again", wire(ARRIVAL, HOME, 0, OURS, 1, 50), 32, 1);
+    serve(path, state, "a sending under that number", wire(SENDING, HOME, OURS, 0, 1, 30), 32, 1);
     serve(path, state, "an arrival of 1 more", wire(ARRIVAL, HOME, 0, OURS, 8, 1), 32, 1);
 
     memcpy(list, payment(9, 10), 32);

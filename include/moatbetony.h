@@ -1,5 +1,5 @@
 /*
- * Moatbetony 0.4.0: a proved checker of two linked ledgers that trade one credit.
+ * Moatbetony 0.5.0: a proved checker of two linked ledgers that trade one credit.
  *
  * A home ledger, and a far ledger run by people nobody here has met, hand in records of 32 bytes. The pair validator (pair book)
  * sees the records of both in one order; the home validator (guard) sees those of home alone. Every call answers passed, or one
@@ -85,9 +85,9 @@ extern "C" {
 /* ## Constants */
 
 #define MOATBETONY_VERSION_MAJOR 0
-#define MOATBETONY_VERSION_MINOR 4
+#define MOATBETONY_VERSION_MINOR 5
 #define MOATBETONY_VERSION_PATCH 0
-#define MOATBETONY_VERSION_TEXT "0.4.0"
+#define MOATBETONY_VERSION_TEXT "0.5.0"
 /* This header's version, as moatbetony_version gives the library's: major * 10,000 + minor * 100 + patch. */
 #define MOATBETONY_VERSION (MOATBETONY_VERSION_MAJOR * 10000 + MOATBETONY_VERSION_MINOR * 100 + MOATBETONY_VERSION_PATCH)
 /* The layout of the two states. It is stored with a state, and a state is taken up only under its own. */
@@ -154,7 +154,7 @@ enum moatbetony_refusal {
     MOATBETONY_REFUSED_RECORD_FORM = 21,
     MOATBETONY_REFUSED_ACCOUNT = 22, /* the sender's account; of a balance the account asked for */
     MOATBETONY_REFUSED_VERDICT = 23,
-    MOATBETONY_REFUSED_NUMBER_USED = 24,
+    MOATBETONY_REFUSED_NUMBER_USED = 24, /* by an arrival, of an arrival; by a local or sending, of these */
     MOATBETONY_REFUSED_BALANCE = 25,
     /* by the far ledger */
     MOATBETONY_REFUSED_NO_SENDING = 31,
@@ -298,8 +298,8 @@ typedef struct moatbetony_digest {
 /* ## Version */
 
 /* The library's version: major * 10,000 + minor * 100 + patch. Equal to MOATBETONY_VERSION if library and header belong together:
-   compare them once, before the first call. A library older than 0.4.0 gives 22 for a receiver's account too, one older than 0.3.0 has
-   other states, and one older than 0.2.0 fills no `passed` in. */
+   compare them once, before the first call. A library older than 0.5.0 counts the numbers of arrivals with all others (24), one older
+   than 0.4.0 gives 22 for a receiver's account too, one older than 0.3.0 has other states, and one older than 0.2.0 fills no `passed` in. */
 uint32_t moatbetony_version(void);
 
 /* The library's layout of the two states. Store it with a state, and take a state up only if it is the same. */
@@ -307,7 +307,9 @@ uint32_t moatbetony_state_version(void);
 
 /* ## The pair validator
    Refusals of a record, in order: 3, 21, 22, 51, 23, 24, then 25 (local, sending) or 31 (arrival), then 41. 22 says that the sender's
-   account is not open on its ledger, 51 that the sender's is and the receiver's is not: moatbetony_kind says whose ledger is which. */
+   account is not open on its ledger, 51 that the sender's is and the receiver's is not: moatbetony_kind says whose ledger is which. 24
+   says that on the record's ledger an arrival has passed with the arrival's number, or with that of a local or sending a local or
+   sending: the one class does not use up the numbers of the other. */
 
 /* Opens with the balances of each ledger, one for each account from 0. Answers 1, 2, in this order, place 0; beside a refusal stands
    the state of zeros, which every call refuses with 3. */
@@ -342,8 +344,8 @@ MOATBETONY_MUST_USE moatbetony_balance_t moatbetony_pair_balance(moatbetony_pair
 MOATBETONY_MUST_USE moatbetony_pair_places_t moatbetony_pair_places_left(moatbetony_pair_t state);
 
 /* ## The home validator
-   Refusals of a record, in order: 3, 21, 33, 22, 51, 23, 24, then 25 (local, sending) or 32 (arrival), then 41. 22 and 51 say what they
-   say in the pair validator; the far accounts are as many as the opening told. */
+   Refusals of a record, in order: 3, 21, 33, 22, 51, 23, 24, then 25 (local, sending) or 32 (arrival), then 41. 22, 51 and 24 say what
+   they say in the pair validator; the far accounts are as many as the opening told. */
 
 /* Opens with the home balances, one for each account from 0, the number of far accounts and their total. Answers 1, 2, in this order,
    place 0; beside a refusal stands the state of zeros, which every call refuses with 3. */
@@ -438,7 +440,7 @@ static inline const char *moatbetony_refusal_text(uint32_t number)
     case MOATBETONY_REFUSED_RECORD_FORM: return "not a record";
     case MOATBETONY_REFUSED_ACCOUNT: return "sender's account, or the account asked for, not open";
     case MOATBETONY_REFUSED_VERDICT: return "bad signature";
-    case MOATBETONY_REFUSED_NUMBER_USED: return "number already used on this ledger";
+    case MOATBETONY_REFUSED_NUMBER_USED: return "number already used on this ledger (arrivals counted apart)";
     case MOATBETONY_REFUSED_BALANCE: return "balance too small";
     case MOATBETONY_REFUSED_NO_SENDING: return "arrival without a matching sending";
     case MOATBETONY_REFUSED_ABOVE_POOL: return "arrival above the far pool";

@@ -149,7 +149,11 @@ impl Desk {
         self.serve("a payment of our account to itself", &home(Kind::Local, OURS, OURS, 5, 30)?, true)?;
         self.serve("an arrival of 21, above the far pool of 20", &home(Kind::Arrival, 0, OURS, 6, 21)?, true)?;
         self.serve("a sending of 30", &home(Kind::Sending, OURS, 0, 7, 30)?, true)?;
-        self.serve("an arrival of 50, now in the far pool", &home(Kind::Arrival, 0, OURS, 6, 50)?, true)?;
+        // Arrivals' numbers are counted apart: the number of a payment does not stop one, that of an arrival does.
+        let arrival = home(Kind::Arrival, 0, OURS, 1, 50)?;
+        self.serve("an arrival of 50, now in the far pool, under the first payment's number", &arrival, true)?;
+        self.serve("the same arrival again", &arrival, true)?;
+        self.serve("a sending under that number", &home(Kind::Sending, OURS, 0, 1, 30)?, true)?;
         self.serve("an arrival of 1 more", &home(Kind::Arrival, 0, OURS, 8, 1)?, true)?;
 
         self.serve_list("a list of 10 and 500", &mut [payment(9, 10)?, payment(10, 500)?])

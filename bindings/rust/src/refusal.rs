@@ -145,7 +145,7 @@ refusals! {
     RecordForm = 21, "not a record", "the record's author";
     Account = 22, "sender's account, or the account asked for, not open", "the record's author, of a balance by the maker who calls";
     Verdict = 23, "bad signature", "the record's author";
-    NumberUsed = 24, "number already used on this ledger", "the record's author";
+    NumberUsed = 24, "number already used on this ledger (arrivals counted apart)", "the record's author";
     Balance = 25, "balance too small", "the record's author";
     NoSending = 31, "arrival without a matching sending", "the far ledger";
     AbovePool = 32, "arrival above the far pool", "the far ledger";

@@ -166,7 +166,7 @@ validator!(
     pair_take_list,
     pair_check_record,
     pair_check_list,
-    "Refusals, in order: 3, 21, 22, 51, 23, 24, then 25 (local, sending) or 31 (arrival), then 41."
+    "Refusals, in order: 3, 21, 22, 51, 23, 24, then 25 (local, sending) or 31 (arrival), then 41; 24 counts arrivals apart."
 );
 validator!(
     HomeValidator,
@@ -175,7 +175,7 @@ validator!(
     home_take_list,
     home_check_record,
     home_check_list,
-    "Refusals, in order: 3, 21, 33, 22, 51, 23, 24, then 25 (local, sending) or 32 (arrival), then 41."
+    "Refusals, in order: 3, 21, 33, 22, 51, 23, 24, then 25 (local, sending) or 32 (arrival), then 41; 24 counts arrivals apart."
 );
 
 impl PairValidator {

@@ -36,9 +36,9 @@ use Rattle.records.specs.declared.Record.{Record}
 
 -- ## Versions
 
--- 0.4.0: major times 10,000, minor times 100 and patch
+-- 0.5.0: major times 10,000, minor times 100 and patch
 abbrev pub libraryVersion : ℕ
-libraryVersion = 400
+libraryVersion = 500
 
 -- the layout of both states
 abbrev pub stateVersion : ℕ

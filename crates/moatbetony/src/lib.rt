@@ -40,7 +40,7 @@ use records::verdict_byte;
 pub extern "C" fn moatbetony_version() -> u32
     ensures { λ r. ⌜ r ≡ libraryVersion ⌝ }
 {
-    400
+    500
 }
 
 // The version of the layout of both states. A stored state is taken up only under the version that it was stored with.

@@ -5,6 +5,7 @@ pub mod Holding
 pub mod Records
 pub mod Numbers
 pub mod Arriving
+pub mod Scanning
 pub mod Walking
 pub mod Crossings
 pub mod Growing

@@ -1,5 +1,5 @@
 // A ledger's table: held records of four words each, from a word of the state on, and the index of their numbers.
-ghost use Prim.Native.Nat.{_+_, _*_, _/_, _%_, _^_, _<_, _≤_};
+ghost use Prim.Native.Nat.{_+_, _-_, _*_, _/_, _%_, _^_, _<_, _≤_};
 ghost use mathlib.Core.Bool.{cond, not, true, _&&_};
 ghost use mathlib.Core.Path.{_≡_};
 ghost use lib.ListN.{getD, length};
@@ -150,12 +150,29 @@ fn used_at(words: &[u64], from: usize, i: usize, arrival: bool, x: u64) -> bool
     arrival == is_arrival(words[at])
 }
 
-// Whether one of n records has the number in its class, by a scan.
-fn scanned(words: &[u64], from: usize, n: usize, arrival: bool, x: u64) -> bool
-    requires { ⌜ from + 4 * n ≤ length (now words) ⌝ }
-    ensures { λ b. ⌜ b ≡ anyAt (usedAt arrival x (now (words .entry)) from) 0 n ⌝ }
+// Whether one of four records from place i on has the number in its class.
+fn used_in_four(words: &[u64], from: usize, i: usize, arrival: bool, x: u64) -> bool
+    requires { ⌜ from + 4 * i + 16 ≤ length (now words) ⌝ }
+    ensures { λ b. ⌜ b ≡ anyAt (usedAt arrival x (now (words .entry)) from) i 4 ⌝ }
 {
-    let mut i = 0;
+    if used_at(words, from, i, arrival, x) {
+        return true;
+    }
+    if used_at(words, from, i + 1, arrival, x) {
+        return true;
+    }
+    if used_at(words, from, i + 2, arrival, x) {
+        return true;
+    }
+    used_at(words, from, i + 3, arrival, x)
+}
+
+// Whether one of the records from place k on, up to place n, has the number in its class.
+fn scanned_from(words: &[u64], from: usize, k: usize, n: usize, arrival: bool, x: u64) -> bool
+    requires { ⌜ (from + 4 * n ≤ length (now words)) × (k ≤ n) ⌝ }
+    ensures { λ b. ⌜ b ≡ anyAt (usedAt arrival x (now (words .entry)) from) k (n - k) ⌝ }
+{
+    let mut i = k;
     while i < n {
         if used_at(words, from, i, arrival, x) {
             return true;
@@ -165,8 +182,23 @@ fn scanned(words: &[u64], from: usize, n: usize, arrival: bool, x: u64) -> bool
     false
 }
 
-// Whether one of n records has the number, among arrivals or among locals and sendings.
-pub fn is_used<'a>(
+// Whether one of n records has the number in its class, by a scan of four places at a time.
+fn scanned(words: &[u64], from: usize, n: usize, arrival: bool, x: u64) -> bool
+    requires { ⌜ from + 4 * n ≤ length (now words) ⌝ }
+    ensures { λ b. ⌜ b ≡ anyAt (usedAt arrival x (now (words .entry)) from) 0 n ⌝ }
+{
+    let mut i = 0;
+    while i + 3 < n {
+        if used_in_four(words, from, i, arrival, x) {
+            return true;
+        }
+        i += 4;
+    }
+    scanned_from(words, from, i, n, arrival, x)
+}
+
+// Whether one of n records has the number in its class, by a walk down its chain.
+fn walked<'a>(
     words: &'a [u64],
     index: &'a [u16],
     from: usize,
@@ -193,6 +225,26 @@ pub fn is_used<'a>(
         steps += 1;
     }
     false
+}
+
+// Whether one of n records has the number, among arrivals or among locals and sendings. Most often its chain is empty.
+pub fn is_used<'a>(
+    words: &'a [u64],
+    index: &'a [u16],
+    from: usize,
+    base: usize,
+    n: usize,
+    arrival: bool,
+    x: u64,
+) -> bool
+    requires { ⌜ (from + 4 * n ≤ length (now words)) × (base + chainCount + n ≤ length (now index))
+        × IndexOf (now words) from (now index) base n ⌝ }
+    ensures { λ b. ⌜ b ≡ anyAt (usedAt arrival x (now (words .entry)) from) 0 n ⌝ }
+{
+    if index[base + low_bits(x)] == 0 {
+        return false;
+    }
+    walked(words, index, from, base, n, arrival, x)
 }
 
 // The number of the record at place n joins the index of those before it.
@@ -226,7 +278,7 @@ fn add_if_unused<'a, 'b>(
         index[h] = next_place(n); // the first of its chain
         return true;
     }
-    if is_used(words, index, from, base, n, arrival, x) {
+    if walked(words, index, from, base, n, arrival, x) {
         return false;
     }
     add_number(index, base, n, x);

@@ -23,12 +23,12 @@ returns c =
     )
 
 returns-2 : tie.Need-returns-2
-returns-2 c = (sym (ap not (sym (c .before .is-used .ensures) ∙ c .if2 .taken)), refl)
+returns-2 c = (sym (ap not (sym (c .before .walked .ensures) ∙ c .if2 .taken)), refl)
 
 returns-3 : tie.Need-returns-3
 returns-3 c =
     let u = c .before .before .before .before in
-    (sym (ap not (sym (u .before .is-used .ensures) ∙ u .if2 .left)), c .before .before .add-number .ensures)
+    (sym (ap not (sym (u .before .walked .ensures) ∙ u .if2 .left)), c .before .before .add-number .ensures)
 
 pub add-if-unused-spec : {M : Type 1} → statement M
 add-if-unused-spec = tie.close (tie.spec (λ c κs. search needs) (λ c. search needs) (λ c. search needs) (λ c. search needs)

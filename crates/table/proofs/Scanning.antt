@@ -1,0 +1,41 @@
+-- Tests of four places at a time. Assumes nothing.
+use Rattle.wire.proofs.Prelude.{Bool, _+_, _-_, _<_, _||_, _∙_, _≡_, ap, arith, false, or-false, refl, suc, true, ℕ}
+use Rattle.places.specs.OverPlaces.{anyAt}
+
+-- four tests and a rest
+regroup : (a b c d r : Bool) → (a || (b || (c || (d || r)))) ≡ ((a || (b || (c || (d || false)))) || r)
+regroup true b c d r = refl
+regroup false true c d r = refl
+regroup false false true d r = refl
+regroup false false false true r = refl
+regroup false false false false r = refl
+
+module _ (p : ℕ → Bool) (i : ℕ) where
+  -- four places one by one
+  pub four-are : anyAt p i 4 ≡ (p i || (p (i + 1) || (p (i + 2) || p (i + 3))))
+  unfolding anyAt
+  four-are =
+      let a : suc i ≡ i + 1 = omega arith in
+      let b : suc (i + 1) ≡ i + 2 = omega arith in
+      let c : suc (i + 2) ≡ i + 3 = omega arith in
+      rw (a, b, c, or-false (p (i + 3)))
+
+  module _ (end : ℕ) (h : i + 3 < end) where
+    -- four places and those after them
+    four-left : anyAt p i (end - i) ≡ (anyAt p i 4 || anyAt p (i + 4) (end - (i + 4)))
+    unfolding anyAt
+    four-left =
+        let m = end - (i + 4) in
+        let z : end - i ≡ suc (suc (suc (suc m))) = omega arith in
+        let k : suc (suc (suc (suc i))) ≡ i + 4 = omega arith in
+        ap (anyAt p i) z
+        ∙ regroup (p i) (p (suc i)) (p (suc (suc i))) (p (suc (suc (suc i)))) (anyAt p (suc (suc (suc (suc i)))) m)
+        ∙ ap (λ (j : ℕ). anyAt p i 4 || anyAt p j m) k
+
+    -- the test holds at one of four
+    pub four-here : anyAt p i 4 ≡ true → anyAt p i (end - i) ≡ true
+    four-here e = four-left ∙ ap (λ (t : Bool). t || anyAt p (i + 4) (end - (i + 4))) e
+
+    -- it holds at none of them
+    pub four-on : anyAt p i 4 ≡ false → anyAt p i (end - i) ≡ anyAt p (i + 4) (end - (i + 4))
+    four-on e = four-left ∙ ap (λ (t : Bool). t || anyAt p (i + 4) (end - (i + 4))) e
