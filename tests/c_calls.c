@@ -589,6 +589,44 @@ static void pair_forged(const moatbetony_pair_t *forged, int line)
         pair_forged(&f, __LINE__);      \
     } while (0)
 
+/* On each ledger the numbers of arrivals are counted apart from those of locals and sendings. */
+static void pair_numbers(void)
+{
+    moatbetony_pair_t s = pair_opened(), forged;
+    PAIR(s, sending(0, 0, 0, 7, 30), 0);
+    PAIR(s, local(1, 0, 0, 7, 5), 0); /* it does not strand the arrival */
+    PAIR(s, sending(1, 0, 0, 7, 5), 24);
+    PAIR(s, arrival(1, 0, 0, 7, 30), 0);
+    pair_figures_are(&s, 120, 50, 0, __LINE__);
+    PAIR(s, arrival(1, 0, 0, 7, 30), 24);
+    PAIR(s, local(1, 0, 0, 7, 5), 24);
+    PAIR(s, local(0, 0, 1, 7, 5), 24);
+    PAIR(s, arrival(0, 0, 0, 7, 30), 31); /* far has an arrival of 30 under the number, and no sending */
+
+    s = pair_opened(); /* crossings both ways under one number */
+    PAIR(s, sending(0, 0, 0, 7, 30), 0);
+    PAIR(s, sending(1, 0, 0, 7, 10), 0);
+    pair_figures_are(&s, 120, 10, 40, __LINE__);
+    PAIR(s, arrival(0, 0, 0, 7, 30), 31);
+    PAIR(s, arrival(0, 0, 0, 7, 10), 0);
+    pair_figures_are(&s, 130, 10, 30, __LINE__);
+    PAIR(s, arrival(1, 0, 0, 7, 30), 0);
+    pair_figures_are(&s, 130, 40, 0, __LINE__);
+    PAIR(s, arrival(0, 0, 0, 7, 10), 24);
+    pair_left(&s, 510, 510, __LINE__);
+
+    /* Such a state is taken up; one with the arrival twice, or the sending, is 3. */
+    forged = s;
+    forged.records[1][2] = s.records[1][1];
+    forged.counts[1] = 3;
+    pair_forged(&forged, __LINE__);
+    forged = s;
+    forged.records[0][2] = s.records[0][0];
+    forged.counts[0] = 3;
+    forged.supply += 30;
+    pair_forged(&forged, __LINE__);
+}
+
 static void pair_states(void)
 {
     moatbetony_pair_t good = pair_opened(), odd, before;
@@ -650,7 +688,6 @@ static void pair_states(void)
     PAIR_FORGED(f.records[0][1].number = 7);
     PAIR_FORGED(f.records[1][0].number = 6);
     PAIR_FORGED(f.records[0][0].number = 6);
-    PAIR_FORGED(f.records[1][1].number = 7);
     /* The zero bytes: two at a head's end, seven after the verdict; each bit, in each record. */
     for (l = 0; l < 2; l++)
         for (i = 0; i < 2; i++) {
@@ -659,6 +696,11 @@ static void pair_states(void)
             for (bit = 0; bit < 56; bit++)
                 PAIR_FORGED(f.records[l][i].tail |= UINT64_C(1) << bit);
         }
+
+    /* An arrival and a sending of one number are no such fault. */
+    odd = good;
+    odd.records[1][1].number = 7;
+    pair_figures_are(&odd, 120, 48, 2, __LINE__);
 
     /* What 3 does not see: balances exchanged; records beyond the counts, which only a passed record writes over. */
     odd = good;
@@ -997,6 +1039,26 @@ static void home_forged(const moatbetony_home_t *forged, int line)
         home_forged(&f, __LINE__);      \
     } while (0)
 
+/* Arrivals are counted apart here too. */
+static void home_numbers(void)
+{
+    moatbetony_home_t s = home_opened(), forged;
+    HOME(s, local(0, 0, 1, 7, 5), 0);
+    HOME(s, sending(0, 0, 0, 7, 5), 24);
+    HOME(s, arrival(0, 0, 1, 7, 5), 0);
+    HOME(s, arrival(0, 0, 1, 7, 5), 24);
+    HOME(s, arrival(0, 0, 1, 8, 5), 0);
+    HOME(s, sending(0, 0, 0, 8, 5), 0);
+    HOME(s, local(0, 0, 0, 8, 5), 24);
+    home_figures_are(&s, 155, 15, __LINE__);
+    forged = s;
+    forged.records[4] = s.records[1];
+    forged.count = 5;
+    home_forged(&forged, __LINE__);
+    forged.records[4] = s.records[3];
+    home_forged(&forged, __LINE__);
+}
+
 static void home_states(void)
 {
     moatbetony_home_t good = home_opened(), odd, before;
@@ -1046,7 +1108,7 @@ static void home_states(void)
     HOME_FORGED(f.records[1].head = head(3, 0, 0, 65535));
     HOME_FORGED(f.records[0].amount = 0);
     HOME_FORGED(f.records[0].amount = MAX + 1);
-    HOME_FORGED(f.records[1].number = 7);
+    HOME_FORGED((f.records[1].number = 7, f.records[1].head = head(1, 0, 0, 1)));
     for (i = 0; i < 2; i++) {
         for (bit = 0; bit < 16; bit++)
             HOME_FORGED(f.records[i].head |= UINT64_C(1) << bit);
@@ -1056,13 +1118,17 @@ static void home_states(void)
 
     /* As in pair_states; and a balance raised at the far pool's cost. */
     odd = good;
+    odd.records[1].number = 7;
+    home_figures_are(&odd, 125, 45, __LINE__);
+    odd = good;
     odd.balances[0] = good.balances[1];
     odd.balances[1] = good.balances[0];
     home_figures_are(&odd, 125, 45, __LINE__);
     memset(odd.records + 2, 0xaa, 510 * sizeof(moatbetony_held_t));
     before = odd;
     HOME(odd, local(0, 0, 1, 10, 200), 25);
-    HOME(odd, local(0, 0, 1, 8, 1), 24);
+    HOME(odd, local(0, 0, 1, 7, 1), 24);
+    HOME(odd, arrival(0, 0, 1, 8, 1), 24);
     SAME(odd, before);
     HOME(odd, local(0, 0, 1, 10, 1), 0);
     CHECK(odd.count == 3 && holds(odd.records[2], local(0, 0, 1, 10, 1)) && all_are(odd.records + 3, 509 * 32, 0xaa));
@@ -1484,6 +1550,7 @@ int main(void)
     records();
     pair_openings();
     pair_cases();
+    pair_numbers();
     pair_accounts();
     pair_fields();
     pair_lists();
@@ -1491,6 +1558,7 @@ int main(void)
     pair_full();
     home_openings();
     home_cases();
+    home_numbers();
     home_accounts();
     home_fields();
     home_lists();

@@ -109,8 +109,8 @@ impl Book for Guard {
         self.home.balances[usize::from(account)]
     }
 
-    fn number_used(&self, _ledger: Ledger, number: u64) -> bool {
-        self.home.number_used(number)
+    fn number_used(&self, record: &Record) -> bool {
+        self.home.number_used(record)
     }
 
     fn arrival_refusal(&self, arrival: &Record) -> Option<u8> {

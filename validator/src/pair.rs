@@ -83,7 +83,7 @@ impl PairBook {
     fn arrivals_have_sendings(&self, ledger: Ledger) -> bool {
         let others: HashSet<&Held> = self.side(ledger.other()).held.iter().collect();
         self.side(ledger).held.iter().all(|held| match held.read() {
-            Some(record) if matches!(record.kind, Kind::Arrival(_)) => {
+            Some(record) if record.kind.is_arrival() => {
                 others.contains(&Held::of(&record.matching_sending()))
             }
             _ => true,
@@ -138,8 +138,8 @@ impl Book for PairBook {
         self.side(ledger).balances[usize::from(account)]
     }
 
-    fn number_used(&self, ledger: Ledger, number: u64) -> bool {
-        self.side(ledger).number_used(number)
+    fn number_used(&self, record: &Record) -> bool {
+        self.side(record.ledger()).number_used(record)
     }
 
     fn arrival_refusal(&self, arrival: &Record) -> Option<u8> {

@@ -1,5 +1,6 @@
 //! Paper 01, "The record": 32 bytes, numbers big-endian, and refusal 21 for
-//! whatever does not read as a record.
+//! whatever does not read as a record. Paper 02, U2: which records of a ledger
+//! may not share a number.
 
 use crate::answer::{refusal, Answer};
 
@@ -79,6 +80,18 @@ impl Kind {
             Kind::Local(ledger) | Kind::Sending(ledger) | Kind::Arrival(ledger) => ledger,
         }
     }
+
+    pub fn is_arrival(self) -> bool {
+        matches!(self, Kind::Arrival(_))
+    }
+}
+
+/// Paper 02, U2: a number as a ledger counts it. Arrivals are counted apart;
+/// locals and sendings are counted together.
+#[derive(Clone, Copy, Debug, PartialEq, Eq, Hash)]
+pub struct Counted {
+    pub arrival: bool,
+    pub number: u64,
 }
 
 /// A record that has been read: its form is right.
@@ -139,12 +152,26 @@ impl Record {
 
     /// Whether the record lowers its sender's balance.
     pub fn takes(&self) -> bool {
-        !matches!(self.kind, Kind::Arrival(_))
+        !self.kind.is_arrival()
     }
 
     /// Whether the record raises its receiver's balance.
     pub fn gives(&self) -> bool {
         !matches!(self.kind, Kind::Sending(_))
+    }
+
+    /// What the record's ledger counts it under.
+    pub fn counted(&self) -> Counted {
+        Counted {
+            arrival: self.kind.is_arrival(),
+            number: self.number,
+        }
+    }
+
+    /// Whether one of these two records of a ledger uses up the other's number:
+    /// the condition of 24, and in a state of 3.
+    pub fn collides(&self, other: &Record) -> bool {
+        self.counted() == other.counted()
     }
 
     /// For an arrival, the sending on the other ledger that it must match.

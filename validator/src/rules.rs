@@ -1,6 +1,6 @@
 //! Paper 01, "Rules of the pair book" and "Rules of the guard", and paper 02,
-//! U1: the order in which a record that has been read is judged: 22, 51, 23, 24,
-//! then 25 or 31 or 32, then 41. Each checker says how it looks things up.
+//! U1 and U2: the order in which a record that has been read is judged: 22, 51,
+//! 23, 24, then 25 or 31 or 32, then 41. Each checker says how it looks things up.
 
 use crate::answer::refusal;
 use crate::record::{Ledger, Record, MAX_AMOUNT};
@@ -19,8 +19,8 @@ pub trait Book {
     /// The balance of an open account.
     fn balance(&self, ledger: Ledger, account: u16) -> u64;
 
-    /// Whether a record passed on this ledger had this number.
-    fn number_used(&self, ledger: Ledger, number: u64) -> bool;
+    /// Whether a record that passed on this one's ledger collides with it.
+    fn number_used(&self, record: &Record) -> bool;
 
     /// The refusal of an arrival by what the other ledger has done.
     fn arrival_refusal(&self, arrival: &Record) -> Option<u8>;
@@ -38,7 +38,7 @@ pub fn judge(book: &impl Book, record: &Record) -> Option<u8> {
     if !record.good {
         return Some(refusal::VERDICT);
     }
-    if book.number_used(ledger, record.number) {
+    if book.number_used(record) {
         return Some(refusal::NUMBER_USED);
     }
     if record.takes() {

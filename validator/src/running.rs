@@ -1,19 +1,19 @@
 //! Paper 01, "Rules of the pair book", kept ready for long lists: the same
 //! rules on a state that nobody else alters, so it is not judged anew for each
-//! record; numbers and sendings are found by a hash map, totals are kept.
+//! record; passed records are found by a hash map, totals are kept.
 
 use std::collections::HashMap;
 
 use crate::answer::refusal;
 use crate::pair::opening_refusal;
-use crate::record::{Kind, Ledger, Record};
+use crate::record::{Counted, Kind, Ledger, Record};
 use crate::rules::{self, Book};
 
 /// A pair book in the course of one run.
 #[derive(Clone, Debug)]
 pub struct RunningBook {
     balances: [Vec<u64>; 2],
-    passed: [HashMap<u64, Record>; 2],
+    passed: [HashMap<Counted, Record>; 2],
     totals: [u64; 2],
     in_flight: u64,
 }
@@ -68,7 +68,7 @@ impl RunningBook {
             Kind::Sending(_) => self.in_flight += record.amount,
             Kind::Arrival(_) => self.in_flight -= record.amount,
         }
-        self.passed[ledger].insert(record.number, *record);
+        self.passed[ledger].insert(record.counted(), *record);
     }
 
     pub fn balances(&self, ledger: Ledger) -> &[u64] {
@@ -82,6 +82,17 @@ impl RunningBook {
     pub fn in_flight(&self) -> u64 {
         self.in_flight
     }
+
+    /// Whether a record passed on this ledger is counted under this.
+    pub fn counts(&self, ledger: Ledger, counted: Counted) -> bool {
+        self.passed[ledger.index()].contains_key(&counted)
+    }
+
+    /// Whether any record passed on this ledger has this number.
+    pub fn number_met(&self, ledger: Ledger, number: u64) -> bool {
+        let counted = [false, true].map(|arrival| Counted { arrival, number });
+        counted.iter().any(|&counted| self.counts(ledger, counted))
+    }
 }
 
 impl Book for RunningBook {
@@ -93,13 +104,13 @@ impl Book for RunningBook {
         self.balances(ledger)[usize::from(account)]
     }
 
-    fn number_used(&self, ledger: Ledger, number: u64) -> bool {
-        self.passed[ledger.index()].contains_key(&number)
+    fn number_used(&self, record: &Record) -> bool {
+        self.counts(record.ledger(), record.counted())
     }
 
     fn arrival_refusal(&self, arrival: &Record) -> Option<u8> {
         let wanted = arrival.matching_sending();
-        let found = self.passed[wanted.ledger().index()].get(&wanted.number);
+        let found = self.passed[wanted.ledger().index()].get(&wanted.counted());
         (found != Some(&wanted)).then_some(refusal::NO_SENDING)
     }
 

@@ -1,5 +1,6 @@
-//! Paper 01, refusal 3, and paper 02, U1 (51 in a state): one ledger's part of a
-//! state, with what pair book and guard ask of it alike.
+//! Paper 01, refusal 3, and paper 02, U1 (51 in a state) and U2 (numbers in a
+//! state): one ledger's part of a state, with what pair book and guard ask of it
+//! alike.
 
 use std::collections::HashSet;
 
@@ -32,8 +33,10 @@ impl Side {
         sum(&self.balances)
     }
 
-    pub fn number_used(&self, number: u64) -> bool {
-        self.held.iter().any(|held| held.number == number)
+    /// Whether a held record collides with this one.
+    pub fn number_used(&self, record: &Record) -> bool {
+        let mut held = self.held.iter().filter_map(Held::read);
+        held.any(|held| held.collides(record))
     }
 
     /// Counts within bounds, and no balance beyond the accounts.
@@ -44,9 +47,9 @@ impl Side {
     }
 
     /// Every held record is one of `ledger` that 21, 22, 51 and 23 let through,
-    /// and no two of them share a number.
+    /// and no two of them collide.
     pub fn held_right(&self, ledger: Ledger, accounts: impl Fn(Ledger) -> usize) -> bool {
-        let mut numbers = HashSet::new();
+        let mut counted = HashSet::new();
         self.held.iter().all(|held| {
             let Some(record) = held.read() else {
                 return false;
@@ -54,7 +57,7 @@ impl Side {
             record.ledger() == ledger
                 && accounts_open(&record, &accounts)
                 && record.good
-                && numbers.insert(record.number)
+                && counted.insert(record.counted())
         })
     }
 

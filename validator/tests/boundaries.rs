@@ -439,24 +439,158 @@ fn accounts_at_their_bounds() {
     }
 }
 
+/// Paper 02, U2: locals and sendings are counted together, on their ledger only.
 #[test]
-fn refusal_24_counts_every_kind_on_its_ledger_only() {
-    for first in [local(Home, 0, 1, 5, 1), sending(Home, 0, 0, 5, 1)] {
-        for second in [local(Home, 0, 1, 5, 1), sending(Home, 0, 0, 5, 1)] {
-            let mut book = pair();
-            assert_eq!(book.call(&first.bytes()), Passed);
-            assert_eq!(book.call(&second.bytes()), refused(24));
-            let home_arrival = arrival(Home, 0, 0, 5, 1);
-            assert_eq!(book.call(&home_arrival.bytes()), refused(24));
-            assert_eq!(book.call(&local(Far, 0, 0, 5, 1).bytes()), Passed);
+fn refusal_24_counts_locals_and_sendings_together() {
+    for ledger in [Home, Far] {
+        let own = [local(ledger, 0, 0, 5, 1), sending(ledger, 0, 0, 5, 1)];
+        let there = [
+            local(ledger.other(), 0, 0, 5, 1),
+            sending(ledger.other(), 0, 0, 5, 1),
+        ];
+        for first in own {
+            for second in own {
+                let mut book = pair();
+                assert_eq!(book.call(&first.bytes()), Passed);
+                assert_eq!(book.call(&second.bytes()), refused(24));
+                // An arrival is not stopped by them, but nobody has sent it.
+                let unsent = arrival(ledger, 0, 0, 5, 1);
+                assert_eq!(book.call(&unsent.bytes()), refused(31));
+                assert_eq!(book.call(&there[0].bytes()), Passed);
+                assert_eq!(book.call(&there[1].bytes()), refused(24));
+            }
         }
     }
-    // A far local strands the arrival: it stays in flight.
+    for first in [local(Home, 0, 1, 5, 1), sending(Home, 0, 0, 5, 1)] {
+        let mut guard = guard();
+        assert_eq!(guard.call(&first.bytes()), Passed);
+        for second in [local(Home, 0, 1, 5, 1), sending(Home, 0, 0, 5, 1)] {
+            assert_eq!(guard.call(&second.bytes()), refused(24));
+        }
+        assert_eq!(guard.call(&arrival(Home, 0, 0, 5, 1).bytes()), Passed);
+        assert_eq!(guard.call(&arrival(Home, 0, 0, 5, 1).bytes()), refused(24));
+    }
+}
+
+/// Paper 02, U2: a local or sending strands no arrival, whichever comes first.
+#[test]
+fn refusal_24_counts_arrivals_apart() {
+    for ledger in [Home, Far] {
+        for own in [local(ledger, 0, 0, 5, 1), sending(ledger, 0, 0, 5, 1)] {
+            let over = sending(ledger.other(), 0, 0, 5, 9);
+            let due = over.matching_arrival();
+            for order in [[own, over, due], [over, own, due], [over, due, own]] {
+                let mut book = pair();
+                for record in order {
+                    assert_eq!(book.call(&record.bytes()), Passed, "{order:?}");
+                }
+                let flying = if own.gives() { 0 } else { 1 };
+                assert_eq!(book.in_flight(), flying);
+                for record in order {
+                    assert_eq!(book.call(&record.bytes()), refused(24));
+                }
+                // 24 comes before 31.
+                let other = Record { amount: 8, ..due };
+                assert_eq!(book.call(&other.bytes()), refused(24));
+                assert!(book.accepted());
+            }
+        }
+    }
+}
+
+/// Paper 02, U2: two crossings in opposite directions under one number. Each
+/// arrival finds the sending and not the arrival of the other crossing.
+#[test]
+fn two_crossings_share_a_number() {
+    let over = sending(Home, 0, 0, 5, 9);
+    let back = sending(Far, 0, 0, 5, 4);
     let mut book = pair();
-    book.call(&sending(Home, 0, 0, 5, 9).bytes());
-    book.call(&local(Far, 0, 0, 5, 1).bytes());
-    assert_eq!(book.call(&arrival(Far, 0, 0, 5, 9).bytes()), refused(24));
-    assert_eq!(book.in_flight(), 9);
+    let steps = [
+        (over, 0, 9),
+        (over.matching_arrival(), 0, 0),
+        // What arrived at far was not sent from there.
+        (arrival(Home, 0, 0, 5, 9), 31, 0),
+        (back, 0, 4),
+        (arrival(Home, 0, 0, 5, 9), 31, 4),
+        (back.matching_arrival(), 0, 0),
+        (back.matching_arrival(), 24, 0),
+        (over.matching_arrival(), 24, 0),
+    ];
+    for (record, answer, flight) in steps {
+        assert_eq!(book.call(&record.bytes()).number(), answer, "{record:?}");
+        assert_eq!(book.in_flight(), flight);
+        assert!(book.accepted());
+    }
+    assert_eq!((book.home_total(), book.far_total()), (145, 25));
+}
+
+/// Paper 02, U2, in a state: two held records of one class under one number are
+/// 3, an arrival and a local or sending are not.
+#[test]
+fn refusal_3_numbers_by_class() {
+    let over = sending(Home, 0, 0, 7, 30);
+    let held = |record: Record| Held::of(&record);
+    // Home holds local 6, sending 7, arrival 8 and sending 9.
+    assert_pair_refused(|book| book.sides[0].held.push(held(local(Home, 0, 0, 6, 1))));
+    assert_pair_refused(|book| book.sides[0].held.push(held(local(Home, 0, 0, 7, 1))));
+    assert_pair_refused(|book| book.sides[0].held.push(held(over)));
+    assert_pair_refused(|book| {
+        let twice = book.sides[0].held[2];
+        book.sides[0].held.push(twice);
+    });
+    assert_pair_refused(|book| book.sides[1].held.insert(0, held(over.matching_arrival())));
+    assert_guard_refused(|guard| guard.home.held.push(held(local(Home, 0, 0, 6, 1))));
+    assert_guard_refused(|guard| guard.home.held.push(held(sending(Home, 0, 0, 6, 1))));
+    assert_guard_refused(|guard| guard.home.held.push(held(over)));
+    assert_guard_refused(|guard| guard.home.held.push(held(arrival(Home, 0, 0, 8, 1))));
+    for own in [local(Home, 0, 0, 8, 1), local(Far, 0, 0, 7, 1)] {
+        let mut book = traded();
+        book.sides[own.ledger().index()].held.insert(0, held(own));
+        assert!(book.accepted(), "{own:?}");
+    }
+    // A sending more is in flight.
+    let mut book = traded();
+    book.sides[0].held.push(held(sending(Home, 0, 0, 8, 2)));
+    book.sides[0].balances[0] -= 2;
+    assert!(book.accepted());
+    for record in [
+        local(Home, 0, 0, 8, 1),
+        sending(Home, 0, 0, 8, 1),
+        arrival(Home, 0, 0, 6, 1),
+        arrival(Home, 0, 0, 7, 1),
+    ] {
+        let mut guard = traded_guard();
+        guard.home.held.push(held(record));
+        assert!(guard.accepted(), "{record:?}");
+    }
+}
+
+/// Paper 02, U2: the 512 places serve both classes.
+#[test]
+fn both_classes_share_the_places() {
+    let mut book = PairBook::open(&[1_000], &[1_000]).unwrap();
+    let mut guard = Guard::open(&[1_000], 1, 1_000).unwrap();
+    let over = |number| sending(Far, 0, 0, number, 1);
+    let own = |number| local(Home, 0, 0, number, 1);
+    for number in 0..256 {
+        assert_eq!(book.call(&over(number).bytes()), Passed);
+        for record in [own(number), over(number).matching_arrival()] {
+            assert_eq!(book.call(&record.bytes()), Passed);
+            assert_eq!(guard.call(&record.bytes()), Passed);
+        }
+    }
+    assert_eq!(book.call(&over(256).bytes()), Passed);
+    for (record, of_pair, of_guard) in [
+        (own(256), 41, 41),
+        (own(255), 24, 24),
+        (over(256).matching_arrival(), 41, 41),
+        (over(255).matching_arrival(), 24, 24),
+        (over(257).matching_arrival(), 31, 41),
+    ] {
+        assert_eq!(book.call(&record.bytes()), refused(of_pair));
+        assert_eq!(guard.call(&record.bytes()), refused(of_guard));
+    }
+    assert!(book.accepted() && guard.accepted());
 }
 
 #[test]
@@ -510,7 +644,8 @@ fn order_of_the_pair_book() {
 #[test]
 fn order_of_the_guard() {
     let mut guard = guard();
-    for number in 0..512 {
+    guard.call(&arrival(Home, 0, 1, 3, 1).bytes());
+    for number in 0..511 {
         guard.call(&local(Home, 0, 0, number, 1).bytes());
     }
     let fresh = arrival(Home, 0, 0, 600, 1);
@@ -563,13 +698,17 @@ fn refusal_51_beside_each_other() {
     for full in [false, true] {
         let mut book = PairBook::open(&[100, 50], &[20, 10, 5]).unwrap();
         let mut guard = Guard::open(&[100, 50], 3, 35).unwrap();
-        for number in 0..if full { 512 } else { 5 } {
-            for ledger in [Home, Far] {
-                let record = local(ledger, 0, 0, number, 1).bytes();
-                assert_eq!(book.call(&record), Passed);
-                if ledger == Home {
-                    assert_eq!(guard.call(&record), Passed);
-                }
+        // Number 3 is used for arrivals too.
+        let over = Ledger::BOTH.map(|ledger| sending(ledger, 0, 0, 3, 1));
+        let mut records = over.to_vec();
+        records.extend(over.map(|sent| sent.matching_arrival()));
+        for number in 4..if full { 514 } else { 9 } {
+            records.extend(Ledger::BOTH.map(|ledger| local(ledger, 0, 0, number, 1)));
+        }
+        for record in records {
+            assert_eq!(book.call(&record.bytes()), Passed);
+            if record.ledger() == Home {
+                assert_eq!(guard.call(&record.bytes()), Passed);
             }
         }
         for (kind, from, to) in kinds_and_ledgers() {

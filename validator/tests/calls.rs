@@ -8,7 +8,7 @@ use second_validator::journal::Balances;
 use second_validator::record::{Held, Kind, Record, MAX_AMOUNT, RECORD};
 use second_validator::runner::calls::fields::{Field, Fields};
 use second_validator::runner::calls::{compare, Oracle, Part};
-use second_validator::states::{words_of, HomeState, Layout, PairState, State};
+use second_validator::states::{bytes_of, words_of, HomeState, Layout, PairState, State};
 
 const CALLS: u64 = 20_000;
 
@@ -31,7 +31,7 @@ fn library_against_itself() {
         assert!(3 * passed > calls, "{family}: {passed} of {calls}");
     }
     assert_eq!(report.by_call.len(), 25);
-    assert_eq!(report.by_family.len(), 13);
+    assert_eq!(report.by_family.len(), 15);
     // Each record and each list is handed in by value and in place.
     for side in ["pair", "home"] {
         for (by_value, in_place) in [("check_record", "take"), ("check_list", "take_list")] {
@@ -159,6 +159,75 @@ fn every_absent() -> Vec<Absent> {
         }
     }
     all
+}
+
+/// What a ledger and the other one hold under the number of a record that is
+/// handed in, alone or in a list: 1 for a local, 2 for a sending, 4 for an
+/// arrival, added up. The guard has no other one.
+#[derive(Clone, Copy, Debug, PartialEq, Eq, PartialOrd, Ord)]
+struct Under {
+    guard: bool,
+    handed: Handed,
+    kind: u8,
+    ledger: u8,
+    held: [u8; 2],
+}
+
+#[test]
+fn records_of_every_kind_under_every_number_are_handed_in() {
+    for seed in [1, 7, 1_000_003] {
+        let mut part = Wrong::new(Fault::None);
+        part.listener.under = Some(BTreeSet::new());
+        compare(&mut part, seed, CALLS, u64::MAX);
+        let found = part.listener.under.unwrap();
+        let wanted = every_under();
+        assert_eq!(wanted.len(), 2 * 3 * (2 * 16 + 6));
+        let missing: Vec<&Under> = wanted.difference(&found).collect();
+        assert_eq!(missing, Vec::<&Under>::new(), "{seed}");
+    }
+}
+
+/// Each way in which a number can be held. In the pair book an arrival has its
+/// sending on the other ledger.
+fn every_under() -> BTreeSet<Under> {
+    let mut all = BTreeSet::new();
+    let has = |held: u8, kind: u8| held & kind == kind;
+    for own in 0..7 {
+        for other in 0..7 {
+            let single = ![own, other].iter().any(|&held| has(held, 3));
+            let sent = (!has(own, 4) || has(other, 2)) && (!has(other, 4) || has(own, 2));
+            for (guard, ledger) in [(false, 0), (false, 1), (true, 0)] {
+                let met = if guard { other == 0 } else { sent };
+                if !single || !met {
+                    continue;
+                }
+                for kind in 1..=3 {
+                    all.extend([Handed::Record, Handed::List].map(|handed| Under {
+                        guard,
+                        handed,
+                        kind,
+                        ledger,
+                        held: [own, other],
+                    }));
+                }
+            }
+        }
+    }
+    all
+}
+
+/// Full tables in which both classes of a ledger have many numbers that agree in
+/// their low 12 bits.
+#[test]
+fn full_tables_of_alike_numbers_are_handed_in() {
+    for seed in [1, 7, 1_000_003] {
+        let mut part = Wrong::new(Fault::None);
+        part.listener.alike = Some([0; 2]);
+        compare(&mut part, seed, CALLS, u64::MAX);
+        for alike in part.listener.alike.unwrap() {
+            assert!(alike > 200, "{alike}");
+        }
+    }
 }
 
 /// What stands in a field that is altered alone, among other values.
@@ -300,9 +369,56 @@ struct Listener {
     sum: u64,
     altered: Option<(Altered<PairState>, Altered<HomeState>)>,
     absent: Option<BTreeSet<Absent>>,
+    under: Option<BTreeSet<Under>>,
+    /// Of pair book and guard: the numbers alike in their low 12 bits that each
+    /// class of a full table has, the most so far.
+    alike: Option<[usize; 2]>,
 }
 
 impl Listener {
+    /// A record that is not refused before its number is looked up.
+    fn number_looked_up<S: Fields>(
+        &mut self,
+        handed: Handed,
+        bytes: &[u8],
+        state: &S,
+        answer: Answer,
+    ) {
+        self.table(state);
+        let (Some(under), Some(record)) = (&mut self.under, Record::read(bytes)) else {
+            return;
+        };
+        if BEFORE_NUMBER.contains(&answer.number()) {
+            return;
+        }
+        let ledger = record.ledger().index();
+        let held = [ledger, 1 - ledger].map(|ledger| kinds_under(state, ledger, record.number));
+        under.insert(Under {
+            guard: S::LEDGERS == 1,
+            handed,
+            kind: bytes[0],
+            ledger: bytes[1],
+            held,
+        });
+    }
+
+    /// A full table.
+    fn table<S: Fields>(&mut self, state: &S) {
+        let full = state.get(Field::Counts, 0) == 512;
+        if let (Some(alike), true) = (&mut self.alike, full) {
+            let held = held_records(state, 0);
+            let low = |record: &Record| record.number & 0xfff;
+            let of_class = |arrival| {
+                let first = held.first().map(low);
+                let same = |record: &&Record| Some(low(record)) == first;
+                let class = |record: &&Record| record.takes() != arrival;
+                held.iter().filter(class).filter(same).count()
+            };
+            let most = &mut alike[2 - S::LEDGERS];
+            *most = (*most).max(of_class(true).min(of_class(false)));
+        }
+    }
+
     fn note(&mut self, bytes: &[u8]) {
         for &byte in bytes {
             self.sum = (self.sum ^ u64::from(byte)).wrapping_mul(0x0100_0000_01b3);
@@ -343,6 +459,17 @@ impl Listener {
         if let Some((_, home)) = &mut self.altered {
             home.handed_in(state);
         }
+    }
+
+    /// Where the last record of a list begins that was looked at, if numbers are
+    /// taken down.
+    fn last_at(&self, bytes: &[u8], answer: Answer) -> Option<usize> {
+        self.under.as_ref()?;
+        let place = match answer {
+            Passed => (bytes.len() / RECORD).checked_sub(1)?,
+            Refused { place, .. } => place as usize,
+        };
+        (bytes.len() >= (place + 1) * RECORD).then_some(place * RECORD)
     }
 
     /// Where a record begins that is refused for its accounts, if they are taken
@@ -467,6 +594,135 @@ enum Fault {
     HeldAccountTold(Field),
     /// An account of a held record may be open on either ledger.
     HeldOpenOnEither(Field),
+    PairNumbers(Numbers, Handed),
+    HomeNumbers(Numbers, Handed),
+    /// Held records of these two kinds may share a number on a ledger.
+    HeldMayShare(u64, u64),
+    /// Held records of these two kinds may not.
+    HeldMayNotShare(u64, u64),
+    HeldMatchFindsArrival,
+    HeldMatchFindsFirst,
+    Flight(Flight),
+}
+
+/// What a part is wrong in when it looks a number up.
+#[derive(Clone, Copy, Debug, PartialEq, Eq)]
+enum Numbers {
+    /// All kinds are counted together, as before U2; on one ledger only.
+    OneClass,
+    OneClassOn(u8),
+    NeverUsed(u8),
+    EachKindApart,
+    /// These two kinds are counted together and the third apart.
+    Together(u8, u8),
+    /// Records of the first kind are refused for one of the second.
+    RefusedFor(u8, u8),
+    /// Of numbers that are alike in their low 12 bits, only so many are seen.
+    FewAlike(usize),
+    /// A table of 512 or of 256 for each class.
+    TableForEachClass(usize),
+    /// The match looks at an arrival of the number where there is one, at the
+    /// first record of it, or at any that has the accounts and amount.
+    MatchFindsArrival,
+    MatchFindsFirst,
+    MatchOfAnyKind,
+    MatchOfArrivalToo,
+}
+
+/// Those that a part can be wrong in for either checker.
+const NUMBERS: [Numbers; 17] = [
+    Numbers::OneClass,
+    Numbers::OneClassOn(0),
+    Numbers::NeverUsed(1),
+    Numbers::NeverUsed(2),
+    Numbers::NeverUsed(3),
+    Numbers::EachKindApart,
+    Numbers::Together(1, 3),
+    Numbers::Together(2, 3),
+    Numbers::RefusedFor(1, 3),
+    Numbers::RefusedFor(2, 3),
+    Numbers::RefusedFor(3, 1),
+    Numbers::RefusedFor(3, 2),
+    Numbers::FewAlike(1),
+    Numbers::FewAlike(16),
+    Numbers::FewAlike(200),
+    Numbers::TableForEachClass(512),
+    Numbers::TableForEachClass(256),
+];
+
+const NUMBERS_OF_PAIR: [Numbers; 5] = [
+    Numbers::OneClassOn(1),
+    Numbers::MatchFindsArrival,
+    Numbers::MatchFindsFirst,
+    Numbers::MatchOfAnyKind,
+    Numbers::MatchOfArrivalToo,
+];
+
+/// What ends a crossing for a part that is wrong in what is in flight.
+#[derive(Clone, Copy, Debug, PartialEq, Eq)]
+enum Flight {
+    /// Any record of its number on the other ledger, or the first of them if it
+    /// is an arrival.
+    AnyThere,
+    FirstThere,
+    /// An arrival of its number on the sending's own ledger too.
+    ArrivalHere,
+}
+
+/// Longer lists are told right by a part that is wrong in this, to save time.
+const LONGEST_TOLD: usize = 40 * RECORD;
+
+/// The refusals that come before 24.
+const BEFORE_NUMBER: [u8; 6] = [3, 21, 33, 22, 51, 23];
+
+#[test]
+fn wrong_numbers_are_found() {
+    for seed in [7, 8, 1_000_003] {
+        for handed in [Handed::Record, Handed::List] {
+            for wrong in NUMBERS.into_iter().chain(NUMBERS_OF_PAIR) {
+                assert_accounts_found(Fault::PairNumbers(wrong, handed), seed, "pair", handed);
+            }
+            for wrong in NUMBERS {
+                assert_accounts_found(Fault::HomeNumbers(wrong, handed), seed, "home", handed);
+            }
+        }
+    }
+}
+
+#[test]
+fn wrong_numbers_of_states_are_found() {
+    let of_pair = [
+        Fault::HeldMatchFindsArrival,
+        Fault::HeldMatchFindsFirst,
+        Fault::Flight(Flight::AnyThere),
+        Fault::Flight(Flight::FirstThere),
+        Fault::Flight(Flight::ArrivalHere),
+    ];
+    let of_both = [
+        Fault::HeldMayShare(1, 1),
+        Fault::HeldMayShare(2, 2),
+        Fault::HeldMayShare(3, 3),
+        Fault::HeldMayShare(1, 2),
+        Fault::HeldMayNotShare(1, 3),
+        Fault::HeldMayNotShare(2, 3),
+    ];
+    for seed in [7, 8, 1_000_003] {
+        for fault in of_pair {
+            assert_held_found(fault, "pair", seed);
+        }
+        for fault in of_both {
+            assert_held_found(fault, "pair", seed);
+            assert_held_found(fault, "home", seed);
+        }
+    }
+}
+
+fn assert_held_found(fault: Fault, side: &'static str, seed: u64) {
+    let mut part = Wrong::new(fault);
+    part.only = Some(side);
+    let report = compare(&mut part, seed, CALLS, 1);
+    assert!(report.differences > 0, "{fault:?} {side} {seed}");
+    assert!(report.kept[0].call.starts_with(side), "{fault:?}");
 }
 
 /// How a record comes to a part.
@@ -703,6 +959,231 @@ const FAULTS: [Fault; 85] = [
     Fault::HeldOpenOnEither(Field::Receivers),
 ];
 
+impl Numbers {
+    /// Whether a record's number is used by those that are held on its ledger.
+    fn used(self, record: &Record, held: &[Record]) -> bool {
+        let kind = record.kind.byte();
+        let class = |kind: u8| kind == 3;
+        let counted = |other: &&Record| {
+            let other = other.kind.byte();
+            let right = class(kind) == class(other);
+            match self {
+                Numbers::OneClass => true,
+                Numbers::OneClassOn(ledger) => right || record.ledger().byte() == ledger,
+                Numbers::NeverUsed(never) => right && kind != never,
+                Numbers::EachKindApart => kind == other,
+                Numbers::Together(one, two) => {
+                    let class = |kind| kind == one || kind == two;
+                    class(kind) == class(other)
+                }
+                Numbers::RefusedFor(one, two) => right || (kind, other) == (one, two),
+                _ => right,
+            }
+        };
+        let alike = |other: &&Record| (other.number ^ record.number) & 0xfff == 0;
+        let few = match self {
+            Numbers::FewAlike(few) => few,
+            _ => usize::MAX,
+        };
+        let mut seen = held.iter().filter(counted).filter(alike).take(few);
+        seen.any(|other| other.number == record.number)
+    }
+
+    /// Whether those that are held on the other ledger have sent an arrival.
+    fn sent(self, record: &Record, held: &[Record]) -> bool {
+        let sending = record.matching_sending();
+        let mut under = held.iter().filter(|other| other.number == record.number);
+        let alike = |other: &Record| {
+            Record {
+                kind: sending.kind,
+                ..*other
+            } == sending
+        };
+        match self {
+            Numbers::MatchFindsArrival => {
+                let arrived = under.clone().any(|other| other.kind.is_arrival());
+                !arrived && under.any(|other| *other == sending)
+            }
+            Numbers::MatchFindsFirst => under.next() == Some(&sending),
+            Numbers::MatchOfAnyKind => under.any(alike),
+            Numbers::MatchOfArrivalToo => {
+                let sent_or_arrived = |other: &Record| alike(other) && !is_local(other);
+                under.any(sent_or_arrived)
+            }
+            _ => under.any(|other| *other == sending),
+        }
+    }
+
+    fn full(self, record: &Record, held: &[Record]) -> bool {
+        match self {
+            Numbers::TableForEachClass(places) => {
+                let same = |other: &&Record| other.takes() == record.takes();
+                held.iter().filter(same).count() >= places
+            }
+            _ => held.len() >= 512,
+        }
+    }
+
+    /// The answer to one record, from the right one.
+    fn told<S: Fields>(self, state: &S, bytes: &[u8], right: Answer) -> Answer {
+        let Some(record) = Record::read(bytes) else {
+            return right;
+        };
+        if BEFORE_NUMBER.contains(&right.number()) {
+            return right;
+        }
+        let ledger = record.ledger().index();
+        let held = held_records(state, ledger);
+        let balance = state.get(
+            Field::Balances,
+            56 * ledger + usize::from(record.sender) % 56,
+        );
+        match (record.takes(), S::LEDGERS) {
+            _ if self.used(&record, &held) => refused(24),
+            (true, _) if record.amount > balance => refused(25),
+            (false, 1) if record.amount > state.get(Field::Pool, 0) => refused(32),
+            (false, 2) if !self.sent(&record, &held_records(state, 1 - ledger)) => refused(31),
+            _ if self.full(&record, &held) => refused(41),
+            _ => Passed,
+        }
+    }
+
+    /// The answer to a list. `right` is what the library makes of one record.
+    fn told_of_list<const N: usize>(
+        self,
+        state: &State<N>,
+        bytes: &[u8],
+        right: impl Fn(&State<N>, &[u8]) -> (Answer, Box<State<N>>),
+    ) -> Answer
+    where
+        State<N>: Fields,
+    {
+        let mut state = Box::new(state.clone());
+        for (place, record) in bytes.chunks(RECORD).enumerate() {
+            let (answer, next) = right(&state, record);
+            match self.told(&*state, record, answer) {
+                Passed if answer.passed() => state = next,
+                Passed => break,
+                Refused { number, .. } => {
+                    let place = place as u64;
+                    return Refused { number, place };
+                }
+            }
+        }
+        Passed
+    }
+}
+
+impl Flight {
+    /// What is in flight as a part tells it that is wrong in this.
+    fn told(self, state: &PairState) -> u64 {
+        let tables = [0, 1].map(|ledger| held_records(state, ledger));
+        let flying = |sent: &&Record| {
+            let own = sent.ledger().index();
+            let under = |record: &&Record| record.number == sent.number;
+            let mut there = tables[1 - own].iter().filter(under);
+            let mut here = tables[own].iter().filter(under);
+            let ended = match self {
+                Flight::AnyThere => there.next().is_some(),
+                Flight::FirstThere => there.next().is_some_and(|first| !first.takes()),
+                Flight::ArrivalHere => there.chain(&mut here).any(|record| !record.takes()),
+            };
+            !ended
+        };
+        let sendings = tables.iter().flatten().filter(|record| !record.gives());
+        sendings.filter(flying).map(|sent| sent.amount).sum()
+    }
+}
+
+fn is_local(record: &Record) -> bool {
+    record.takes() && record.gives()
+}
+
+/// The held records of a ledger that read as such.
+fn held_records<S: Fields>(state: &S, ledger: usize) -> Vec<Record> {
+    held_entries(state, ledger)
+        .filter_map(|entry| {
+            let words = &state.words()[4 * entry..4 * entry + 4];
+            Record::read(&bytes_of(words.try_into().unwrap()))
+        })
+        .collect()
+}
+
+/// The kinds that a ledger holds under a number: 1, 2 and 4 for the three.
+fn kinds_under<S: Fields>(state: &S, ledger: usize, number: u64) -> u8 {
+    if ledger >= S::LEDGERS {
+        return 0;
+    }
+    held_entries(state, ledger)
+        .filter(|&entry| state.get(Field::Numbers, entry) == number)
+        .fold(0, |held, entry| {
+            held | 1 << (state.get(Field::Kinds, entry) as u8 - 1)
+        })
+}
+
+/// Whether two held records of a ledger are of these kinds and share a number.
+fn shares_number<S: Fields>(state: &S, kinds: [u64; 2]) -> bool {
+    (0..S::LEDGERS).any(|ledger| {
+        let of_kind = |kind| {
+            let entries = held_entries(state, ledger);
+            entries.filter(move |&entry| state.get(Field::Kinds, entry) == kind)
+        };
+        let number = |entry| state.get(Field::Numbers, entry);
+        let first: BTreeSet<u64> = of_kind(kinds[0]).map(number).collect();
+        of_kind(kinds[1]).any(|entry| first.contains(&number(entry)))
+    })
+}
+
+/// Leaves away held records of the second kind that share their number with one
+/// of the first; the supply goes along with what was in flight.
+fn drop_sharing<S: Fields>(state: &mut S, kinds: [u64; 2], in_flight: impl Fn(&S) -> u64) {
+    let before = in_flight(state);
+    for ledger in 0..S::LEDGERS {
+        let mut entry = 512 * ledger;
+        while entry < held_entries(state, ledger).end {
+            let number = state.get(Field::Numbers, entry);
+            let mut others = held_entries(state, ledger).filter(|&other| other != entry);
+            let shared = others.any(|other| {
+                state.get(Field::Kinds, other) == kinds[0]
+                    && state.get(Field::Numbers, other) == number
+            });
+            if shared && state.get(Field::Kinds, entry) == kinds[1] {
+                let last = held_entries(state, ledger).end - 1;
+                let words: Vec<u64> = state.words()[4 * last..4 * last + 4].to_vec();
+                state.words_mut()[4 * entry..4 * entry + 4].copy_from_slice(&words);
+                state.set(Field::Counts, ledger, (last - 512 * ledger) as u64);
+            } else {
+                entry += 1;
+            }
+        }
+    }
+    let less = before.wrapping_sub(in_flight(state));
+    let supply = state.get(Field::Supply, 0).wrapping_sub(less);
+    state.set(Field::Supply, 0, supply);
+}
+
+/// What is in flight, whatever else is wrong with a state.
+fn in_flight<S: Fields>(state: &S) -> u64 {
+    if S::LEDGERS == 1 {
+        return 0;
+    }
+    let tables = [0, 1].map(|ledger| held_records(state, ledger));
+    let flying = |sent: &&Record| {
+        let there = &tables[sent.ledger().other().index()];
+        let arrived = |record: &Record| !record.takes() && record.number == sent.number;
+        !sent.gives() && !there.iter().any(arrived)
+    };
+    let sendings = tables.iter().flatten().filter(flying);
+    sendings.fold(0, |sum: u64, sent| sum.wrapping_add(sent.amount))
+}
+
+/// Whether each held arrival finds its sending, by a wrong match.
+fn arrivals_find_sendings(state: &PairState, wrong: Numbers) -> bool {
+    let tables = [0, 1].map(|ledger| held_records(state, ledger));
+    let mut arrivals = tables.iter().flatten().filter(|record| !record.takes());
+    arrivals.all(|arrival| wrong.sent(arrival, &tables[arrival.ledger().other().index()]))
+}
+
 /// What a part is wrong in when it tells the places left.
 #[derive(Clone, Copy, Debug, PartialEq, Eq)]
 enum Places {
@@ -857,6 +1338,8 @@ struct Wrong {
     fault: Fault,
     right: Oracle,
     listener: Listener,
+    /// The checker that a fault of states is confined to, if it is.
+    only: Option<&'static str>,
 }
 
 impl Wrong {
@@ -865,7 +1348,33 @@ impl Wrong {
             fault,
             right: Oracle,
             listener: Listener::default(),
+            only: None,
         }
+    }
+
+    /// Whether the checker of this state is wrong.
+    fn concerns<S: Fields>(&self) -> bool {
+        let side = if S::LEDGERS == 2 { "pair" } else { "home" };
+        self.only.is_none_or(|only| only == side)
+    }
+
+    /// Whether an accepted state is refused for numbers of held records.
+    fn held_refused<S: Fields>(&self, state: &S) -> bool {
+        match self.fault {
+            Fault::HeldMayNotShare(one, two) if self.concerns::<S>() => {
+                shares_number(state, [one, two])
+            }
+            _ => false,
+        }
+    }
+
+    fn pair_held_refused(&self, state: &PairState) -> bool {
+        let wrong = match self.fault {
+            Fault::HeldMatchFindsArrival => Numbers::MatchFindsArrival,
+            Fault::HeldMatchFindsFirst => Numbers::MatchFindsFirst,
+            _ => return self.held_refused(state),
+        };
+        !arrivals_find_sendings(state, wrong)
     }
 
     fn is(&self, fault: Fault) -> bool {
@@ -974,6 +1483,9 @@ impl Wrong {
                 replace(state, field, |old| old & ((1 << bits) - 1))
             }
             Fault::HeldOpenOnEither(field) => open_on_either(state, field),
+            Fault::HeldMayShare(one, two) if self.concerns::<S>() && in_bounds(state) => {
+                drop_sharing(state, [one, two], in_flight);
+            }
             _ => return None,
         }
         Some(())
@@ -1021,6 +1533,12 @@ impl Wrong {
             let right = |bytes: &[u8]| Oracle.pair_check_record(state, bytes).0;
             return (wrong.told(bytes, counts_of(state), right), next);
         }
+        if let Fault::PairNumbers(wrong, Handed::Record) = self.fault {
+            return (wrong.told(state, bytes, answer), next);
+        }
+        if answer.number() != 3 && self.pair_held_refused(state) {
+            return (refused(3), Box::new(state.clone()));
+        }
         if answer.number() == 3 {
             let accepted = |state: &PairState| state.figures().0.passed();
             if let Some(told) = self.held_told(state, accepted) {
@@ -1031,6 +1549,12 @@ impl Wrong {
             }
         }
         answer = self.one_answer(answer, bytes, &Seen::of_pair(state, bytes));
+        self.miswrite(answer, bytes, state, &mut next);
+        (answer, next)
+    }
+
+    /// What a part with a fault writes into the state that it hands back.
+    fn miswrite(&self, answer: Answer, bytes: &[u8], state: &PairState, next: &mut PairState) {
         if self.is(Fault::WritesBeyondTheCount) && !answer.passed() {
             if let Some(record) = Record::read(bytes) {
                 let at = record.ledger().index();
@@ -1049,7 +1573,6 @@ impl Wrong {
                 balances[usize::from(record.sender)] += record.amount;
             }
         }
-        (answer, next)
     }
 
     /// A list, by value or in place.
@@ -1066,6 +1589,13 @@ impl Wrong {
             };
             let told = wrong.told_of_list(answer, bytes, counts_of(state), right);
             return (told, next);
+        }
+        if let Fault::PairNumbers(wrong, Handed::List) = self.fault {
+            if answer.number() != 3 && bytes.len() <= LONGEST_TOLD {
+                let right =
+                    |state: &PairState, record: &[u8]| Oracle.pair_check_record(state, record);
+                return (wrong.told_of_list(state, bytes, right), next);
+            }
         }
         if let (Fault::KeepsWhatStoodBefore, Refused { place, .. }) = (self.fault, answer) {
             let before = &bytes[..place as usize * RECORD];
@@ -1101,6 +1631,12 @@ impl Wrong {
             let right = |bytes: &[u8]| Oracle.home_check_record(state, bytes).0;
             return (wrong.told(bytes, counts_of(state), right), next);
         }
+        if let Fault::HomeNumbers(wrong, Handed::Record) = self.fault {
+            return (wrong.told(state, bytes, answer), next);
+        }
+        if answer.number() != 3 && self.held_refused(state) {
+            return (refused(3), Box::new(state.clone()));
+        }
         if answer.number() == 3 {
             let accepted = |state: &HomeState| state.figures().0.passed();
             if let Some(told) = self.held_told(state, accepted) {
@@ -1110,7 +1646,8 @@ impl Wrong {
                 answer = self.right.home_check_record(&repaired, bytes).0;
             }
         }
-        (self.one_answer(answer, bytes, &Seen::of_home(state)), next)
+        let seen = Seen::of_home(state, bytes);
+        (self.one_answer(answer, bytes, &seen), next)
     }
 
     fn home_list(&mut self, state: &HomeState, bytes: &[u8]) -> (Answer, Box<HomeState>) {
@@ -1122,6 +1659,13 @@ impl Wrong {
             };
             let told = wrong.told_of_list(answer, bytes, counts_of(state), right);
             return (told, next);
+        }
+        if let Fault::HomeNumbers(wrong, Handed::List) = self.fault {
+            if answer.number() != 3 && bytes.len() <= LONGEST_TOLD {
+                let right =
+                    |state: &HomeState, record: &[u8]| Oracle.home_check_record(state, record);
+                return (wrong.told_of_list(state, bytes, right), next);
+            }
         }
         (self.place(answer), next)
     }
@@ -1610,24 +2154,28 @@ impl Seen {
             sent_under_number: held_entries(state, 1 - at).any(sent),
             sent_beyond: entries_beyond(state, 1 - at).any(sent),
             due: 0,
-            ..Seen::of_side(state, at)
+            ..Seen::of_side(state, at, bytes)
         }
     }
 
-    fn of_home(state: &HomeState) -> Seen {
+    fn of_home(state: &HomeState, bytes: &[u8]) -> Seen {
         Seen {
             due: state.pool(),
-            ..Seen::of_side(state, 0)
+            ..Seen::of_side(state, 0, bytes)
         }
     }
 
-    fn of_side<S: Fields>(state: &S, ledger: usize) -> Seen {
+    /// Of the numbers those that are counted with the record's.
+    fn of_side<S: Fields>(state: &S, ledger: usize, bytes: &[u8]) -> Seen {
+        let arrival = bytes.first() == Some(&3);
+        let class = |entry: &usize| (state.get(Field::Kinds, *entry) == 3) == arrival;
         let number = |entry| state.get(Field::Numbers, entry);
+        let numbers = |entries: std::ops::Range<usize>| entries.filter(class).map(number).collect();
         Seen {
             guard: true,
             count: state.get(Field::Counts, ledger),
-            numbers: held_entries(state, ledger).map(number).collect(),
-            numbers_beyond: entries_beyond(state, ledger).map(number).collect(),
+            numbers: numbers(held_entries(state, ledger)),
+            numbers_beyond: numbers(entries_beyond(state, ledger)),
             sent_under_number: false,
             sent_beyond: false,
             due: 0,
@@ -1688,6 +2236,8 @@ impl Part for Wrong {
         self.listener.note_state(state);
         self.listener.pair_handed_in(state);
         let handed = self.pair_record(state, bytes);
+        self.listener
+            .number_looked_up(Handed::Record, bytes, state, handed.0);
         if self.listener.absent_at(handed.0).is_some() {
             let right = |bytes: &[u8]| Oracle.pair_check_record(state, bytes).0;
             self.listener.refused(Handed::Record, bytes, state, right);
@@ -1700,6 +2250,12 @@ impl Part for Wrong {
         self.listener.pair_handed_in(state);
         let (answer, next) = self.pair_list(state, bytes);
         self.listener.pair_listed(&next);
+        if let Some(at) = self.listener.last_at(bytes, answer) {
+            let state = Oracle.pair_check_list(state, &bytes[..at]).1;
+            let record = &bytes[at..at + RECORD];
+            self.listener
+                .number_looked_up(Handed::List, record, &*state, answer);
+        }
         if let Some(at) = self.listener.absent_at(answer) {
             let state = Oracle.pair_check_list(state, &bytes[..at]).1;
             let right = |bytes: &[u8]| Oracle.pair_check_record(&state, bytes).0;
@@ -1724,6 +2280,9 @@ impl Part for Wrong {
         let (answer, figures) = self.right.pair_figures(state);
         if self.is(Fault::FiguresBesideRefusal) && !answer.passed() {
             return (answer, [state.supply(), 0, 0]);
+        }
+        if let (Fault::Flight(wrong), Passed) = (self.fault, answer) {
+            return (answer, [figures[0], figures[1], wrong.told(state)]);
         }
         if self.is(Fault::LooksBeyondTheCount(Beyond::Arrivals)) && answer.passed() {
             return (
@@ -1773,6 +2332,8 @@ impl Part for Wrong {
         self.listener.note_state(state);
         self.listener.home_handed_in(state);
         let handed = self.home_record(state, bytes);
+        self.listener
+            .number_looked_up(Handed::Record, bytes, state, handed.0);
         if self.listener.absent_at(handed.0).is_some() {
             let right = |bytes: &[u8]| Oracle.home_check_record(state, bytes).0;
             self.listener.refused(Handed::Record, bytes, state, right);
@@ -1785,6 +2346,12 @@ impl Part for Wrong {
         self.listener.home_handed_in(state);
         let (answer, next) = self.home_list(state, bytes);
         self.listener.home_listed(&next);
+        if let Some(at) = self.listener.last_at(bytes, answer) {
+            let state = Oracle.home_check_list(state, &bytes[..at]).1;
+            let record = &bytes[at..at + RECORD];
+            self.listener
+                .number_looked_up(Handed::List, record, &*state, answer);
+        }
         if let Some(at) = self.listener.absent_at(answer) {
             let state = Oracle.home_check_list(state, &bytes[..at]).1;
             let right = |bytes: &[u8]| Oracle.home_check_record(&state, bytes).0;

@@ -1,4 +1,4 @@
-//! The cases of paper 01 and its listing, with change U1 of paper 02.
+//! The cases of paper 01 and its listing, with changes U1 and U2 of paper 02.
 
 use second_validator::answer::Answer::{self, Passed};
 use second_validator::guard::Guard;
@@ -46,6 +46,23 @@ fn cases_2_and_3_arrival() {
     assert_eq!(book.call(&arrived), Passed);
     assert_eq!(figures(&book), (70, 50, 50, 0));
     assert_eq!(book.call(&arrived), refused(24));
+    assert_eq!(figures(&book), (70, 50, 50, 0));
+}
+
+/// Paper 02, U2: a far local under number 7 strands no arrival. Case 3 keeps its
+/// answer.
+#[test]
+fn cases_2_and_3_after_a_far_local() {
+    let mut book = pair();
+    book.call(&over().bytes());
+    let own = local(Far, 0, 0, 7, 20).bytes();
+    assert_eq!(book.call(&own), Passed);
+    let arrived = over().matching_arrival().bytes();
+    assert_eq!(book.call(&arrived), Passed);
+    assert_eq!(figures(&book), (70, 50, 50, 0));
+    assert_eq!(book.call(&arrived), refused(24));
+    assert_eq!(book.call(&own), refused(24));
+    assert_eq!(book.call(&sending(Far, 0, 0, 7, 1).bytes()), refused(24));
     assert_eq!(figures(&book), (70, 50, 50, 0));
 }
 

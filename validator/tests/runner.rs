@@ -14,6 +14,7 @@ use second_validator::runner::full::{self, Fill};
 use second_validator::runner::process::{PrivateFolder, Runner};
 use second_validator::runner::store;
 use second_validator::running::RunningBook;
+use second_validator::sha256;
 
 fn plan(journals: usize) -> Plan {
     Plan {
@@ -232,7 +233,7 @@ fn stored_journals() {
             );
         }
     }
-    assert!(samples.len() == 65 && size < 1_000_000);
+    assert!(samples.len() == 78 && size < 1_500_000);
     for key in [2, 11, 12, 13, 14].map(|number| (true, number)) {
         assert!(tally.contains_key(&key));
     }
@@ -293,7 +294,9 @@ fn stored_order_of_51() {
     for wanted in every_absent(&[0, 23, 24, 25]) {
         // Beside 22 either nothing or all of them are due.
         let met = found.contains(&wanted) || wanted.sender && wanted.beside != 23;
-        assert!(met || !wanted.receiver, "{wanted:?}");
+        // By U2 the used number is not one of an arrival.
+        let not_used = wanted.kind == 3 && wanted.beside == 24;
+        assert!(met || !wanted.receiver || not_used, "{wanted:?}");
     }
     let answers = ledgers_and_answers(&journal);
     for (place, (_, answer)) in answers.iter().enumerate() {
@@ -305,6 +308,127 @@ fn stored_order_of_51() {
             assert_eq!(answers.iter().filter(same).count(), 3 * of_each_kind);
         }
     }
+}
+
+/// How many numbers a ledger has passed in both classes.
+fn numbers_of_both_classes(journal: &[u8], ledger: u8) -> usize {
+    let text = String::from_utf8(listing(journal)).unwrap();
+    let answers = text.lines().skip(2).map(|line| line.split(' ').nth(2));
+    let blocks = journal[2 * BLOCK..].chunks_exact(BLOCK);
+    let mut classes: BTreeMap<&[u8], BTreeSet<bool>> = BTreeMap::new();
+    for (bytes, answer) in blocks.flat_map(records).zip(answers) {
+        if answer == Some("0") && bytes[1] == ledger {
+            let arrival = bytes[0] == 3;
+            classes.entry(&bytes[8..16]).or_default().insert(arrival);
+        }
+    }
+    classes.values().filter(|both| both.len() == 2).count()
+}
+
+#[test]
+fn stored_journals_of_both_classes() {
+    for (name, both) in [
+        ("local_then_arrival_home", [1, 0]),
+        ("local_then_arrival_far", [0, 1]),
+        ("arrival_then_local_home", [2, 0]),
+        ("arrival_then_local_far", [0, 2]),
+        ("refusal_24_local_and_sending", [2, 2]),
+        ("two_crossings_of_one_number", [6, 6]),
+        ("refusal_31_no_sending", [2, 2]),
+        ("both_classes", [36, 36]),
+        ("refusal_41_both_classes_home", [256, 1]),
+        ("refusal_41_both_classes_far", [1, 256]),
+        ("refusal_41_both_classes_alike", [256, 256]),
+        ("long_140_blocks_both_classes", [99, 100]),
+    ] {
+        let journal = stored(name);
+        let found = [0, 1].map(|ledger| numbers_of_both_classes(&journal, ledger));
+        assert_eq!(found, both, "{name}");
+    }
+}
+
+#[test]
+fn stored_listings_of_u2() {
+    for (name, answers) in [
+        ("local_then_arrival_home", "0 0 0 24 24 24 24"),
+        ("local_then_arrival_far", "0 0 0 24 24 24 24"),
+        ("arrival_then_local_far", "0 0 0 24 24 24 0 0 0 24 24 24"),
+        (
+            "refusal_24_local_and_sending",
+            "0 24 0 24 0 24 0 24 0 24 0 24 0 24 0 24 0 0 0 0",
+        ),
+        (
+            "refusal_31_no_sending",
+            "0 0 31 0 31 0 24 0 31 0 0 31 0 31 0 24 0 31",
+        ),
+        // Stored before U2.
+        ("honest_same_number", "0 0 0 0 0 0 0 0 0"),
+        ("refusal_24", "0 24 24 31 0 24 0 24 0 24 0"),
+    ] {
+        let listed: Vec<String> = ledgers_and_answers(&stored(name))
+            .iter()
+            .map(|(_, answer)| answer.to_string())
+            .collect();
+        assert_eq!(listed.join(" "), answers, "{name}");
+    }
+    let journal = stored("local_then_arrival_far");
+    let text = String::from_utf8(listing(&journal)).unwrap();
+    let expected = "\
+record number answer home far flight
+open - 0 150 20 0
+0 0000000000000007 0 120 20 30
+1 0000000000000007 0 120 20 30
+2 0000000000000007 0 120 50 0
+3 0000000000000007 24 120 50 0
+";
+    assert!(text.starts_with(expected), "{text}");
+}
+
+/// Numbers that a ledger passes in both classes, and every list of five records
+/// of one number.
+#[test]
+fn families_have_numbers_of_both_classes() {
+    let mut found: BTreeMap<String, usize> = BTreeMap::new();
+    let mut blocks = 0;
+    families::each(&plan(300), |family| {
+        for index in 0..family.count() {
+            let sample = family.sample(index);
+            let seeded = sample.name.starts_with("seeded");
+            if seeded && ["honest", "faults", "near_misses", "full_tables"].contains(&family.name())
+            {
+                let both = [0, 1].map(|ledger| numbers_of_both_classes(&sample.journal, ledger));
+                *found.entry(family.name().to_string()).or_default() += both[0] + both[1];
+            }
+            if sample.name.starts_with("one_number_") {
+                blocks += sample.journal.len() / BLOCK - 2;
+            }
+        }
+        Ok::<(), ()>(())
+    })
+    .unwrap();
+    assert_eq!(found.len(), 4);
+    assert!(found.values().all(|&count| count > 50), "{found:?}");
+    // 36 journals of 216 lists of five records.
+    assert_eq!(blocks, 36 * (216 * 5_usize).div_ceil(FULL));
+}
+
+/// Stored journals keep their bytes: the digest of those from before U2.
+#[test]
+fn stored_journals_from_before_u2_stay() {
+    let mut all = Vec::new();
+    let samples = store::samples();
+    for sample in &samples[..65] {
+        all.extend(sample.name.bytes());
+        all.extend(sha256::digest(&sample.journal));
+    }
+    let digest: String = sha256::digest(&all)
+        .iter()
+        .map(|byte| format!("{byte:02x}"))
+        .collect();
+    assert_eq!(
+        digest,
+        "1450a23c624c92d307cdf196ccf8ecc05c97db34ae9e5e799a7ff2a90b75d253"
+    );
 }
 
 /// The ledger byte and the answer of each listed record.
@@ -325,6 +449,7 @@ fn lengths_of_long_stored_journals() {
         ("long_130_blocks", 130, 14, 128 * FULL),
         ("long_131_blocks", 131, 1, 128 * FULL + 1),
         ("long_150_blocks_bad_last", 150, 14, 147 * FULL),
+        ("long_140_blocks_both_classes", 140, 14, 138 * FULL),
     ] {
         let journal = stored(name);
         assert_eq!(journal.len(), blocks * BLOCK, "{name}");
@@ -337,25 +462,48 @@ fn lengths_of_long_stored_journals() {
     }
 }
 
-/// The long stored journals, the last check put right, with the ledger whose
-/// table fills and the block to which it surely has places.
-fn long_sound() -> [(Vec<u8>, u8, usize); 3] {
-    let sound = |name| {
-        let mut journal = stored(name);
-        let last = journal.len() - BLOCK;
-        seal(&mut journal[last..]);
-        journal
-    };
+/// A long stored journal, the last check put right.
+struct Sound {
+    journal: Vec<u8>,
+    /// The ledger whose table fills first, and the block to which it surely has
+    /// places.
+    full: u8,
+    until: usize,
+    /// What is answered to the last record.
+    last: u32,
+}
+
+/// The long stored journals. In two of those from before U2 the other table is
+/// full too when the last record comes.
+fn long_sound() -> [Sound; 4] {
     [
-        (sound("long_130_blocks"), 0, 120),
-        (sound("long_131_blocks"), 1, 120),
-        (sound("long_150_blocks_bad_last"), 0, 105),
+        ("long_130_blocks", 0, 120, 41),
+        ("long_131_blocks", 1, 120, 0),
+        ("long_150_blocks_bad_last", 0, 105, 41),
+        ("long_140_blocks_both_classes", 1, 125, 0),
     ]
+    .map(|(name, full, until, last)| {
+        let mut journal = stored(name);
+        let at = journal.len() - BLOCK;
+        seal(&mut journal[at..]);
+        Sound {
+            journal,
+            full,
+            until,
+            last,
+        }
+    })
 }
 
 #[test]
 fn long_stored_journals_pass_and_refuse_to_their_end() {
-    for (journal, full, until) in long_sound() {
+    for Sound {
+        journal,
+        full,
+        until,
+        last,
+    } in long_sound()
+    {
         let answers = ledgers_and_answers(&journal);
         assert_eq!(answers.len().div_ceil(FULL) + 2, journal.len() / BLOCK);
         // Within any six blocks both ledgers pass records, as long as they
@@ -377,14 +525,24 @@ fn long_stored_journals_pass_and_refuse_to_their_end() {
             answers.iter().filter(same).count()
         };
         assert_eq!(count(full, 0), 512);
-        assert!((490..512).contains(&count(1 - full, 0)));
-        assert!(count(full, 41) > 20 && count(1 - full, 41) == 0);
+        assert!(count(full, 41) > 20);
+        let (passed, none_left) = (count(1 - full, 0), count(1 - full, 41));
+        match last {
+            0 => assert!((490..512).contains(&passed) && none_left == 0),
+            _ => assert!(passed == 512 && (1..20).contains(&none_left)),
+        }
     }
 }
 
 #[test]
 fn long_stored_journals_end_with_what_they_began() {
-    for (journal, full, _) in long_sound() {
+    for Sound {
+        journal,
+        full,
+        last: answer,
+        ..
+    } in long_sound()
+    {
         let blocks = journal.len() / BLOCK;
         let record = |block: usize, place: usize| {
             let at = block * BLOCK + ITEMS + place * RECORD;
@@ -396,7 +554,8 @@ fn long_stored_journals_end_with_what_they_began() {
         assert_eq!((first[0], last[0]), (2, 3));
         assert_eq!((first[1], last[1]), (full, 1 - full));
         assert_eq!(first[2..], last[2..]);
-        assert_eq!(ledgers_and_answers(&journal).last(), Some(&(1 - full, 0)));
+        let answers = ledgers_and_answers(&journal);
+        assert_eq!(answers.last(), Some(&(1 - full, answer)));
         // The figures of the opening do not come back, so that a book opened
         // anew in any block shows.
         let text = String::from_utf8(listing(&journal)).unwrap();

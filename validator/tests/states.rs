@@ -14,7 +14,9 @@ use second_validator::runner::build::{
 use second_validator::runner::calls::fields::{Field, Fields};
 use second_validator::runner::calls::{Oracle, Part};
 use second_validator::runner::rng::Rng;
-use second_validator::states::{bytes_of, words_of, HeldWords, HomeState, Layout, PairState};
+use second_validator::states::{
+    bytes_of, words_of, HeldWords, HomeState, Layout, PairState, State,
+};
 
 fn refused(number: u8) -> Answer {
     refused_at(number, 0)
@@ -549,7 +551,7 @@ fn forged_home_states() {
         more(state, Field::Pool, 0, high);
         more(state, Field::Supply, 0, high);
     });
-    assert_home_refused(put(Field::Numbers, 2, 7));
+    assert_home_refused(put(Field::Numbers, 0, 7));
     assert_home_refused(put(Field::Kinds, 1, 9));
     assert_home_refused(put(Field::Ledgers, 1, 1));
     assert_home_refused(put(Field::Receivers, 1, 1));
@@ -770,6 +772,106 @@ fn forged_states_that_are_accepted() {
     state.set(Field::Kinds, 0, 3);
     state.set(Field::Amounts, 1, 5);
     assert_eq!(state.check_record(&record), Passed);
+}
+
+/// Paper 02, U2: every two kinds under one number on each ledger, the second
+/// added at the end or at the beginning, with all sums in order.
+#[test]
+fn held_numbers_by_class() {
+    let shapes: [Shape; 3] = [local, sending, arrival];
+    for ledger in [Home, Far] {
+        for (first, one) in shapes.iter().enumerate() {
+            for (second, other) in shapes.iter().enumerate() {
+                let of_number = |shape: &Shape| shape(ledger, 0, 0, 40, 2);
+                let sent = sending(ledger.other(), 0, 0, 40, 2);
+                let records = [sent, of_number(one), of_number(other)];
+                let apart = (first == 2) != (second == 2);
+                let answer = if apart { Passed } else { refused(3) };
+                for front in [false, true] {
+                    let mut state = traded();
+                    for record in &records {
+                        hold(&mut *state, record, front);
+                    }
+                    fit_supply(&mut state);
+                    assert_eq!(state.figures().0, answer, "{records:?}");
+                    let own = local(ledger, 0, 0, 77, 1).bytes();
+                    assert_eq!(state.check_record(&own), answer);
+                    assert_eq!(state.check_list(&[]), answer);
+                    let mut state = traded_home();
+                    if ledger == Home {
+                        for record in &records[1..] {
+                            hold(&mut *state, record, front);
+                        }
+                        assert_eq!(state.places_left().0, answer);
+                        assert_eq!(state.check_record(&own), answer);
+                        assert_eq!(state.check_list(&[]), answer);
+                    }
+                }
+            }
+        }
+    }
+}
+
+type Shape = fn(Ledger, u16, u16, u64, u64) -> Record;
+
+/// Adds a held record, or puts it first and the first one last.
+fn hold<const N: usize>(state: &mut State<N>, record: &Record, front: bool)
+where
+    State<N>: Fields + Layout,
+{
+    let ledger = record.ledger().index();
+    let first = 512 * ledger;
+    let last = first + state.count(ledger) as usize;
+    state.put_held(last, held(record));
+    if front {
+        let moved = state.held(first);
+        state.put_held(first, held(record));
+        state.put_held(last, moved);
+    }
+    more(state, Field::Counts, ledger, 1);
+}
+
+/// The supply becomes what the state comes to.
+fn fit_supply(state: &mut PairState) {
+    let book = state.book().unwrap();
+    let sum = book.home_total() + book.far_total() + book.in_flight();
+    state.words[PairState::SUPPLY] = u64::try_from(sum).unwrap();
+}
+
+/// Paper 02, U2: numbers of both classes that agree in their low 12 bits, to full
+/// tables, alone and by one list.
+#[test]
+fn full_tables_of_alike_numbers() {
+    let number = |step: u64| step << 12 | 0x7ff;
+    let mut records = Vec::new();
+    for step in 0..256 {
+        let [over, back] = [Home, Far].map(|from| sending(from, 0, 0, number(step), 1));
+        records.extend([over, back, over.matching_arrival(), back.matching_arrival()]);
+    }
+    let (_, mut state) = PairState::open(&[1_000], &[1_000]);
+    let (_, mut guard) = HomeState::open(&[1_000], 1, 1_000);
+    let mut listed = state.clone();
+    for record in &records {
+        assert_eq!(state.check_record(&record.bytes()), Passed);
+        if record.ledger() == Home {
+            assert_eq!(guard.check_record(&record.bytes()), Passed);
+        }
+    }
+    let bytes: Vec<u8> = records.iter().flat_map(Record::bytes).collect();
+    assert_eq!(listed.check_list(&bytes), Passed);
+    assert!(listed == state);
+    assert_eq!(state.places_left(), (Passed, [0, 0]));
+    assert_eq!(state.figures(), (Passed, [1_000, 1_000, 0]));
+    assert_eq!(guard.places_left(), (Passed, 0));
+    for record in &records {
+        assert_eq!(state.check_record(&record.bytes()), refused(24));
+        if record.ledger() == Home {
+            assert_eq!(guard.check_record(&record.bytes()), refused(24));
+        }
+    }
+    let fresh = local(Home, 0, 0, number(256), 1).bytes();
+    assert_eq!(state.check_record(&fresh), refused(41));
+    assert_eq!(guard.check_record(&fresh), refused(41));
 }
 
 /// The calls in place and those by value, on a passed and a refused record,

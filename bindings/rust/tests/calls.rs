@@ -97,6 +97,26 @@ fn pair_validator_cases() {
     assert!(it.take_list(&[]).is_passed());
 }
 
+// On each ledger the numbers of arrivals are counted apart from those of locals and sendings.
+#[test]
+fn numbers_by_class() {
+    let mut it = pair();
+    assert!(it.take(&record(Kind::Sending, Ledger::Home, 0, 0, 7, 30)).is_passed());
+    assert!(it.take(&record(Kind::Local, Ledger::Far, 0, 0, 7, 5)).is_passed());
+    assert_eq!(it.take(&record(Kind::Sending, Ledger::Far, 0, 0, 7, 5)), refused(Refusal::NumberUsed, 0));
+    let arrival = record(Kind::Arrival, Ledger::Far, 0, 0, 7, 30);
+    assert!(it.take(&arrival).is_passed());
+    assert_eq!(it.take(&arrival), refused(Refusal::NumberUsed, 0));
+    assert_eq!(it.take(&record(Kind::Arrival, Ledger::Home, 0, 0, 7, 30)), refused(Refusal::NoSending, 0));
+
+    let mut it = home();
+    assert!(it.take(&local(0, 1, 7, 5)).is_passed());
+    let arrival = record(Kind::Arrival, Ledger::Home, 0, 1, 7, 5);
+    assert!(it.take(&arrival).is_passed());
+    assert_eq!(it.take(&arrival), refused(Refusal::NumberUsed, 0));
+    assert_eq!(it.take(&record(Kind::Sending, Ledger::Home, 0, 0, 7, 5)), refused(Refusal::NumberUsed, 0));
+}
+
 // Home has accounts 0 and 1, far has 0: of each kind the sender's account alone, the receiver's alone, and both.
 #[test]
 fn refusals_tell_the_account() {

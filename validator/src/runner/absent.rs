@@ -71,7 +71,7 @@ impl Sort {
             set_u64(&mut bytes, AMOUNT, MAX_AMOUNT);
         }
         if self.has(Beside::Number) {
-            let number = trader.used_number(record.ledger());
+            let number = trader.used_for(&record);
             set_u64(&mut bytes, NUMBER, number.unwrap_or(record.number));
         }
         if self.has(Beside::Verdict) {

@@ -6,7 +6,7 @@ use std::io::{self, Write};
 use super::build::{lawful_block, stake_bytes, Bytes, Opening};
 use super::families::faults::spoil_form;
 use super::rng::Rng;
-use super::trader::{Numbers, Trader};
+use super::trader::{Numbers, Sharing, Trader};
 use crate::journal::{BLOCK, FULL, LAST_BLOCK};
 use crate::record::{Kind, Ledger, Record, MAX_AMOUNT};
 use crate::rules::{Book, CAPACITY, MAX_ACCOUNTS};
@@ -44,6 +44,7 @@ impl Source {
         };
         let mut trader = Trader::new(opening, Numbers::Random, rng);
         trader.thrifty = true;
+        trader.sharing = Sharing::Often;
         Source {
             trader,
             fill,
@@ -118,7 +119,7 @@ impl Source {
 
     fn used_number(&mut self, ledger: Ledger) -> Bytes {
         let record = self.record(ledger);
-        let number = self.trader.used_number(ledger).unwrap_or(record.number);
+        let number = self.trader.used_for(&record).unwrap_or(record.number);
         Record { number, ..record }.bytes()
     }
 

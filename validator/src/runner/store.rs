@@ -15,8 +15,9 @@ use super::families::full_tables::{case_13, filled_journal, Filled};
 use super::families::honest::sample_records;
 use super::families::Sample;
 use super::rng::Rng;
+use super::stored_classes;
 use super::stored_long::Long;
-use super::trader::{Numbers, Trader};
+use super::trader::{Numbers, Sharing, Trader};
 use crate::journal::{seal, BLOCK, CHECK, FULL};
 use crate::listing::listing;
 use crate::record::Ledger::{self, Far, Home};
@@ -43,6 +44,7 @@ pub fn samples() -> Vec<Sample> {
     push_records(&mut samples);
     push_tables(&mut samples);
     push_long(&mut samples);
+    samples.extend(stored_classes::samples());
     samples
 }
 
@@ -96,7 +98,7 @@ fn whole_total() -> Vec<u8> {
     journal(&Opening::new(&[all], &[0]), &bytes)
 }
 
-/// The same number on both ledgers; a far local strands an arrival.
+/// The same number on both ledgers; a far local strands no arrival.
 fn same_number() -> Vec<u8> {
     let over = sending(Home, 0, 0, 7, 30);
     let back = sending(Far, 0, 1, 8, 5);
@@ -324,7 +326,8 @@ fn bad_verdicts() -> Vec<u8> {
     ])
 }
 
-/// A number is used by a local, a sending or an arrival alike.
+/// A number is used by a local or a sending alike, and apart from these by an
+/// arrival.
 fn used_numbers() -> Vec<u8> {
     let over = sending(Home, 0, 0, 2, 30);
     of_cases(&[
@@ -538,6 +541,7 @@ fn push_tables(samples: &mut Vec<Sample>) {
     let filled = Filled {
         home: 512,
         far: 512,
+        sharing: Sharing::BeforeU2,
     };
     let alike = Numbers::LowBitsAlike { base: 0, shift: 32 };
     let both = filled_journal(&mut Rng::new(41), alike, filled, 60);
@@ -548,8 +552,8 @@ fn push_tables(samples: &mut Vec<Sample>) {
     push(samples, "refusal_12_after_full_table", damaged);
 }
 
-/// Journals of 130 blocks and more. In each, one table fills while the other
-/// has places left to the end.
+/// Journals of 130 blocks and more from before U2. Both tables fill, or one does
+/// while the other has places left to the end.
 fn push_long(samples: &mut Vec<Sample>) {
     let length = 128 * FULL;
     let full_last_block = Long {
@@ -558,6 +562,7 @@ fn push_long(samples: &mut Vec<Sample>) {
         length,
         full_after: [length - 5 * FULL, length + 3 * FULL],
         first: Home,
+        sharing: Sharing::BeforeU2,
     };
     push(samples, "long_130_blocks", full_last_block.journal());
     let one_in_last_block = Long {
@@ -566,6 +571,7 @@ fn push_long(samples: &mut Vec<Sample>) {
         length: length + 1,
         full_after: [length + 3 * FULL, length - 5 * FULL],
         first: Far,
+        sharing: Sharing::BeforeU2,
     };
     push(samples, "long_131_blocks", one_in_last_block.journal());
     let length = 148 * FULL;
@@ -575,6 +581,7 @@ fn push_long(samples: &mut Vec<Sample>) {
         length,
         full_after: [length * 3 / 4, length + 3 * FULL],
         first: Home,
+        sharing: Sharing::BeforeU2,
     };
     let mut bad_last = longest.journal();
     *bad_last.last_mut().expect("a check") ^= 1;

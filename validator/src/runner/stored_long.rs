@@ -3,9 +3,9 @@
 //! last record is the arrival of what the first one sent.
 
 use super::build::Bytes;
-use super::calls::makers::{near_miss, spoilt};
+use super::calls::makers::{class_miss, near_miss, spoilt};
 use super::rng::Rng;
-use super::trader::{rich_opening, Numbers, Trader};
+use super::trader::{rich_opening, Numbers, Sharing, Trader};
 use crate::record::Ledger;
 use crate::rules::{Book, CAPACITY};
 
@@ -21,6 +21,7 @@ pub struct Long {
     /// The ledger of the first record. The other one, on which the last record
     /// arrives, is to have a place left.
     pub first: Ledger,
+    pub sharing: Sharing,
 }
 
 impl Long {
@@ -28,6 +29,7 @@ impl Long {
         let mut rng = Rng::new(self.seed);
         let opening = rich_opening(&mut rng);
         let mut trader = Trader::new(opening, self.numbers, rng);
+        trader.sharing = self.sharing;
         let sent = trader.lawful_sending(self.first).expect("credit");
         trader.hand_in(sent.bytes());
         // It is not to arrive before the end.
@@ -64,9 +66,12 @@ impl Long {
     }
 }
 
-/// A record with some faults, or one that comes near to a trap of the paper.
+/// A record with some faults, or one that comes near to a trap of the paper or to
+/// the numbers that are counted apart.
 fn mostly_refused(trader: &mut Trader, ledger: Ledger) -> Bytes {
-    if trader.rng.chance(1, 3) {
+    if trader.sharing == Sharing::Often && trader.rng.chance(1, 3) {
+        class_miss(trader, ledger)
+    } else if trader.rng.chance(1, 3) {
         near_miss(trader, ledger)
     } else {
         spoilt(trader, ledger)

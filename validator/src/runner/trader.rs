@@ -3,7 +3,7 @@
 
 use super::build::{self, arrival, local, sending, Bytes, Opening};
 use super::rng::Rng;
-use crate::record::{Kind, Ledger, Record, MAX_AMOUNT};
+use crate::record::{Counted, Kind, Ledger, Record, MAX_AMOUNT};
 use crate::rules::{Book, MAX_ACCOUNTS};
 use crate::running::RunningBook;
 
@@ -34,6 +34,15 @@ impl Numbers {
         }
     }
 
+    /// Some way of choosing numbers that are all different.
+    pub fn any_wide(rng: &mut Rng) -> Numbers {
+        match rng.below(3) {
+            0 => Numbers::Random,
+            1 => Numbers::Counting(rng.pick(&[0, u64::MAX - 20])),
+            _ => Numbers::colliding(rng),
+        }
+    }
+
     /// Numbers that agree in their low bits.
     pub fn colliding(rng: &mut Rng) -> Numbers {
         let random = rng.word();
@@ -50,6 +59,26 @@ impl Numbers {
             Numbers::Few(limit) => rng.below(limit),
             Numbers::LowBitsAlike { base, shift } => base.wrapping_add(counter << shift),
         }
+    }
+}
+
+/// Whether records of both classes that a ledger counts share numbers.
+#[derive(Clone, Copy, Debug, PartialEq, Eq)]
+pub enum Sharing {
+    /// Locals and sendings have fresh numbers.
+    Never,
+    /// They often have the number of another record.
+    Often,
+    /// They have fresh numbers, and the trader takes a number for used whatever
+    /// record has it. Stored journals from before U2 are made so; they are judged
+    /// by U2 all the same.
+    BeforeU2,
+}
+
+impl Sharing {
+    /// Often or never.
+    pub fn any(rng: &mut Rng) -> Sharing {
+        rng.pick(&[Sharing::Often, Sharing::Never])
     }
 }
 
@@ -70,6 +99,7 @@ pub struct Trader {
     counter: u64,
     /// Amounts are kept small, so that balances last.
     pub thrifty: bool,
+    pub sharing: Sharing,
 }
 
 impl Trader {
@@ -86,6 +116,7 @@ impl Trader {
             numbers,
             counter: 0,
             thrifty: false,
+            sharing: Sharing::Never,
         }
     }
 
@@ -102,7 +133,11 @@ impl Trader {
 
     /// As `hand_in`, without keeping the record.
     pub fn try_out(&mut self, bytes: &Bytes) -> u8 {
-        let answer = self.book.call(bytes).unwrap_or(0);
+        let answer = if self.refused_before_u2(bytes) {
+            24
+        } else {
+            self.book.call(bytes).unwrap_or(0)
+        };
         if let Some(record) = Record::read(bytes) {
             match answer {
                 0 => self.note_passed(record),
@@ -111,6 +146,21 @@ impl Trader {
             }
         }
         answer
+    }
+
+    /// Whether a trader from before U2 refuses a record for its number.
+    fn refused_before_u2(&self, bytes: &Bytes) -> bool {
+        self.sharing == Sharing::BeforeU2
+            && !matches!(self.book.judge(bytes), Some(21 | 22 | 51 | 23))
+            && Record::read(bytes).is_some_and(|record| self.number_used(&record))
+    }
+
+    /// Whether a record's number is used, as the trader sees it.
+    fn number_used(&self, record: &Record) -> bool {
+        if self.sharing == Sharing::BeforeU2 {
+            return self.book.number_met(record.ledger(), record.number);
+        }
+        self.book.number_used(record)
     }
 
     fn note_passed(&mut self, record: Record) {
@@ -156,22 +206,55 @@ impl Trader {
         for _ in 0..50 {
             let number = self.numbers.number(&mut self.rng, self.counter);
             self.counter += 1;
-            if !self.book.number_used(ledger, number) {
+            if !self.book.number_met(ledger, number) {
                 return number;
             }
         }
         loop {
             let number = self.rng.word();
-            if !self.book.number_used(ledger, number) {
+            if !self.book.number_met(ledger, number) {
                 return number;
             }
         }
+    }
+
+    /// A number for a local or sending: fresh, or one that another record has.
+    fn number(&mut self, ledger: Ledger) -> u64 {
+        let shared = self.sharing == Sharing::Often && self.rng.chance(2, 5);
+        shared
+            .then(|| self.shared_number(ledger, false))
+            .flatten()
+            .unwrap_or_else(|| self.fresh_number(ledger))
+    }
+
+    /// A number that a passed record of either ledger has, but none of this one
+    /// that is counted with arrivals, or with locals and sendings.
+    pub fn shared_number(&mut self, ledger: Ledger, arrival: bool) -> Option<u64> {
+        for _ in 0..4 {
+            let other = self.some_ledger();
+            let number = self.used_number(other)?;
+            if !self.book.counts(ledger, Counted { arrival, number }) {
+                return Some(number);
+            }
+        }
+        None
     }
 
     /// A number that a record passed on the ledger has, if there is one.
     pub fn used_number(&mut self, ledger: Ledger) -> Option<u64> {
         let passed = &self.passed[ledger.index()];
         (!passed.is_empty()).then(|| self.rng.pick(passed).number)
+    }
+
+    /// A number for which a record is refused, if there is one.
+    pub fn used_for(&mut self, record: &Record) -> Option<u64> {
+        let any = self.sharing == Sharing::BeforeU2;
+        let used: Vec<u64> = self.passed[record.ledger().index()]
+            .iter()
+            .filter(|passed| any || passed.takes() == record.takes())
+            .map(|passed| passed.number)
+            .collect();
+        (!used.is_empty()).then(|| self.rng.pick(&used))
     }
 
     fn rich_account(&mut self, ledger: Ledger) -> Option<u16> {
@@ -198,7 +281,7 @@ impl Trader {
     pub fn lawful_local(&mut self, ledger: Ledger) -> Option<Record> {
         let sender = self.rich_account(ledger)?;
         let receiver = self.account(ledger);
-        let number = self.fresh_number(ledger);
+        let number = self.number(ledger);
         let amount = self.some_amount(self.book.balance(ledger, sender));
         Some(local(ledger, sender, receiver, number, amount))
     }
@@ -207,7 +290,7 @@ impl Trader {
     pub fn lawful_sending(&mut self, ledger: Ledger) -> Option<Record> {
         let sender = self.rich_account(ledger)?;
         let receiver = self.account(ledger.other());
-        let number = self.fresh_number(ledger);
+        let number = self.number(ledger);
         let amount = self.some_amount(self.book.balance(ledger, sender));
         Some(sending(ledger, sender, receiver, number, amount))
     }
@@ -219,7 +302,7 @@ impl Trader {
             .iter()
             .map(Record::matching_arrival)
             .filter(|record| record.ledger() == ledger)
-            .filter(|record| !self.book.number_used(ledger, record.number))
+            .filter(|record| !self.number_used(record))
             .collect();
         (!open.is_empty()).then(|| self.rng.pick(&open))
     }

@@ -1,5 +1,5 @@
-//! Openings, records and lists for calls: honest trading, and each refusal and
-//! near miss of the traps that paper 01 lists.
+//! Openings, records and lists for calls: honest trading, each refusal, near
+//! misses of the traps that paper 01 lists and of the numbers that U2 counts.
 
 use crate::record::{Kind, Ledger, Record, MAX_AMOUNT, RECORD};
 use crate::rules::{Book, MAX_ACCOUNTS};
@@ -9,7 +9,7 @@ use crate::runner::build::{
 };
 use crate::runner::families::faults::{kinds, other_amount, some_faults, spoil, spoil_form};
 use crate::runner::rng::Rng;
-use crate::runner::trader::{any_opening, rich_opening, Numbers, Trader};
+use crate::runner::trader::{any_opening, rich_opening, Numbers, Sharing, Trader};
 use crate::states::HomeState;
 
 /// Bits from which on numbers differ while those below are alike.
@@ -58,6 +58,7 @@ pub fn trader(rng: &mut Rng, opening: Opening) -> Trader {
     let numbers = Numbers::any(rng);
     let mut trader = Trader::new(opening, numbers, Rng::new(rng.word()));
     trader.thrifty = rng.chance(1, 2);
+    trader.sharing = Sharing::any(rng);
     trader
 }
 
@@ -67,7 +68,7 @@ pub fn pair_record(trader: &mut Trader) -> Vec<u8> {
     match trader.rng.below(20) {
         0..=11 => lawful(trader, ledger).to_vec(),
         12..=14 => spoilt(trader, ledger).to_vec(),
-        15..=18 => near_miss(trader, ledger).to_vec(),
+        15..=18 => some_miss(trader, ledger).to_vec(),
         _ => other_length(trader, ledger),
     }
 }
@@ -79,7 +80,7 @@ pub fn home_record(trader: &mut Trader, state: &HomeState) -> Vec<u8> {
         0..=7 => lawful(trader, Ledger::Home).to_vec(),
         8..=11 => invented_arrival(trader, state).to_vec(),
         12 | 13 => spoilt(trader, Ledger::Home).to_vec(),
-        14..=16 => near_miss(trader, Ledger::Home).to_vec(),
+        14..=16 => some_miss(trader, Ledger::Home).to_vec(),
         17 => at_balance(trader, state).to_vec(),
         18 => far_record(trader).to_vec(),
         _ => other_length(trader, Ledger::Home),
@@ -122,6 +123,14 @@ fn other_length(trader: &mut Trader, ledger: Ledger) -> Vec<u8> {
     let length = trader.rng.pick(&[0, 1, any, 24, 25, 31, 33, 40, 64]);
     bytes.resize(length, 0);
     bytes
+}
+
+fn some_miss(trader: &mut Trader, ledger: Ledger) -> Bytes {
+    if trader.rng.chance(2, 5) {
+        class_miss(trader, ledger)
+    } else {
+        near_miss(trader, ledger)
+    }
 }
 
 /// A record that comes near to a trap of the paper.
@@ -231,6 +240,88 @@ fn bound_amount(trader: &mut Trader, ledger: Ledger) -> Record {
     }
 }
 
+/// A record under a number that its ledger, or the other one, has met.
+pub fn class_miss(trader: &mut Trader, ledger: Ledger) -> Bytes {
+    match trader.rng.below(6) {
+        0 => under_arrival(trader, ledger),
+        1 => arrival_again(trader, ledger),
+        2 => number_again(trader, ledger),
+        3 => stranding(trader, ledger),
+        4 => arrival_alike(trader, ledger),
+        _ => arrival_unsent(trader, ledger),
+    }
+}
+
+/// Some record passed on the ledger, an arrival or one of the others.
+fn some_passed(trader: &mut Trader, ledger: Ledger, arrival: bool) -> Option<Record> {
+    let alike: Vec<Record> = trader.passed[ledger.index()]
+        .iter()
+        .copied()
+        .filter(|passed| passed.kind.is_arrival() == arrival)
+        .collect();
+    (!alike.is_empty()).then(|| trader.rng.pick(&alike))
+}
+
+/// A local or sending that the rules would pass under a fresh number.
+fn local_or_sending(trader: &mut Trader, ledger: Ledger) -> Option<Record> {
+    if trader.rng.chance(1, 2) {
+        trader.lawful_local(ledger)
+    } else {
+        trader.lawful_sending(ledger)
+    }
+}
+
+/// A local or sending under the number of an arrival that passed here.
+fn under_arrival(trader: &mut Trader, ledger: Ledger) -> Bytes {
+    let passed = some_passed(trader, ledger, true);
+    match (passed, local_or_sending(trader, ledger)) {
+        (Some(Record { number, .. }), Some(record)) => Record { number, ..record }.bytes(),
+        _ => lawful(trader, ledger),
+    }
+}
+
+/// An arrival that passed here once more, as it was or with another amount.
+fn arrival_again(trader: &mut Trader, ledger: Ledger) -> Bytes {
+    let Some(mut record) = some_passed(trader, ledger, true) else {
+        return lawful(trader, ledger);
+    };
+    if trader.rng.chance(1, 3) {
+        record.amount = other_amount(record.amount, true);
+    }
+    record.bytes()
+}
+
+/// A local or sending under the number of one that passed here, alike or not.
+fn number_again(trader: &mut Trader, ledger: Ledger) -> Bytes {
+    let passed = some_passed(trader, ledger, false);
+    match (passed, local_or_sending(trader, ledger)) {
+        (Some(Record { number, .. }), Some(record)) => Record { number, ..record }.bytes(),
+        _ => lawful(trader, ledger),
+    }
+}
+
+/// An arrival with all that a record of the other ledger has which is mostly not
+/// its sending but a local or an arrival.
+fn arrival_alike(trader: &mut Trader, ledger: Ledger) -> Bytes {
+    let arrived = trader.rng.chance(2, 3);
+    let Some(other) = some_passed(trader, ledger.other(), arrived) else {
+        return lawful(trader, ledger);
+    };
+    let kind = Kind::Arrival(ledger);
+    Record { kind, ..other }.bytes()
+}
+
+/// An arrival under the number of a local or sending that passed here. Mostly
+/// nobody has sent it.
+fn arrival_unsent(trader: &mut Trader, ledger: Ledger) -> Bytes {
+    let Some(Record { number, .. }) = some_passed(trader, ledger, false) else {
+        return lawful(trader, ledger);
+    };
+    let sender = trader.account(ledger.other());
+    let receiver = trader.account(ledger);
+    arrival(ledger, sender, receiver, number, 1).bytes()
+}
+
 /// A local under the number of a sending whose arrival is due here.
 fn stranding(trader: &mut Trader, ledger: Ledger) -> Bytes {
     let due = trader.lawful_arrival(ledger);
@@ -273,7 +364,7 @@ fn byte_wrong(trader: &mut Trader, ledger: Ledger) -> Bytes {
 
 /// An arrival at home that the far ledger makes up, around the far due.
 fn invented_arrival(trader: &mut Trader, state: &HomeState) -> Bytes {
-    let number = trader.fresh_number(Ledger::Home);
+    let number = invented_number(trader);
     let sender = trader.account(Ledger::Far);
     let receiver = trader.account(Ledger::Home);
     let due = state.pool();
@@ -285,6 +376,15 @@ fn invented_arrival(trader: &mut Trader, state: &HomeState) -> Bytes {
         _ => trader.rng.magnitude(due.max(1)),
     };
     arrival(Ledger::Home, sender, receiver, number, amount).bytes()
+}
+
+/// A number for such an arrival: fresh, or one that a record of home has.
+fn invented_number(trader: &mut Trader) -> u64 {
+    let shared = trader.rng.chance(1, 3);
+    shared
+        .then(|| trader.shared_number(Ledger::Home, true))
+        .flatten()
+        .unwrap_or_else(|| trader.fresh_number(Ledger::Home))
 }
 
 /// A list for the guard in which the far due goes up by sendings and down to
@@ -303,7 +403,7 @@ pub fn due_list(trader: &mut Trader, state: &HomeState) -> Vec<u8> {
     let over = trader.rng.below(2);
     for amount in [first, (due - first).saturating_add(over)] {
         if amount > 0 {
-            let number = trader.rng.word();
+            let number = invented_number(trader);
             let sender = trader.account(Ledger::Far);
             let receiver = trader.account(Ledger::Home);
             bytes.extend(arrival(Ledger::Home, sender, receiver, number, amount).bytes());

@@ -9,7 +9,7 @@ use crate::runner::build::{
     set_u16, set_u64, Bytes, Opening, AMOUNT, NUMBER, RECEIVER, RESERVED, SENDER, VERDICT,
 };
 use crate::runner::rng::Rng;
-use crate::runner::trader::{any_opening, rich_opening, unequal_opening, Numbers, Trader};
+use crate::runner::trader::{any_opening, rich_opening, unequal_opening, Numbers, Sharing, Trader};
 
 /// The faults that a record's author can make, the last in the order of
 /// refusals first, so that an earlier one is laid over it.
@@ -89,7 +89,7 @@ pub fn other_amount(amount: u64, more: bool) -> u64 {
 }
 
 fn spoil_number(trader: &mut Trader, record: &Record, bytes: &mut Bytes) {
-    if let Some(number) = trader.used_number(record.ledger()) {
+    if let Some(number) = trader.used_for(record) {
         set_u64(bytes, NUMBER, number);
     }
 }
@@ -149,13 +149,18 @@ pub fn fixed(rng: &mut Rng) -> Vec<Sample> {
     samples
 }
 
-/// A trader that has sent both ways, its tables full or not.
+/// A trader that has sent both ways, some of it arrived, its tables full or not.
 fn sent_both_ways(rng: &mut Rng, opening: Opening, full: bool) -> Trader {
     let mut trader = Trader::new(opening, Numbers::Random, Rng::new(rng.word()));
     trader.thrifty = true;
     for ledger in Ledger::BOTH {
         for _ in 0..60 {
             hand_in_lawful(&mut trader, Kind::Sending(ledger));
+        }
+    }
+    for ledger in Ledger::BOTH {
+        for _ in 0..8 {
+            hand_in_lawful(&mut trader, Kind::Arrival(ledger));
         }
     }
     if full {
@@ -230,6 +235,7 @@ pub fn seeded(rng: &mut Rng) -> Vec<u8> {
     let length = rng.within(20, 150);
     let mut trader = Trader::new(opening, numbers, rng.clone());
     trader.thrifty = full || trader.rng.chance(1, 2);
+    trader.sharing = Sharing::any(&mut trader.rng);
     if full {
         fill_some(&mut trader);
     }

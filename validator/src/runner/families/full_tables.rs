@@ -1,20 +1,21 @@
 //! One ledger or both filled to 512 passed records, then records that the
 //! rules pass (41), used numbers (24), arrivals of sendings refused with 41
-//! (31) and others.
+//! (31) and others; by U2, tables in which both classes have the same numbers.
 
 use super::faults::{some_faults, spoil};
 use super::Sample;
-use crate::record::{Kind, Ledger};
+use crate::record::{Kind, Ledger, Record};
 use crate::rules::CAPACITY;
 use crate::runner::build::{local, Bytes, Opening};
 use crate::runner::rng::Rng;
-use crate::runner::trader::{rich_opening, Numbers, Trader};
+use crate::runner::trader::{rich_opening, Numbers, Sharing, Trader};
 
 /// Which ledgers are filled, and to how many records.
 #[derive(Clone, Copy)]
 pub struct Filled {
     pub home: usize,
     pub far: usize,
+    pub sharing: Sharing,
 }
 
 pub fn fixed(rng: &mut Rng) -> Vec<Sample> {
@@ -32,13 +33,44 @@ pub fn fixed(rng: &mut Rng) -> Vec<Sample> {
     for (way, numbers) in ways {
         for (home, far) in [(512, 0), (0, 512), (512, 512), (511, 512), (512, 511)] {
             let name = format!("{way}_{home}_{far}");
-            let filled = Filled { home, far };
+            let filled = Filled {
+                home,
+                far,
+                sharing: Sharing::Never,
+            };
             samples.push(Sample::new(name, filled_journal(rng, numbers, filled, 120)));
         }
     }
     samples.push(Sample::new("case_13_home", case_13(Ledger::Home)));
     samples.push(Sample::new("case_13_far", case_13(Ledger::Far)));
+    for (way, numbers) in ways {
+        let name = format!("both_classes_{way}");
+        samples.push(Sample::new(name, both_classes(rng, numbers)));
+    }
     samples
+}
+
+/// Both tables full of sendings and arrivals under the same 256 numbers, then
+/// records as on other full tables.
+fn both_classes(rng: &mut Rng, numbers: Numbers) -> Vec<u8> {
+    let mut trader = Trader::new(rich_opening(rng), numbers, Rng::new(rng.word()));
+    trader.thrifty = true;
+    for _ in 0..CAPACITY / 2 {
+        let over = trader.lawful_sending(Ledger::Home).expect("credit");
+        let Record { number, .. } = over;
+        let back = trader.lawful_sending(Ledger::Far).expect("credit");
+        let back = Record { number, ..back };
+        let mut arrivals = [over.matching_arrival(), back.matching_arrival()];
+        trader.rng.shuffle(&mut arrivals);
+        for record in [over, back].into_iter().chain(arrivals) {
+            trader.hand_in(record.bytes());
+        }
+    }
+    trader.sharing = Sharing::Often;
+    for _ in 0..120 {
+        go_on(&mut trader);
+    }
+    trader.journal()
 }
 
 fn alike(base: u64, shift: u32) -> Numbers {
@@ -60,6 +92,7 @@ pub fn filled_journal(rng: &mut Rng, numbers: Numbers, filled: Filled, length: u
     let opening = rich_opening(rng);
     let mut trader = Trader::new(opening, numbers, Rng::new(rng.word()));
     trader.thrifty = true;
+    trader.sharing = filled.sharing;
     send_both_ways(&mut trader);
     trader.fill(Ledger::Home, filled.home);
     trader.fill(Ledger::Far, filled.far);
@@ -113,9 +146,10 @@ fn use_number_again(trader: &mut Trader, ledger: Ledger) {
     let kind = trader
         .rng
         .pick(&[Kind::Local(ledger), Kind::Sending(ledger)]);
-    let record = trader.lawful_of(kind);
-    let number = trader.used_number(ledger);
-    if let (Some(mut record), Some(number)) = (record, number) {
+    let Some(mut record) = trader.lawful_of(kind) else {
+        return;
+    };
+    if let Some(number) = trader.used_number(ledger) {
         record.number = number;
         trader.hand_in(record.bytes());
     }
@@ -131,6 +165,7 @@ pub fn seeded(rng: &mut Rng) -> Vec<u8> {
     let filled = Filled {
         home: rng.pick(&counts),
         far: rng.pick(&counts),
+        sharing: Sharing::any(rng),
     };
     let length = rng.within(30, 400) as usize;
     filled_journal(rng, numbers, filled, length)

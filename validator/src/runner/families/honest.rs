@@ -4,7 +4,7 @@ use super::Sample;
 use crate::record::{Ledger, MAX_AMOUNT};
 use crate::runner::build::{arrival, journal, local, sending, Bytes, Opening};
 use crate::runner::rng::Rng;
-use crate::runner::trader::{any_opening, Numbers, Trader};
+use crate::runner::trader::{any_opening, Numbers, Sharing, Trader};
 
 /// The records of the paper's listing.
 pub fn sample_records() -> Vec<Bytes> {
@@ -60,6 +60,7 @@ pub fn seeded(rng: &mut Rng) -> Vec<u8> {
     };
     let mut trader = Trader::new(opening, numbers, rng.clone());
     trader.thrifty = trader.rng.chance(1, 3);
+    trader.sharing = Sharing::any(&mut trader.rng);
     for _ in 0..length {
         let ledger = trader.some_ledger();
         let aimless = trader.rng.chance(1, 15);

@@ -2,17 +2,20 @@
 //! sending in all but one thing, number 0, self transfers, the same number on
 //! both ledgers, numbers that agree in some of their bits, amounts and
 //! accounts at their bounds, every value of each byte that has few lawful ones.
+//! By U2, every list of five records of one number, and numbers that both
+//! classes of a ledger have.
 
-use super::faults::other_amount;
+use super::faults::{kinds, other_amount};
 use super::Sample;
-use crate::record::{Ledger, Record, MAX_AMOUNT};
+use crate::record::{Kind, Ledger, Record, MAX_AMOUNT};
 use crate::rules::Book;
 use crate::runner::build::{
     arrival, local, sending, set_u16, set_u64, Bytes, Opening, AMOUNT, NUMBER, RECEIVER, RESERVED,
     SENDER, VERDICT,
 };
+use crate::runner::calls::makers::{class_miss, lawful};
 use crate::runner::rng::Rng;
-use crate::runner::trader::{rich_opening, unequal_opening, Numbers, Trader};
+use crate::runner::trader::{rich_opening, unequal_opening, Numbers, Sharing, Trader};
 
 const NUMBERS: [u64; 7] = [0, 1, 7, 255, 1 << 32, 1 << 63, u64::MAX];
 const BITS: [u32; 7] = [4, 8, 11, 12, 16, 32, 63];
@@ -47,6 +50,12 @@ pub fn fixed(rng: &mut Rng) -> Vec<Sample> {
         let name = format!("accounts_{larger:?}_larger").to_lowercase();
         samples.push(Sample::new(name, accounts_unequal(rng, larger)));
     }
+    for (place, first) in every_kind().into_iter().enumerate() {
+        for (next, second) in every_kind().into_iter().enumerate() {
+            let name = format!("one_number_{place}_{next}");
+            samples.push(Sample::new(name, one_number(rng, [first, second])));
+        }
+    }
     samples
 }
 
@@ -54,7 +63,8 @@ pub fn seeded(rng: &mut Rng) -> Vec<u8> {
     let from = rng.pick(&Ledger::BOTH);
     let random = rng.word();
     let number = rng.pick(&[0, 1, random, random, u64::MAX]);
-    match rng.below(10) {
+    match rng.below(13) {
+        10..=12 => both_classes(rng),
         0..=2 => near_arrivals(rng, from, number),
         3 => same_number(rng, from, number),
         4 => {
@@ -136,7 +146,7 @@ fn lookalikes(trader: &mut Trader, right: &Record) -> Vec<Bytes> {
 }
 
 /// One number used on both ledgers, each pair of kinds, either ledger first:
-/// lawful, and it may strand an arrival.
+/// lawful, and it strands no arrival.
 fn same_number(rng: &mut Rng, first: Ledger, number: u64) -> Vec<u8> {
     let mut trader = trader(rng);
     trader.thrifty = true;
@@ -171,6 +181,52 @@ fn used(trader: &mut Trader, ledger: Ledger, crossing: bool, number: u64) -> Rec
         number,
         ..record.expect("credit")
     }
+}
+
+/// Each kind on each ledger.
+fn every_kind() -> [Kind; 6] {
+    let [[a, b, c], [d, e, f]] = Ledger::BOTH.map(kinds);
+    [a, b, c, d, e, f]
+}
+
+/// Every list of five records of one number that begins with these two kinds,
+/// each list under a number of its own. All else is alike, so that one record
+/// could be taken for another.
+fn one_number(rng: &mut Rng, first: [Kind; 2]) -> Vec<u8> {
+    let opening = Opening::new(&[100_000], &[100_000]);
+    let numbers = Numbers::any_wide(rng);
+    let mut trader = Trader::new(opening, numbers, Rng::new(rng.word()));
+    let alphabet = every_kind();
+    for list in 0..alphabet.len().pow(3) {
+        let number = trader.fresh_number(Ledger::Home);
+        let rest = [list / 36, list / 6 % 6, list % 6].map(|letter| alphabet[letter]);
+        for kind in first.into_iter().chain(rest) {
+            let record = Record {
+                kind,
+                ..local(Ledger::Home, 0, 0, number, 1)
+            };
+            trader.hand_in(record.bytes());
+        }
+    }
+    trader.journal()
+}
+
+/// Trading in which numbers are often those of other records.
+fn both_classes(rng: &mut Rng) -> Vec<u8> {
+    let mut trader = trader(rng);
+    trader.numbers = Numbers::any(rng);
+    trader.sharing = Sharing::Often;
+    trader.thrifty = true;
+    for _ in 0..rng.within(40, 160) {
+        let ledger = trader.some_ledger();
+        let bytes = if trader.rng.chance(1, 2) {
+            class_miss(&mut trader, ledger)
+        } else {
+            lawful(&mut trader, ledger)
+        };
+        trader.hand_in(bytes);
+    }
+    trader.journal()
 }
 
 /// Numbers that agree in their low or high bits, as locals, sendings and

@@ -3,8 +3,10 @@
 //! four records that pass one after the other, one journal brings them to pass
 //! and hands in, at each state reached, every record of the alphabet that is
 //! refused there. A refused record leaves the state as it was, so this decides
-//! every list of up to four records. In larger worlds only one order of those
-//! that pass is gone through for each state.
+//! every list of up to four records; by U2, also those in which a ledger has an
+//! arrival and another record of one number. In larger worlds, and in two others
+//! unless the whole is asked for, only one order of those that pass is gone through
+//! for each state.
 
 use std::collections::HashSet;
 
@@ -39,10 +41,11 @@ pub struct SmallWorlds {
 
 impl SmallWorlds {
     pub fn new(whole: bool) -> SmallWorlds {
+        let first = if whole { 2 } else { 1 };
         let mut worlds = vec![
             World::new(&[2], &[1], &[0, 9], 3, whole, true),
-            World::new(&[3], &[0], &[0, u64::MAX], 3, whole, true),
-            World::new(&[2, 1], &[1], &[0, 1], 2, whole, whole),
+            World::new(&[3], &[0], &[0, u64::MAX], 3, whole, whole),
+            World::new(&[first, 1], &[1], &[0, 1], 2, whole, whole),
         ];
         if whole {
             worlds.push(World::new(&[3], &[3], &[0, 1, 2], 3, true, false));

@@ -44,11 +44,17 @@ pub fn scenario<C: Checker>(both: &mut Both, rng: &mut Rng) {
     }
 }
 
-/// A state with some held records.
+/// A state with some held records, an arrival on each ledger among them.
 fn base<C: Checker>(both: &mut Both, rng: &mut Rng, larger: Ledger) -> Reached<C> {
     let opening = unequal_opening(rng, larger);
     let targets = [rng.within(8, 30) as usize, rng.within(8, 30) as usize];
-    filled_from(both, rng, opening, targets)
+    let mut base = filled_from::<C>(both, rng, opening, targets);
+    let crossings = Ledger::BOTH.map(|from| {
+        let sent = base.trader.lawful_sending(from).expect("credit");
+        [sent, sent.matching_arrival()]
+    });
+    base.hand_in_list(both, &crossings.concat());
+    base
 }
 
 /// A state with full tables.
@@ -107,9 +113,8 @@ fn forge<S: Fields>(rng: &mut Rng, state: &mut S, step: u64) {
         return;
     };
     let other = (kind != LOCAL && S::LEDGERS == 2)
-        .then(|| under_number(state, entry, 1 - ledger))
-        .flatten()
-        .filter(|&other| state.get(Field::Kinds, other) == SENDING + ARRIVAL - kind);
+        .then(|| under_number(state, entry, 1 - ledger, SENDING + ARRIVAL - kind))
+        .flatten();
     for &field in fields {
         let there = match field {
             Field::Senders => kind == ARRIVAL,

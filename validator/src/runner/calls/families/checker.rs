@@ -2,7 +2,7 @@
 //! both in the same way.
 
 use crate::answer::Answer;
-use crate::record::{Ledger, RECORD};
+use crate::record::{Ledger, Record, RECORD};
 use crate::rules::{Book, CAPACITY};
 use crate::runner::build::{Bytes, Opening};
 use crate::runner::calls::fields::Fields;
@@ -187,6 +187,17 @@ impl<C: Checker> Reached<C> {
             self.trader.try_out(&record);
         }
         answer
+    }
+
+    /// Hands in those of some records that the checker sees as one list that
+    /// passes. The trader goes along with all.
+    pub fn hand_in_list(&mut self, both: &mut Both, records: &[Record]) {
+        let seen = records.iter().filter(|record| C::sees(record.ledger()));
+        let bytes: Vec<u8> = seen.flat_map(Record::bytes).collect();
+        self.state = C::check_list(both, &self.state, &bytes).1;
+        for record in records {
+            self.trader.try_out(&record.bytes());
+        }
     }
 
     /// Some record.

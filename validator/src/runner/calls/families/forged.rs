@@ -62,7 +62,7 @@ pub(super) fn steps(scenario: u64, length: u64) -> Range<u64> {
 }
 
 /// A call on a forged state, and another where it goes on.
-fn call<C: Checker>(both: &mut Both, rng: &mut Rng, forged: &mut Reached<C>) {
+pub(super) fn call<C: Checker>(both: &mut Both, rng: &mut Rng, forged: &mut Reached<C>) {
     match rng.below(12) {
         0..=4 => {
             let bytes = C::lawful(&mut forged.trader);
@@ -413,7 +413,9 @@ fn crossing_altered<S: Fields>(rng: &mut Rng, state: &mut S) {
         Field::Senders | Field::Receivers => rng.below(4),
         _ => other_value(rng, old),
     };
-    let sending = under_number(state, arrival, (1 - ledger) % S::LEDGERS);
+    let sending = (S::LEDGERS == 2)
+        .then(|| under_number(state, arrival, 1 - ledger, SENDING))
+        .flatten();
     match (sending, rng.below(4)) {
         (Some(sending), 0) => state.set(field, sending, value),
         (Some(sending), 1..) => {
@@ -424,11 +426,17 @@ fn crossing_altered<S: Fields>(rng: &mut Rng, state: &mut S) {
     }
 }
 
-/// The entry of a ledger's held record that has the number of this one.
-pub(super) fn under_number<S: Fields>(state: &S, held: usize, ledger: usize) -> Option<usize> {
+/// The entry of a ledger's held record of a kind that has the number of this one.
+pub(super) fn under_number<S: Fields>(
+    state: &S,
+    held: usize,
+    ledger: usize,
+    kind: u64,
+) -> Option<usize> {
     let number = state.get(Field::Numbers, held);
     (0..count(state, ledger))
         .map(|place| ledger * CAPACITY + place)
+        .filter(|&entry| state.get(Field::Kinds, entry) == kind)
         .find(|&entry| entry != held && state.get(Field::Numbers, entry) == number)
 }
 

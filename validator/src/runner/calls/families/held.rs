@@ -172,7 +172,7 @@ fn some_crossing<S: Fields>(rng: &mut Rng, state: &mut S) -> Option<usize> {
         held_entry(rng, state, ledger, ARRIVAL).or_else(|| add_crossing(rng, state, ledger))?;
     match S::LEDGERS {
         1 => Some(arrival),
-        _ => under_number(state, arrival, 1 - ledger),
+        _ => under_number(state, arrival, 1 - ledger, SENDING),
     }
 }
 
@@ -190,7 +190,7 @@ fn add_crossing<S: Fields>(rng: &mut Rng, state: &mut S, ledger: usize) -> Optio
 }
 
 /// Adds a held record. Its entry.
-fn add<S: Fields>(state: &mut S, record: &Record) -> usize {
+pub(super) fn add<S: Fields>(state: &mut S, record: &Record) -> usize {
     let ledger = record.ledger().index();
     let place = count(state, ledger);
     put(state, ledger * CAPACITY + place, record);
@@ -199,7 +199,7 @@ fn add<S: Fields>(state: &mut S, record: &Record) -> usize {
 }
 
 /// The supply becomes what balances, far due and in flight come to, if it can.
-fn mend<S: Fields>(state: &mut S) {
+pub(super) fn mend<S: Fields>(state: &mut S) {
     let balances = (0..S::length(Field::Balances)).map(|at| state.get(Field::Balances, at));
     let mut sum: u128 = balances.map(u128::from).sum();
     sum += u128::from(state.get(Field::Pool, 0));

@@ -8,6 +8,7 @@ pub mod checker;
 pub mod forged;
 pub mod held;
 pub mod looks;
+pub mod numbers;
 pub mod plain;
 pub mod runs;
 pub mod sweeps;
@@ -18,13 +19,13 @@ use checker::{Home, Pair};
 
 pub struct Family {
     pub name: &'static str,
-    /// Its share of the calls, in hundredths.
+    /// Its share of the calls, beside those of the others.
     pub share: u64,
     /// Makes the calls of one scenario.
     pub run: fn(&mut Both, &mut Rng),
 }
 
-pub const FAMILIES: [Family; 13] = [
+pub const FAMILIES: [Family; 15] = [
     family("pair_runs", 17, runs::scenario::<Pair>),
     family("home_runs", 13, runs::scenario::<Home>),
     family("pair_forged", 22, forged::scenario::<Pair>),
@@ -36,8 +37,10 @@ pub const FAMILIES: [Family; 13] = [
     family("records_read", 2, plain::records_read),
     family("records_encoded", 2, plain::records_encoded),
     family("sha256", 1, plain::sha256),
-    family("pair_accounts", 6, accounts::scenario::<Pair>),
-    family("home_accounts", 4, accounts::scenario::<Home>),
+    family("pair_accounts", 7, accounts::scenario::<Pair>),
+    family("home_accounts", 5, accounts::scenario::<Home>),
+    family("pair_numbers", 8, numbers::scenario::<Pair>),
+    family("home_numbers", 5, numbers::scenario::<Home>),
 ];
 
 const fn family(name: &'static str, share: u64, run: fn(&mut Both, &mut Rng)) -> Family {
