@@ -54,7 +54,8 @@ module _ (s : List ℕ) (r : Record) where
       → senders ≡ accountsOf (pairViewOf s .pair) (senderLedger (r .kind))
       → receivers ≡ accountsOf (pairViewOf s .pair) (receiverLedger (r .kind))
       → last ≡ lastRefusal (pairViewOf s .pair) r (r .kind) → full ≡ refuse (leb capacity (countOn s l)) 41 0 → later ≡ orElse last full
-      → taken ≡ anyAt (usedAt (isReceiving (r .kind)) (r .number) s (recordsStart l)) 0 (countOn s l) → n ≡ firstBy senders receivers r taken later
+      → taken ≡ anyAt (usedAt (isReceiving (r .kind)) (r .number) s (recordsStart l)) 0 (countOn s l)
+      → n ≡ firstBy senders receivers r taken later
       → n ≡ pairJudge capacity (pairViewOf s .pair) (Read r)
   unfolding judge roomRefusal ledgerIn
   judge-by {l} eb es ev el eu ea et h =

@@ -1,7 +1,7 @@
 -- Laws of lists, tests and sums over places: what a loop at place i before an end cites, and how they meet the rules' lists.
 -- Assumes nothing.
-use Rattle.wire.proofs.Prelude.{Bool, List, [], _&&_, _++_, _+_, _-_, _<_, _||_, _∙_, _∷_, _≡_, _≤_, add-one, ap, arith, cond, eq-eqb}
-use Rattle.wire.proofs.Prelude.{eq-or-lt-of-le, eqb, false, length, ne-eqb, not, or-assoc, or-false, refl, suc, sym, true, zero, ℕ, ⊎-elim}
+use Rattle.wire.proofs.Prelude.{Bool, List, [], _&&_, _++_, _+_, _-_, _<_, _||_, _∙_, _∷_, _≡_, _≤_, add-one, ap, arith, cond}
+use Rattle.wire.proofs.Prelude.{eq-or-lt-of-le, false, length, not, or-assoc, or-false, refl, suc, sym, true, zero, ℕ, ⊎-elim}
 use Rattle.places.specs.OverPlaces.{allAt, anyAt, apartAt, listAt, sumAt}
 use Rattle.rules.proofs.Lists.{never-both-tests, or-right}
 use Rattle.rules.specs.Lists.{all, any, sum}

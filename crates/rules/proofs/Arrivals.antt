@@ -114,5 +114,6 @@ nothing-stranded capacity v ok l r fly =
       },
       rw twice
           (among-any (matches e) r own (fly .passed)
-          (matched-matches e r (record { sending = ap isSending (fly .sends); number = refl; sender = refl; receiver = refl; amount = refl }))),
+          (matched-matches e r
+          (record { sending = ap isSending (fly .sends); number = refl; sender = refl; receiver = refl; amount = refl }))),
     )

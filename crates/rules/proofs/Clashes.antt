@@ -1,5 +1,5 @@
 -- Laws of clashing records. Only those of the first section open the definition of `clashes`. Assumes nothing.
-use Rattle.wire.proofs.Prelude.{Bool, List, [], _&&_, _++_, _||_, _∙_, _∷_, _≡_, ap, ap₂, dichotomy, eq-eqb, eqb, eqb-false, eqb-true}
+use Rattle.wire.proofs.Prelude.{Bool, List, [], _&&_, _++_, _||_, _∙_, _∷_, _≡_, ap₂, dichotomy, eq-eqb, eqb, eqb-false, eqb-true}
 use Rattle.wire.proofs.Prelude.{false, inl, inr, ne-eqb, not, not-true, refl, sym, true, ℕ}
 use Rattle.rules.proofs.Lists.{any-snoc, or-neither}
 use Rattle.rules.specs.Lists.{any, sameTruth}

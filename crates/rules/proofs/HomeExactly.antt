@@ -1,7 +1,7 @@
 -- Demand 3, second half, whole: a call of the home validator passes exactly when some far list makes it possible.
 -- Assumes nothing.
 use Rattle.wire.proofs.Prelude.{List, [], _*_, _++_, _+_, _-_, _/_, _<_, _^_, _∙_, _∷_, _≡_, _≤_, arith, drop, eqb, eqb-false, false, getD}
-use Rattle.wire.proofs.Prelude.{leb-true, length, length-append, length-map, ltb-true, map, refl, subst, suc, sym, zero, ℕ}
+use Rattle.wire.proofs.Prelude.{leb-true, length, length-append, length-map, ltb-true, map, refl, subst, sym, ℕ}
 use Rattle.ledgers.specs.Limits.{accountLimit, maxAmount}
 use Rattle.rules.proofs.Clashes.{used}
 use Rattle.rules.proofs.FarList.{gather}

@@ -81,8 +81,11 @@ flight-unused (x ∷ xs) ys r h =
     omega (arith, flight-head ys r x (u .0), flight-unused xs ys r (u .1))
 
 -- a sending that clashes with none of a list is the only one with its number
-sends-alone : (x : Record) (xs : List Record) → isSending (x .kind) ≡ true → any (clashes x) xs ≡ false → any (sends (x .number)) xs ≡ false
-sends-alone x xs q h = sends-unused (x .number) xs (ap (λ (t : Bool). used t (x .number) xs) (sym (sent-not (x .kind) q)) ∙ sym (clash-used x xs) ∙ h)
+sends-alone : (x : Record) (xs : List Record) → isSending (x .kind) ≡ true → any (clashes x) xs ≡ false
+    → any (sends (x .number)) xs ≡ false
+sends-alone x xs q h =
+    sends-unused (x .number) xs
+    (ap (λ (t : Bool). used t (x .number) xs) (sym (sent-not (x .kind) q)) ∙ sym (clash-used x xs) ∙ h)
 
 -- an arrival takes its sending out of the flight
 flight-receiving : (xs ys : List Record) (r : Record) → isReceiving (r .kind) ≡ true → Distinct xs → any (matches r) xs ≡ true

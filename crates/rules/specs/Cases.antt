@@ -236,7 +236,8 @@ classRows =
     ∷ refusalRow 0 (good (Sending Far) 0 0 7 1 ∷ []) (good (Local Far) 0 0 7 1) 24
     ∷ refusalRow 0 (good (Sending Far) 0 0 7 1 ∷ []) (good (Sending Far) 0 1 7 1) 24
     ∷ refusalRow 0 (good (Sending Far) 0 0 7 1 ∷ good (Receiving Home) 0 0 7 1 ∷ []) (good (Receiving Home) 0 0 7 1) 24
-    ∷ refusalRow 0 (good (Sending Home) 0 0 7 1 ∷ good (Receiving Far) 0 0 7 1 ∷ good (Local Far) 0 0 7 1 ∷ []) (good (Receiving Far) 0 0 7 1) 24
+    ∷ refusalRow 0 (good (Sending Home) 0 0 7 1 ∷ good (Receiving Far) 0 0 7 1 ∷ good (Local Far) 0 0 7 1 ∷ [])
+    (good (Receiving Far) 0 0 7 1) 24
     ∷ homeRow 0 (good (Local Home) 0 0 7 1 ∷ []) (good (Receiving Home) 0 0 7 20) 0
     ∷ homeRow 0 (good (Sending Home) 0 0 7 1 ∷ []) (good (Receiving Home) 0 0 7 21) 0
     ∷ homeRow 0 (good (Receiving Home) 0 0 7 1 ∷ []) (good (Local Home) 0 0 7 101) 0

@@ -44,5 +44,6 @@ pub judge-spec : {M : Type 1} → statement M
 judge-spec = tie.close (tie.spec
     (λ c. let o = c .before .before .before in omega (arith, sound-of (o .args .s .now) (o .pre .accepted) .long))
     (λ c κs. search needs) (λ c κs. search needs) (λ c κs. search needs) (λ c κs. search needs) (λ c κs. search needs)
-    (λ c κs. search needs) (λ c κs. search needs) (λ c κs. search needs) (λ c κs. search needs) (λ c κs. search needs) is-used-requires (λ c κs. search needs)
+    (λ c κs. search needs) (λ c κs. search needs) (λ c κs. search needs) (λ c κs. search needs) (λ c κs. search needs)
+    is-used-requires (λ c κs. search needs)
     (λ c κs. search needs) (λ c κs. search needs) returns)

@@ -188,5 +188,6 @@ returns-3 c =
 
 pub hold-indexed-spec : {M : Type 1} → statement M
 hold-indexed-spec = tie.close (tie.spec Inv-loop μ-loop (λ c κs. search needs) (λ c κs. search needs) (λ c κs. search needs) loop-holds
-    words-at-requires may-hold-requires same-length returns (λ c κs. search needs) add-if-unused-requires same-length-2 returns-2 (λ c. search needs)
+    words-at-requires may-hold-requires same-length returns (λ c κs. search needs) add-if-unused-requires same-length-2
+    returns-2 (λ c. search needs)
     (λ c. search needs) loop-again same-length-3 returns-3)

@@ -16,16 +16,19 @@ loop-holds : tie.Need-loop-holds Inv-loop μ-loop
 loop-holds c =
     let o = c .before .before .before .before .before in
     let a = o .args in
+    let has = used-numbered (a .arrival) (a .x) (a .words .now) (a .from) in
     let low = c .before .before .low-bits in
-    walk-first (a .words .now) (a .from) (a .index .now) (a .base) (a .n) (o .pre .2) _ (a .x) (used-numbered (a .arrival) (a .x) (a .words .now) (a .from)) _ (low .result) (low .ensures) (c .as-index .ensures)
+    walk-first (a .words .now) (a .from) (a .index .now) (a .base) (a .n) (o .pre .2) _ (a .x) has _
+    (low .result) (low .ensures) (c .as-index .ensures)
 
 returns : tie.Need-returns Inv-loop μ-loop
 returns c =
     let o = c .before .before .before .before .before .before .before .before .before in
     let a = o .args in
+    let has = used-numbered (a .arrival) (a .x) (a .words .now) (a .from) in
     let l = c .before .before .before .loop in
-    sym (walk-found (a .words .now) (a .from) (a .index .now) (a .base) (a .n) (o .pre .2) _ (a .x) (used-numbered (a .arrival) (a .x) (a .words .now) (a .from)) (l .at) (l .inv) (c .before .before .loop-test .taken) (sym (c .before .used-at
-    .ensures) ∙ c .if1 .taken))
+    sym (walk-found (a .words .now) (a .from) (a .index .now) (a .base) (a .n) (o .pre .2) _ (a .x) has (l .at) (l .inv)
+    (c .before .before .loop-test .taken) (sym (c .before .used-at .ensures) ∙ c .if1 .taken))
 
 loop-less : tie.Need-loop-less Inv-loop μ-loop
 loop-less c =
@@ -33,7 +36,9 @@ loop-less c =
     let l = t .before .loop in
     let o = t .before .before .before .before .before .before .before in
     let a = o .args in
-    walk-lower (a .words .now) (a .from) (a .index .now) (a .base) (a .n) (o .pre .2) _ (a .x) (used-numbered (a .arrival) (a .x) (a .words .now) (a .from)) (l .at) (l .inv) _ (t .loop-test .taken) (c .as-index2 .ensures)
+    let has = used-numbered (a .arrival) (a .x) (a .words .now) (a .from) in
+    walk-lower (a .words .now) (a .from) (a .index .now) (a .base) (a .n) (o .pre .2) _ (a .x) has (l .at) (l .inv) _
+    (t .loop-test .taken) (c .as-index2 .ensures)
 
 loop-again : tie.Need-loop-again Inv-loop μ-loop
 loop-again c =
@@ -41,15 +46,18 @@ loop-again c =
     let l = t .before .loop in
     let o = t .before .before .before .before .before .before .before in
     let a = o .args in
-    walk-next (a .words .now) (a .from) (a .index .now) (a .base) (a .n) (o .pre .2) _ (a .x) (used-numbered (a .arrival) (a .x) (a .words .now) (a .from)) (l .at) (l .inv) _ (t .loop-test .taken) (sym (c .before .before .before .before .used-at
-    .ensures) ∙ c .before .before .before .if1 .left) (c .as-index2 .ensures)
+    let has = used-numbered (a .arrival) (a .x) (a .words .now) (a .from) in
+    walk-next (a .words .now) (a .from) (a .index .now) (a .base) (a .n) (o .pre .2) _ (a .x) has (l .at) (l .inv) _
+    (t .loop-test .taken) (sym (c .before .before .before .before .used-at .ensures) ∙ c .before .before .before .if1 .left)
+    (c .as-index2 .ensures)
 
 returns-3 : tie.Need-returns-3 Inv-loop μ-loop
 returns-3 c =
     let o = c .before .before .before .before .before .before .before in
     let a = o .args in
+    let has = used-numbered (a .arrival) (a .x) (a .words .now) (a .from) in
     let l = c .before .loop in
-    sym (walk-end (a .words .now) (a .from) (a .index .now) (a .base) (a .n) (o .pre .2) _ (a .x) (used-numbered (a .arrival) (a .x) (a .words .now) (a .from)) (l .at) (l .inv) (omega arith))
+    sym (walk-end (a .words .now) (a .from) (a .index .now) (a .base) (a .n) (o .pre .2) _ (a .x) has (l .at) (l .inv) (omega arith))
 
 pub walked-spec : {M : Type 1} → statement M
 walked-spec = tie.close (tie.spec Inv-loop μ-loop (λ c κs. search needs) (λ c. search needs) (λ c. search needs) (λ c. search needs)
