@@ -154,7 +154,7 @@ enum moatbetony_refusal {
     MOATBETONY_REFUSED_RECORD_FORM = 21,
     MOATBETONY_REFUSED_ACCOUNT = 22, /* the sender's account; of a balance the account asked for */
     MOATBETONY_REFUSED_VERDICT = 23,
-    MOATBETONY_REFUSED_NUMBER_USED = 24, /* by an arrival, of an arrival; by a local or sending, of these */
+    MOATBETONY_REFUSED_NUMBER_USED = 24, /* in its class: arrivals, or locals and sendings */
     MOATBETONY_REFUSED_BALANCE = 25,
     /* by the far ledger */
     MOATBETONY_REFUSED_NO_SENDING = 31,
@@ -308,8 +308,7 @@ uint32_t moatbetony_state_version(void);
 /* ## The pair validator
    Refusals of a record, in order: 3, 21, 22, 51, 23, 24, then 25 (local, sending) or 31 (arrival), then 41. 22 says that the sender's
    account is not open on its ledger, 51 that the sender's is and the receiver's is not: moatbetony_kind says whose ledger is which. 24
-   says that on the record's ledger an arrival has passed with the arrival's number, or with that of a local or sending a local or
-   sending: the one class does not use up the numbers of the other. */
+   says that a record of its class has passed on its ledger under its number: arrivals are one class, locals and sendings the other. */
 
 /* Opens with the balances of each ledger, one for each account from 0. Answers 1, 2, in this order, place 0; beside a refusal stands
    the state of zeros, which every call refuses with 3. */

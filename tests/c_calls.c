@@ -623,7 +623,6 @@ static void pair_numbers(void)
     forged = s;
     forged.records[0][2] = s.records[0][0];
     forged.counts[0] = 3;
-    forged.supply += 30;
     pair_forged(&forged, __LINE__);
 }
 

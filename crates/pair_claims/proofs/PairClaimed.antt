@@ -17,7 +17,7 @@ use Rattle.pair_validator.specs.State.{pairChecker, pairOpenedState, pairViewOf
 use Rattle.pair_validator.specs.declared.PairValidator.{PairValidator}
 use Rattle.records.specs.Records.{encoding, reading}
 use Rattle.rules.proofs.Accounts.{held-open, pair-tells}
-use Rattle.rules.proofs.Arrivals.{nothing-stranded}
+use Rattle.rules.proofs.Arrivals.{flying-readable, nothing-stranded}
 use Rattle.rules.proofs.ListCalls.{lists-in-turn}
 use Rattle.rules.proofs.NeverThree.{never-3, pair-never-3}
 use Rattle.rules.proofs.PairAccepted.{accepts-facts}
@@ -129,10 +129,13 @@ pair-held-accounts-open s a l =
 -- nothing is stranded
 pub pair-nothing-stranded : PairNothingStranded
 unfolding PairNothingStranded PairStatesFollowRules NothingStranded receivingOf
-pair-nothing-stranded s a l r fly b q =
-    let f = pair-states-follow-rules s a b in
-    let j = nothing-stranded capacity (pairViewOfState s) (sound-of (s .words) a .accepted) l r fly in
-    ((λ room. f .passes-when (receivingOf l r) q .1 (j, room)), (λ full. f .refuses-full (receivingOf l r) q j full))
+pair-nothing-stranded s a l r fits fly =
+    let e = receivingOf l r in
+    let ok = sound-of (s .words) a .accepted in
+    let reads = arrival-reads l r (flying-readable capacity (pairViewOfState s) ok l r fits fly) in
+    let f = pair-states-follow-rules s a (encoding e) in
+    let j = nothing-stranded capacity (pairViewOfState s) ok l r fly in
+    record { reads = reads; passes = λ room. f .passes-when e reads .1 (j, room); full = λ full. f .refuses-full e reads j full }
 
 -- lists in turn, and refusals
 pub pair-lists-and-refusals : PairListsAndRefusals
@@ -177,13 +180,11 @@ unfolding PairRunsStrandNothing PairStatesConserved PairNothingStranded
 pair-runs-strand-nothing homes fars ok ds by l r fly =
     let s = pairStateOfRun homes fars ds in
     let c = pair-states-conserved homes fars ok ds in
-    let own = c .tables l in
     let other = c .tables (counterpart l) in
-    let reads = arrival-reads l r (among-readable l r _ (passed-bytes pairChecker (pairOpenedState homes fars) ds by) (fly .passed)) in
+    let fits = among-readable l r _ (passed-bytes pairChecker (pairOpenedState homes fars) ds by) (fly .passed) .fits .number-fits in
     let here : Flying l (stateOf l (pairViewOfState s .pair) .passed) (stateOf (counterpart l) (pairViewOfState s .pair) .passed) r =
-    record { sends = fly .sends; passed = rw own (fly .passed); not-arrived = rw other (fly .not-arrived) } in
-    let t = pair-nothing-stranded s (c .accepted) l r here (encoding (receivingOf l r)) reads in
-    record { reads = reads; passes = λ room. t .0 (rw other room); full = λ full. t .1 (rw other full) }
+    record { sends = fly .sends; passed = rw (c .tables l) (fly .passed); not-arrived = rw other (fly .not-arrived) } in
+    rw other at (pair-nothing-stranded s (c .accepted) l r fits here)
 
 -- a refused opening's state is refused by every call
 pub pair-zero-is-refused : PairZeroRefused

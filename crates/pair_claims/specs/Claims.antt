@@ -1,6 +1,6 @@
 -- What is claimed of the pair validator's calls over the state that the program holds: demand 2, the first half of demand 3, what 22 and
 -- 51 say of a record's accounts, that no sending is stranded, and what the places left say of 41. Assumes nothing.
-use Prim.Native.Nat.{_+_, _<_, _≤_, suc, ℕ}
+use Prim.Native.Nat.{_+_, _<_, _^_, _≤_, suc, ℕ}
 use mathlib.Core.Bool.{false, true}
 use mathlib.Core.List.{List}
 use mathlib.Core.Logic.{_↔_}
@@ -104,16 +104,22 @@ PairHeldAccountsOpen =
     (s : PairValidator) → acceptsPair (s .words) ≡ true → (l : Ledger)
     → All (AccountsOpen (accountsOf (pairViewOfState s .pair))) (stateOf l (pairViewOfState s .pair) .passed)
 
--- DOCUMENT 02, U2: in every state that the pair validator accepts, the arrival of a sending in flight, in any bytes that read as it, passes
--- where its ledger's table is not full, and is refused 41 where it is
+-- of a sending r of ledger l, in a state with so many records passed on the other ledger: what becomes of its arrival there
+pub record PairArrives (s : PairValidator) (l : Ledger) (passed : ℕ) (r : Record) : Type 0 where
+  -- the arrival's bytes read as it
+  pub reads : reading (encoding (receivingOf l r)) ≡ Read (receivingOf l r)
+  -- they pass where the table of its ledger is not full
+  pub passes : passed < capacity → call pairChecker s (one (encoding (receivingOf l r))) .answer ≡ Passed
+  -- and are refused 41 where it is
+  pub full : capacity ≤ passed → call pairChecker s (one (encoding (receivingOf l r))) ≡ record { answer = Refused 41 0; state = s }
+
+-- DOCUMENT 02, U2: in every state that the pair validator accepts, the arrival of each sending in flight, whose number has 64 bits as every
+-- word of a state does, passes unless the table is full
 unfoldable pub PairNothingStranded : Type 0
 PairNothingStranded =
-    (s : PairValidator) → acceptsPair (s .words) ≡ true → (l : Ledger) (r : Record)
+    (s : PairValidator) → acceptsPair (s .words) ≡ true → (l : Ledger) (r : Record) → r .number < 2 ^ 64
     → Flying l (stateOf l (pairViewOfState s .pair) .passed) (stateOf (counterpart l) (pairViewOfState s .pair) .passed) r
-    → (b : List ℕ) → reading b ≡ Read (receivingOf l r)
-    → (length (stateOf (counterpart l) (pairViewOfState s .pair) .passed) < capacity → call pairChecker s (one b) .answer ≡ Passed)
-    × (capacity ≤ length (stateOf (counterpart l) (pairViewOfState s .pair) .passed)
-    → call pairChecker s (one b) ≡ record { answer = Refused 41 0; state = s })
+    → PairArrives s l (length (stateOf (counterpart l) (pairViewOfState s .pair) .passed)) r
 
 -- a call with a list answers by its records in turn; a refusal of any call hands back the state handed in
 unfoldable pub PairListsAndRefusals : Type 0
@@ -165,24 +171,13 @@ pub record PairStateConserved (homes fars : List ℕ) (ds : List Call) : Type 0 
 unfoldable pub PairStatesConserved : Type 0
 PairStatesConserved = (homes fars : List ℕ) → pairOpeningRefusal homes fars ≡ 0 → (ds : List Call) → PairStateConserved homes fars ds
 
--- what holds after the calls of a run of a sending in flight, worked out from the passed records
-pub record PairArrives (homes fars : List ℕ) (ds : List Call) (l : Ledger) (r : Record) : Type 0 where
-  -- the bytes of its arrival read as it
-  pub reads : reading (encoding (receivingOf l r)) ≡ Read (receivingOf l r)
-  -- they pass where the arrival's ledger has passed fewer records than the capacity
-  pub passes : length (recordsOn (counterpart l) (pairPassedOfRun homes fars ds)) < capacity
-      → call pairChecker (pairStateOfRun homes fars ds) (one (encoding (receivingOf l r))) .answer ≡ Passed
-  -- and are refused 41 where it has passed as many
-  pub full : capacity ≤ length (recordsOn (counterpart l) (pairPassedOfRun homes fars ds))
-      → call pairChecker (pairStateOfRun homes fars ds) (one (encoding (receivingOf l r)))
-      ≡ record { answer = Refused 41 0; state = pairStateOfRun homes fars ds }
-
--- DOCUMENT 02, U2, of runs: at every accepted opening and after every list of calls, each of bytes, no sending is stranded
+-- DOCUMENT 02, U2, of runs: at every accepted opening and after every list of calls, each of bytes, the arrival of each sending that is in
+-- flight by the passed records passes unless as many records as the capacity have passed on its ledger
 unfoldable pub PairRunsStrandNothing : Type 0
 PairRunsStrandNothing =
     (homes fars : List ℕ) → pairOpeningRefusal homes fars ≡ 0 → (ds : List Call) → All CallBytes ds → (l : Ledger) (r : Record)
     → Flying l (recordsOn l (pairPassedOfRun homes fars ds)) (recordsOn (counterpart l) (pairPassedOfRun homes fars ds)) r
-    → PairArrives homes fars ds l r
+    → PairArrives (pairStateOfRun homes fars ds) l (length (recordsOn (counterpart l) (pairPassedOfRun homes fars ds))) r
 
 -- beside a refused opening stands a state that every call refuses with 3
 unfoldable pub PairZeroRefused : Type 0

@@ -10,7 +10,7 @@ use Rattle.pair_core.specs.Layout.{accountsOn, balancesStart, countOn, p
 use Rattle.places.specs.OverPlaces.{allAt, apartAt, sumAt}
 use Rattle.table.specs.Table.{accountsBy, backedAt, flowAt, mayHoldAt, sharedAt}
 
--- a ledger may hold each of its records, and their numbers are apart
+-- a ledger may hold each of its records, and their numbers are apart in each class
 abbrev pub heldOn : List ℕ → ℕ → Bool
 heldOn s l =
     allAt (mayHoldAt s (recordsStart l) (ledgerAt l) (accountsBy (ledgerAt l) (accountsOn s l) (accountsOn s (1 - l)))) 0 (countOn s l)

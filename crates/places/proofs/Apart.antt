@@ -45,11 +45,11 @@ module _ (p : ℕ → ℕ → Bool) where
   apart-every n h = apart-all p 0 n (λ j k x y w. h j k y (omega arith))
 
   module _ (turned : (j k : ℕ) → p j k ≡ p k j) (i : ℕ) where
-    -- a place with which one before does not go
+    -- the test holds at a place with one before it
     pub place-twice : (n : ℕ) → i < n → anyAt (p i) 0 i ≡ true → apartAt p 0 n ≡ false
     place-twice n b h =
         any-found (p i) 0 i h (λ j x y e. apart-not p 0 n j i x (omega arith) (omega arith) (turned j i ∙ e))
 
-    -- one with which all before go
+    -- with none before it
     pub place-fresh : anyAt (p i) 0 i ≡ false → (j : ℕ) → j < i → p j i ≡ false
     place-fresh h j x = turned j i ∙ any-not (p i) 0 i j h (omega arith) (omega arith)

@@ -183,37 +183,6 @@ pub sum-none : (f : ℕ → ℕ) (i : ℕ) → sumAt f i (i - i) ≡ 0
 unfolding sumAt
 sum-none f i = let z : i - i ≡ 0 = omega arith in rw z
 
--- ## Tests at one place more
-
--- a test at one place more, at the end
-any-end-more : (p : ℕ → Bool) (i n : ℕ) → anyAt p i (suc n) ≡ (anyAt p i n || p (i + n))
-unfolding anyAt
-any-end-more p i zero = let z : i ≡ i + 0 = omega arith in or-false (p i) ∙ ap p z
-any-end-more p i (suc n) =
-    let z : suc i + n ≡ i + suc n = omega arith in
-    ap (λ (t : Bool). p i || t) (any-end-more p (suc i) n ∙ ap (λ (k : ℕ). anyAt p (suc i) n || p k) z)
-    ∙ sym (or-assoc (p i) (anyAt p (suc i) n) (p (i + suc n)))
-
--- up to the next place
-any-next : (p : ℕ → Bool) (i j : ℕ) → i ≤ j → anyAt p i (j + 1 - i) ≡ (anyAt p i (j - i) || p j)
-any-next p i j h =
-    let z : j + 1 - i ≡ suc (j - i) = omega arith in
-    let y : i + (j - i) ≡ j = omega arith in
-    ap (anyAt p i) z ∙ any-end-more p i (j - i) ∙ ap (λ (k : ℕ). anyAt p i (j - i) || p k) y
-
--- a test that holds at place j
-pub any-met : (p : ℕ → Bool) (i j : ℕ) → i ≤ j → p j ≡ true → anyAt p i (j + 1 - i) ≡ true
-any-met p i j h e = any-next p i j h ∙ or-right (anyAt p i (j - i)) (p j) e
-
--- a test that does not
-pub any-missed : (p : ℕ → Bool) (i j : ℕ) → i ≤ j → p j ≡ false → anyAt p i (j + 1 - i) ≡ anyAt p i (j - i)
-any-missed p i j h e = any-next p i j h ∙ ap (λ (t : Bool). anyAt p i (j - i) || t) e ∙ or-false (anyAt p i (j - i))
-
--- at no place
-pub any-zero : (p : ℕ → Bool) (i : ℕ) → anyAt p i (i - i) ≡ false
-unfolding anyAt
-any-zero p i = let z : i - i ≡ 0 = omega arith in rw z
-
 -- ## Choices
 
 -- the first of two numbers, where the test holds

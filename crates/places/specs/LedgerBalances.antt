@@ -39,7 +39,7 @@ movedAt balances from r = moved balances (placed from r) (r .kind)
 
 -- ## Judging a record, for inner functions only: proved to be what the rules say (Judging of crates/home_core and crates/pair_core)
 
--- 22 by the accounts of the sender's ledger, 51 by those of the receiver's, 23, 24 where its number is used, then the later refusals
+-- 22 by the accounts of the sender's ledger, 51 by those of the receiver's, 23, 24 where its number is used in its class, then the later ones
 unfoldable pub firstBy : ℕ → ℕ → Record → Bool → ℕ → ℕ
 firstBy senders receivers r isUsed later =
     refuse (leb senders (r .sender)) 22

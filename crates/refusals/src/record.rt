@@ -9,8 +9,8 @@ use answers::refusal_if;
 use places::as_index;
 use records::Record;
 
-// 22 by the accounts of the sender's ledger, 51 by those of the receiver's, 23, 24 where the number is used, then the later refusals,
-// or 0.
+// 22 by the accounts of the sender's ledger, 51 by those of the receiver's, 23, 24 where the number is used in its class, then the later
+// refusals, or 0.
 pub fn first_refusals(senders: usize, receivers: usize, r: Record, is_used: bool, later: u32) -> u32
     ensures { λ k. ⌜ k ≡ firstBy senders receivers r «is_used» later ⌝ }
 {

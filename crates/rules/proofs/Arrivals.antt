@@ -1,18 +1,22 @@
 -- Nothing is stranded (document 02, U2). Assumes nothing.
-use Rattle.wire.proofs.Prelude.{Bool, List, [], _++_, _∙_, _∷_, _≡_, ap, inl, inr, refl, sym, true, ⊎-elim}
-use Rattle.ledgers.specs.Ledgers.{counterpart, ledgerOf}
+use Rattle.wire.proofs.Prelude.{Bool, List, [], _++_, _<_, _^_, _∙_, _∷_, _≡_, _≤_, ap, arith, inl, inr, leb-true, length, refl, sym}
+use Rattle.wire.proofs.Prelude.{true, ℕ, ⊎-elim}
+use Rattle.ledgers.specs.Ledgers.{counterpart, ledgerOf, receiverLedger, senderLedger}
+use Rattle.ledgers.specs.Limits.{accountLimit}
+use Rattle.records.specs.Records.{Readable}
 use Rattle.rules.proofs.Clashes.{Distinct, clash-arrived, clash-turned, class-clash}
 use Rattle.rules.proofs.InFlight.{matched-matches, matches-matched, sent-not}
 use Rattle.rules.proofs.Ledgers.{counterpart-twice}
-use Rattle.rules.proofs.Lists.{any-split, never-both-tests, or-right}
+use Rattle.rules.proofs.Lists.{any-split, every-all, never-both-tests, or-right}
 use Rattle.rules.proofs.PairAccepted.{accepts-facts, held-allowed}
 use Rattle.rules.proofs.Refusals.{Passable, none-judge}
-use Rattle.rules.specs.Arrivals.{Among, ArrivedIsOwn, NothingStranded, receivingOf}
+use Rattle.rules.specs.Arrivals.{Among, ArrivedIsOwn, Flying, NothingStranded, receivingOf}
 use Rattle.rules.specs.Lists.{all, any}
-use Rattle.rules.specs.PairValidator.{matched, sameLedger, standsUnder}
+use Rattle.rules.specs.PairValidator.{PairView, countAllowed, matched, pairAccepts, sameLedger, standsUnder}
 use Rattle.rules.specs.Rules.{Far, Home, Kind, Ledger, Local, Receiving, Record, Sending, clashes, isReceiving, isSending, matches}
 use Rattle.rules.specs.Rules.{stateOf}
 use Rattle.wire.proofs.Lists.{and-both}
+use Rattle.wire.specs.BigEndian.{All}
 
 -- ## One of the records
 
@@ -117,3 +121,24 @@ nothing-stranded capacity v ok l r fly =
           (matched-matches e r
           (record { sending = ap isSending (fly .sends); number = refl; sender = refl; receiver = refl; amount = refl }))),
     )
+
+-- a sending in flight can be read, where its number has 64 bits
+pub flying-readable : (capacity : ℕ) (v : PairView) → pairAccepts capacity v ≡ true → (l : Ledger) (r : Record) → r .number < 2 ^ 64
+    → Flying l (stateOf l (v .pair) .passed) (stateOf (counterpart l) (v .pair) .passed) r → Readable r
+unfolding countAllowed All
+flying-readable capacity v ok l r fits fly =
+    let f = accepts-facts capacity v ok in
+    let held = held-allowed _ r (among-all _ r _ (fly .passed) (f .ledgers l .allowed)) in
+    let few : (m : Ledger) → length (stateOf m (v .pair) .balances) ≤ accountLimit =
+    λ m. leb-true _ _ (every-all _ (f .ledgers m .count) .1 .0) in
+    record {
+      fits =
+          record {
+            sender-fits = omega (arith, held .0 .sender-open, few (senderLedger (r .kind)));
+            receiver-fits = omega (arith, held .0 .receiver-open, few (receiverLedger (r .kind)));
+            number-fits = fits;
+            amount-fits = omega (arith, held .1 .1);
+          };
+      amount-some = held .1 .0;
+      amount-most = held .1 .1;
+    }

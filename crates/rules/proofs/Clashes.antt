@@ -1,40 +1,12 @@
--- Laws of clashing records. Only those of the first section open the definition of `clashes`. Assumes nothing.
+-- Laws of clashing records. Only those under "What clashes" open the definition of `clashes`. Assumes nothing.
 use Rattle.wire.proofs.Prelude.{Bool, List, [], _&&_, _++_, _||_, _∙_, _∷_, _≡_, ap₂, dichotomy, eq-eqb, eqb, eqb-false, eqb-true}
 use Rattle.wire.proofs.Prelude.{false, inl, inr, ne-eqb, not, not-true, refl, sym, true, ℕ}
-use Rattle.rules.proofs.Lists.{any-snoc, or-neither}
+use Rattle.rules.proofs.Lists.{any-snoc, eqb-turned, or-neither, truth-self, truth-turned}
 use Rattle.rules.specs.Lists.{any, sameTruth}
 use Rattle.rules.specs.PairValidator.{unshared}
 use Rattle.rules.specs.Rules.{Record, arrived, clashes, isReceiving}
 use Rattle.wire.proofs.Lists.{every-first}
 use Rattle.wire.specs.BigEndian.{every}
-
--- ## Tests
-
--- a test has its own outcome
-pub same-self : (t : Bool) → sameTruth t t ≡ true
-same-self true = refl
-same-self false = refl
-
--- either way round
-pub same-turned : (s t : Bool) → sameTruth s t ≡ sameTruth t s
-same-turned true true = refl
-same-turned true false = refl
-same-turned false true = refl
-same-turned false false = refl
-
--- of what does not hold where the other does
-pub same-not : (s t : Bool) → sameTruth (not s) t ≡ sameTruth s (not t)
-same-not true t = refl
-same-not false true = refl
-same-not false false = refl
-
--- two numbers are the same either way round
-pub eqb-turned : (a b : ℕ) → eqb a b ≡ eqb b a
-eqb-turned a b =
-    elim (dichotomy (eqb a b)) [
-      | inl q ↦ q ∙ sym (ne-eqb b a (λ e. eqb-false a b q (sym e)))
-      | inr q ↦ q ∙ sym (eq-eqb b a (sym (eqb-true a b q)))
-    ]
 
 -- ## What clashes
 
@@ -55,17 +27,17 @@ clash-arrived r xs q = rw (clash-used r xs, q)
 -- a clash goes both ways
 pub clash-turned : (r x : Record) → clashes r x ≡ clashes x r
 unfolding clashes
-clash-turned r x = ap₂ _&&_ (same-turned (isReceiving (r .kind)) (isReceiving (x .kind))) (eqb-turned (r .number) (x .number))
+clash-turned r x = ap₂ _&&_ (truth-turned (isReceiving (r .kind)) (isReceiving (x .kind))) (eqb-turned (r .number) (x .number))
 
 -- a record clashes with itself
 pub clash-self : (r : Record) → clashes r r ≡ true
 unfolding clashes
-clash-self r = rw (same-self (isReceiving (r .kind)), eq-eqb (r .number) (r .number) refl)
+clash-self r = rw (truth-self (isReceiving (r .kind)), eq-eqb (r .number) (r .number) refl)
 
 -- two records of one class and one number clash
 pub class-clash : (r x : Record) → isReceiving (r .kind) ≡ isReceiving (x .kind) → r .number ≡ x .number → clashes r x ≡ true
 unfolding clashes
-class-clash r x c q = rw (c, same-self (isReceiving (x .kind)), eq-eqb (r .number) (x .number) q)
+class-clash r x c q = rw (c, truth-self (isReceiving (x .kind)), eq-eqb (r .number) (x .number) q)
 
 -- ## Lists
 

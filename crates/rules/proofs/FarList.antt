@@ -11,10 +11,10 @@ use Rattle.ledgers.specs.Limits.{maxAmount}
 use Rattle.records.proofs.Exactly.{encoding-bytes, encoding-reads, reads-exactly}
 use Rattle.records.proofs.Formed.{read-formed}
 use Rattle.records.specs.Records.{EncodingReads, Readable, ReadsExactly, encoding, reading, recordIn}
-use Rattle.rules.proofs.Clashes.{clash-used, same-not, used, used-snoc}
+use Rattle.rules.proofs.Clashes.{clash-used, used, used-snoc}
 use Rattle.rules.proofs.HomeSound.{after-far, after-home, pairOf, viewOf}
 use Rattle.rules.proofs.InFlight.{matched-matches}
-use Rattle.rules.proofs.Lists.{any-last, length-lowered, length-moved, length-raised, lowered-same, or-neither, raised-same}
+use Rattle.rules.proofs.Lists.{any-last, length-lowered, length-moved, length-raised, lowered-same, or-neither, raised-same, truth-not}
 use Rattle.rules.proofs.Refusals.{HomePassable, Passable, home-judge-none, home-read, none-judge}
 use Rattle.rules.specs.HomeValidator.{Possible, homeValidator, isFar, poolAfter, readsFar}
 use Rattle.rules.specs.Lists.{any, left, lowered, none, raised, right, sameTruth, sum, total}
@@ -79,7 +79,7 @@ unused-both : (block k : ℕ) (H F : LedgerState) (r x : Record) → x .number �
     → isReceiving (x .kind) ≡ not (isReceiving (r .kind)) → Unused block k H F → Unused block k (held H r) (held F x)
 unused-both block k H F r x q c u arrival n i h =
     let v = used-less (not arrival) n H r h in
-    used-snoc arrival n (F .passed) x ∙ simp (q, c, ← same-not arrival (isReceiving (r .kind)), v .1, u arrival n i (v .0))
+    used-snoc arrival n (F .passed) x ∙ simp (q, c, ← truth-not arrival (isReceiving (r .kind)), v .1, u arrival n i (v .0))
 
 -- what was given to an account is taken again
 lowered-raised : (balances : List ℕ) (i a : ℕ) → i < length balances → lowered (raised balances i a) i a ≡ balances

@@ -2,8 +2,8 @@
 -- Assumes nothing.
 use Rattle.wire.proofs.Prelude.{Bool, List, [], _&&_, _++_, _+_, _∙_, _∷_, _≡_, and-false, and-true, ap, arith, cond, dichotomy, eq-eqb}
 use Rattle.wire.proofs.Prelude.{eqb, eqb-true, false, inl, inr, or-false, refl, sym, true, ℕ}
-use Rattle.rules.proofs.Clashes.{Distinct, clash-arrived, clash-used, eqb-turned, used}
-use Rattle.rules.proofs.Lists.{all-every, any-none, every-all, or-neither, or-second, sum-ext, sum-snoc}
+use Rattle.rules.proofs.Clashes.{Distinct, clash-arrived, clash-used, used}
+use Rattle.rules.proofs.Lists.{all-every, any-none, eqb-turned, every-all, or-neither, or-second, sum-ext, sum-snoc}
 use Rattle.rules.specs.HomeValidator.{received, sent}
 use Rattle.rules.specs.Lists.{all, any, sameTruth, sum}
 use Rattle.rules.specs.PairValidator.{matched}

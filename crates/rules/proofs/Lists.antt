@@ -1,8 +1,8 @@
 -- Laws of sums, tests and balances. Assumes nothing.
-use Rattle.wire.proofs.Prelude.{Bool, List, [], _++_, _+_, _-_, _<_, _||_, _∙_, _∷_, _≡_, _≤_, _⊎_, ap, arith, dichotomy, false, getD}
-use Rattle.wire.proofs.Prelude.{getD-set-same, inl, inr, length, length-set, or-assoc, or-false, or-true, refl, set, suc, sym, true, zero}
-use Rattle.wire.proofs.Prelude.{ℕ}
-use Rattle.rules.specs.Lists.{all, any, lowered, raised, sum, total}
+use Rattle.wire.proofs.Prelude.{Bool, List, [], _++_, _+_, _-_, _<_, _||_, _∙_, _∷_, _≡_, _≤_, _⊎_, ap, arith, dichotomy, eq-eqb, eqb}
+use Rattle.wire.proofs.Prelude.{eqb-false, eqb-true, false, getD, getD-set-same, inl, inr, length, length-set, ne-eqb, not, or-assoc}
+use Rattle.wire.proofs.Prelude.{or-false, or-true, refl, set, suc, sym, true, zero, ℕ}
+use Rattle.rules.specs.Lists.{all, any, lowered, raised, sameTruth, sum, total}
 use Rattle.rules.specs.Rules.{Kind, Local, Receiving, Record, Sending, credit, debit, moved}
 use Rattle.wire.proofs.Lists.{and-both, every-both, every-first, every-none}
 use Rattle.wire.specs.BigEndian.{All, every}
@@ -32,6 +32,32 @@ zero-or-more (suc n) = inr (n, refl)
 -- no test both holds and does not
 pub never-both-tests : true ≡ false → ⊥
 never-both-tests h = let z : _≡_ {A = ℕ} 0 1 = cc in omega arith
+
+-- a test has its own outcome
+pub truth-self : (t : Bool) → sameTruth t t ≡ true
+truth-self true = refl
+truth-self false = refl
+
+-- two tests have one outcome either way round
+pub truth-turned : (s t : Bool) → sameTruth s t ≡ sameTruth t s
+truth-turned true true = refl
+truth-turned true false = refl
+truth-turned false true = refl
+truth-turned false false = refl
+
+-- the first of them turned into its opposite, or the second
+pub truth-not : (s t : Bool) → sameTruth (not s) t ≡ sameTruth s (not t)
+truth-not true t = refl
+truth-not false true = refl
+truth-not false false = refl
+
+-- two numbers are the same either way round
+pub eqb-turned : (a b : ℕ) → eqb a b ≡ eqb b a
+eqb-turned a b =
+    elim (dichotomy (eqb a b)) [
+      | inl q ↦ q ∙ sym (ne-eqb b a (λ e. eqb-false a b q (sym e)))
+      | inr q ↦ q ∙ sym (eq-eqb b a (sym (eqb-true a b q)))
+    ]
 
 -- tests that all hold, one by one
 pub every-all : (ts : List Bool) → every ts ≡ true → All (λ (t : Bool). t ≡ true) ts

@@ -82,12 +82,6 @@ parts-next n at end b e h =
 abbrev pub parts : ℕ → List ℕ → List (List ℕ)
 parts at b = recordsIn (drop at b)
 
--- a call takes its records in turn
-pub parts-start : {S : Type 0} (c : Checker S) (s : S) (b : List ℕ) → c .accepts s ≡ true
-    → call c s (list b) ≡ callList c s 0 s (parts 0 b)
-unfolding call
-parts-start c s b a = rw a
-
 -- ## One turn of a loop over the records
 
 module _ {S : Type 0} (c : Checker S) (start s : S) (i at : ℕ) (b : List ℕ) where

@@ -227,11 +227,15 @@ classRows =
     ∷ passRow 0 (good (Sending Home) 0 0 7 30 ∷ good (Sending Far) 0 0 7 10 ∷ []) (good (Receiving Far) 0 0 7 30) (70 ∷ 50 ∷ []) (40 ∷ []) 10
     ∷ passRow 0 (good (Sending Home) 0 0 7 30 ∷ good (Receiving Far) 0 0 7 30 ∷ []) (good (Sending Far) 0 0 7 10) (70 ∷ 50 ∷ []) (40 ∷ []) 10
     ∷ passRow 0 (good (Sending Home) 0 0 7 30 ∷ good (Receiving Far) 0 0 7 30 ∷ []) (good (Local Far) 0 0 7 50) (70 ∷ 50 ∷ []) (50 ∷ []) 0
+    ∷ passRow 0 (good (Sending Far) 0 0 7 10 ∷ good (Receiving Home) 0 0 7 10 ∷ []) (good (Local Home) 0 0 7 110) (110 ∷ 50 ∷ []) (10 ∷ []) 0
+    ∷ passRow 0 (good (Sending Far) 0 0 7 10 ∷ good (Receiving Home) 0 0 7 10 ∷ []) (good (Sending Home) 0 0 7 110) (0 ∷ 50 ∷ []) (10 ∷ []) 110
     ∷ refusalRow 0 (good (Sending Home) 0 0 7 30 ∷ good (Receiving Far) 0 0 7 30 ∷ []) (good (Receiving Home) 0 0 7 30) 31
     ∷ refusalRow 0 (good (Local Far) 0 0 7 5 ∷ []) (good (Receiving Far) 0 0 7 5) 31
+    ∷ refusalRow 0 (good (Local Home) 0 0 7 1 ∷ []) (good (Local Home) 0 0 7 1) 24
     ∷ refusalRow 0 (good (Local Home) 0 0 7 1 ∷ []) (good (Sending Home) 0 0 7 1) 24
     ∷ refusalRow 0 (good (Sending Home) 0 0 7 1 ∷ []) (good (Local Home) 0 0 7 1) 24
     ∷ refusalRow 0 (good (Sending Home) 0 0 7 1 ∷ []) (good (Sending Home) 1 0 7 1) 24
+    ∷ refusalRow 0 (good (Local Far) 0 0 7 1 ∷ []) (good (Local Far) 0 0 7 1) 24
     ∷ refusalRow 0 (good (Local Far) 0 0 7 1 ∷ []) (good (Sending Far) 0 0 7 1) 24
     ∷ refusalRow 0 (good (Sending Far) 0 0 7 1 ∷ []) (good (Local Far) 0 0 7 1) 24
     ∷ refusalRow 0 (good (Sending Far) 0 0 7 1 ∷ []) (good (Sending Far) 0 1 7 1) 24
@@ -242,6 +246,7 @@ classRows =
     ∷ homeRow 0 (good (Sending Home) 0 0 7 1 ∷ []) (good (Receiving Home) 0 0 7 21) 0
     ∷ homeRow 0 (good (Receiving Home) 0 0 7 1 ∷ []) (good (Local Home) 0 0 7 101) 0
     ∷ homeRow 0 (good (Receiving Home) 0 0 7 1 ∷ []) (good (Sending Home) 0 0 7 101) 0
+    ∷ homeRow 0 (good (Local Home) 0 0 7 1 ∷ []) (good (Local Home) 0 0 7 1) 24
     ∷ homeRow 0 (good (Local Home) 0 0 7 1 ∷ []) (good (Sending Home) 0 0 7 1) 24
     ∷ homeRow 0 (good (Sending Home) 0 0 7 1 ∷ []) (good (Local Home) 0 0 7 1) 24
     ∷ homeRow 0 (good (Sending Home) 0 0 7 1 ∷ []) (good (Sending Home) 1 0 7 1) 24
@@ -328,6 +333,8 @@ stateRows =
     ∷ stateRow 2 (pairHolding [] (heldRecord (Local Far) 0 0 1 1 true ∷ heldRecord (Local Far) 0 0 1 2 true ∷ []) 170) false
     ∷ stateRow 2 (pairHolding (heldRecord (Local Home) 0 1 1 1 true ∷ heldRecord (Sending Home) 0 0 1 1 true ∷ []) [] 171) false
     ∷ stateRow 2 (pairHolding (heldRecord (Sending Home) 0 0 1 1 true ∷ heldRecord (Sending Home) 0 0 1 1 true ∷ []) [] 172) false
+    ∷ stateRow 2 (pairHolding [] (heldRecord (Local Far) 0 0 1 1 true ∷ heldRecord (Sending Far) 0 0 1 1 true ∷ []) 171) false
+    ∷ stateRow 2 (pairHolding [] (heldRecord (Sending Far) 0 0 1 1 true ∷ heldRecord (Sending Far) 0 0 1 1 true ∷ []) 172) false
     ∷ stateRow 2
     (pairHolding (heldRecord (Receiving Home) 0 0 8 5 true ∷ heldRecord (Receiving Home) 0 0 8 5 true ∷ [])
     (heldRecord (Sending Far) 0 0 8 5 true ∷ []) 170)
@@ -339,6 +346,14 @@ stateRows =
     ∷ stateRow 2
     (pairHolding (heldRecord (Receiving Home) 0 0 8 5 true ∷ heldRecord (Sending Home) 0 0 8 30 true ∷ [])
     (heldRecord (Sending Far) 0 0 8 5 true ∷ []) 200)
+    true
+    ∷ stateRow 2
+    (pairHolding (heldRecord (Local Home) 0 1 8 1 true ∷ heldRecord (Receiving Home) 0 0 8 5 true ∷ [])
+    (heldRecord (Sending Far) 0 0 8 5 true ∷ []) 170)
+    true
+    ∷ stateRow 2
+    (pairHolding (heldRecord (Sending Home) 0 0 8 5 true ∷ [])
+    (heldRecord (Receiving Far) 0 0 8 5 true ∷ heldRecord (Sending Far) 0 0 8 30 true ∷ []) 200)
     true
     ∷ stateRow 2
     (pairHolding (heldRecord (Sending Home) 0 0 8 5 true ∷ [])

@@ -5,11 +5,11 @@ use Rattle.ledgers.specs.Ledgers.{kindAt}
 use Rattle.rules.specs.Lists.{sameTruth}
 use Rattle.rules.specs.Rules.{Ledger, Receiving, Sending, isReceiving}
 
--- byte 1 is none of an arrival
+-- kind 1 is no arrival
 pub first-local : (k : ℕ) (l : Ledger) → k ≡ 1 → false ≡ isReceiving (kindAt k l)
 first-local k l q = rw q
 
--- of the other bytes that of a sending is none
+-- of the other kinds all but 2 are
 pub first-not : (k : ℕ) (l : Ledger) → (k ≡ 1 → ⊥) → not (eqb k 2) ≡ isReceiving (kindAt k l)
 first-not k l q = rw (ne-eqb k 1 q) (by (eqb k 2))
   where

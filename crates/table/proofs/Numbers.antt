@@ -7,7 +7,7 @@ use Rattle.places.specs.OverPlaces.{anyAt, apartAt, listAt}
 use Rattle.records.specs.Records.{recordIn}
 use Rattle.rules.specs.Lists.{any}
 use Rattle.rules.specs.PairValidator.{unshared}
-use Rattle.rules.proofs.Clashes.{eqb-turned, same-turned}
+use Rattle.rules.proofs.Lists.{eqb-turned, truth-turned}
 use Rattle.rules.specs.Rules.{Record, clashes, isReceiving}
 use Rattle.table.specs.Table.{EmptyIndex, IndexOf, arrivalIn, headAt, numberAt, recordAt, recordsFrom, sharedAt, usedAt}
 use Rattle.wire.specs.BigEndian.{every}
@@ -37,7 +37,7 @@ module _ (s : List ℕ) (from : ℕ) where
   -- two places share a number either way round
   pub shared-turned : (j k : ℕ) → sharedAt s from j k ≡ sharedAt s from k j
   shared-turned j k =
-      ap₂ _&&_ (same-turned (arrivalIn (headAt s from j)) (arrivalIn (headAt s from k)))
+      ap₂ _&&_ (truth-turned (arrivalIn (headAt s from j)) (arrivalIn (headAt s from k)))
       (eqb-turned (numberAt s from j) (numberAt s from k))
 
   -- numbers that are apart are of records that share none

@@ -104,7 +104,7 @@ numberAt s from i = getD s (from + 4 * i + 1) 0
 abbrev pub headAt : List ℕ → ℕ → ℕ → ℕ
 headAt s from i = getD s (from + 4 * i) 0
 
--- the record with a head is an arrival
+-- the record with a head is an arrival: its kind is neither 1 nor 2
 abbrev pub arrivalIn : ℕ → Bool
 arrivalIn head = isReceiving (kindAt (within 0 1 head) (ledgerAt (within 1 1 head)))
 

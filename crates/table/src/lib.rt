@@ -127,7 +127,7 @@ pub const INDEX: usize = CHAINS + Ledger::CAPACITY;
 // The steps down a chain after which the places are scanned instead.
 const STEPS: usize = 3;
 
-// Whether the record with a head is an arrival.
+// Whether the record with a head is an arrival: of a kind other than 1 and 2, which in a held record is 3.
 fn is_arrival(head: u64) -> bool
     ensures { λ b. ⌜ b ≡ arrivalIn head ⌝ }
 {
@@ -150,7 +150,7 @@ fn used_at(words: &[u64], from: usize, i: usize, arrival: bool, x: u64) -> bool
     arrival == is_arrival(words[at])
 }
 
-// Whether one of four records from place i on has the number in its class.
+// Whether one of four records from place i on has the number in the class asked for.
 fn used_in_four(words: &[u64], from: usize, i: usize, arrival: bool, x: u64) -> bool
     requires { ⌜ from + 4 * i + 16 ≤ length (now words) ⌝ }
     ensures { λ b. ⌜ b ≡ anyAt (usedAt arrival x (now (words .entry)) from) i 4 ⌝ }
@@ -167,7 +167,7 @@ fn used_in_four(words: &[u64], from: usize, i: usize, arrival: bool, x: u64) -> 
     used_at(words, from, i + 3, arrival, x)
 }
 
-// Whether one of the records from place k on, up to place n, has the number in its class.
+// Whether one of the records from place k on, before place n, has the number in the class asked for.
 fn scanned_from(words: &[u64], from: usize, k: usize, n: usize, arrival: bool, x: u64) -> bool
     requires { ⌜ (from + 4 * n ≤ length (now words)) × (k ≤ n) ⌝ }
     ensures { λ b. ⌜ b ≡ anyAt (usedAt arrival x (now (words .entry)) from) k (n - k) ⌝ }
@@ -182,7 +182,7 @@ fn scanned_from(words: &[u64], from: usize, k: usize, n: usize, arrival: bool, x
     false
 }
 
-// Whether one of n records has the number in its class, by a scan of four places at a time.
+// Whether one of n records has the number in the class asked for, by a scan of four places at a time.
 fn scanned(words: &[u64], from: usize, n: usize, arrival: bool, x: u64) -> bool
     requires { ⌜ from + 4 * n ≤ length (now words) ⌝ }
     ensures { λ b. ⌜ b ≡ anyAt (usedAt arrival x (now (words .entry)) from) 0 n ⌝ }
@@ -197,7 +197,7 @@ fn scanned(words: &[u64], from: usize, n: usize, arrival: bool, x: u64) -> bool
     scanned_from(words, from, i, n, arrival, x)
 }
 
-// Whether one of n records has the number in its class, by a walk down its chain.
+// Whether one of n records has the number in the class asked for, by a walk down its chain.
 fn walked<'a>(
     words: &'a [u64],
     index: &'a [u16],
@@ -257,8 +257,8 @@ pub fn add_number(index: &mut [u16], base: usize, n: usize, x: u64)
     index[h] = next_place(n);
 }
 
-// Whether none of n records has the number in its class; where so, it joins their index as that of the next place, whose element is still
-// zero.
+// Whether none of n records has the number in the class asked for; where so, it joins their index as that of the next place, whose element
+// is still zero.
 fn add_if_unused<'a, 'b>(
     words: &'a [u64],
     index: &'b mut [u16],
