@@ -1,6 +1,10 @@
 -- Tests of four places at a time. Assumes nothing.
-use Rattle.wire.proofs.Prelude.{Bool, _+_, _-_, _<_, _||_, _∙_, _≡_, ap, arith, false, or-false, refl, suc, true, ℕ}
+use Rattle.wire.proofs.Prelude.{Bool, List, _*_, _+_, _-_, _<_, _||_, _∙_, _≡_, ap, ap₂, arith, eqb, false, getD, or-assoc, or-false}
+use Rattle.wire.proofs.Prelude.{refl, suc, sym, true, zero, ℕ}
 use Rattle.places.specs.OverPlaces.{anyAt}
+use Rattle.rules.proofs.Lists.{or-neither}
+use Rattle.table.proofs.Arriving.{other-number}
+use Rattle.table.specs.Table.{arrivalIn, headAt, numberedAt, usedAt}
 
 -- four tests and a rest
 regroup : (a b c d r : Bool) → (a || (b || (c || (d || r)))) ≡ ((a || (b || (c || (d || false)))) || r)
@@ -39,3 +43,27 @@ module _ (p : ℕ → Bool) (i : ℕ) where
     -- it holds at none of them
     pub four-on : anyAt p i 4 ≡ false → anyAt p i (end - i) ≡ anyAt p (i + 4) (end - (i + 4))
     four-on e = four-left ∙ ap (λ (t : Bool). t || anyAt p (i + 4) (end - (i + 4))) e
+
+-- ## Numbers
+
+module _ (x : ℕ) (s : List ℕ) (from : ℕ) where
+  -- the numbers of four places, by their words
+  pub four-numbers : (i : ℕ)
+      → ((eqb x (getD s (from + 4 * i + 1) 0) || eqb x (getD s (from + 4 * i + 5) 0))
+      || (eqb x (getD s (from + 4 * i + 9) 0) || eqb x (getD s (from + 4 * i + 13) 0)))
+      ≡ anyAt (numberedAt x s from) i 4
+  four-numbers i =
+      let a : from + 4 * i + 5 ≡ from + 4 * (i + 1) + 1 = omega arith in
+      let b : from + 4 * i + 9 ≡ from + 4 * (i + 2) + 1 = omega arith in
+      let c : from + 4 * i + 13 ≡ from + 4 * (i + 3) + 1 = omega arith in
+      rw (a, b, c)
+      (or-assoc (numberedAt x s from i) (numberedAt x s from (i + 1)) (numberedAt x s from (i + 2) || numberedAt x s from (i + 3))
+      ∙ sym (four-are (numberedAt x s from) i))
+
+  -- no place without the number has it in a class
+  pub unnumbered : (arrival : Bool) (i n : ℕ) → anyAt (numberedAt x s from) i n ≡ false → anyAt (usedAt arrival x s from) i n ≡ false
+  unfolding anyAt
+  unnumbered arrival i zero h = refl
+  unnumbered arrival i (suc n) h =
+      let u = or-neither (numberedAt x s from i) (anyAt (numberedAt x s from) (suc i) n) h in
+      ap₂ _||_ (sym (other-number arrival (arrivalIn (headAt s from i)) (numberedAt x s from i) (u .0))) (unnumbered arrival (suc i) n (u .1))

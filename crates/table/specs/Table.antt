@@ -100,7 +100,11 @@ receiverLimits own other = 0 ∷ own ∷ other ∷ own ∷ []
 abbrev pub numberAt : List ℕ → ℕ → ℕ → ℕ
 numberAt s from i = getD s (from + 4 * i + 1) 0
 
--- its head
+-- the record at a place has number x
+abbrev pub numberedAt : ℕ → List ℕ → ℕ → ℕ → Bool
+numberedAt x s from i = eqb x (numberAt s from i)
+
+-- the head of the record at a place
 abbrev pub headAt : List ℕ → ℕ → ℕ → ℕ
 headAt s from i = getD s (from + 4 * i) 0
 
@@ -110,7 +114,7 @@ arrivalIn head = isReceiving (kindAt (within 0 1 head) (ledgerAt (within 1 1 hea
 
 -- the record at a place has number x, and is an arrival or not as the test says
 abbrev pub usedAt : Bool → ℕ → List ℕ → ℕ → ℕ → Bool
-usedAt arrival x s from i = sameTruth arrival (arrivalIn (headAt s from i)) && eqb x (numberAt s from i)
+usedAt arrival x s from i = sameTruth arrival (arrivalIn (headAt s from i)) && numberedAt x s from i
 
 -- the records at two places have one number, and both are arrivals or neither is
 abbrev pub sharedAt : List ℕ → ℕ → ℕ → ℕ → Bool

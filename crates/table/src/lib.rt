@@ -11,8 +11,8 @@ ghost use Rattle.places.specs.OverPlaces.{allAt, anyAt, apartAt};
 ghost use Rattle.records.specs.Records.{readingWords};
 ghost use Rattle.rules.specs.Lists.{lowered, raised};
 ghost use Rattle.table.specs.Table.{accountsBy, headBases, mayHold, mayHoldAt, receiverLimits, senderLimits, wordsAt};
-ghost use Rattle.table.specs.Table.{EmptyIndex, FlowsAt, IndexOf, arrivalIn, backedAt, backedBy, flowBy, sendingHead, sentAt};
-ghost use Rattle.table.specs.Table.{sharedAt, stored, usedAt, withNumber, withWords};
+ghost use Rattle.table.specs.Table.{EmptyIndex, FlowsAt, IndexOf, arrivalIn, backedAt, backedBy, flowBy, numberedAt};
+ghost use Rattle.table.specs.Table.{sendingHead, sentAt, sharedAt, stored, usedAt, withNumber, withWords};
 use ledgers::Ledger;
 use places::CHAINS;
 use places::Flows;
@@ -150,11 +150,25 @@ fn used_at(words: &[u64], from: usize, i: usize, arrival: bool, x: u64) -> bool
     arrival == is_arrival(words[at])
 }
 
+// Whether one of four records from place i on has the number, in whichever class.
+fn numbered_in_four(words: &[u64], from: usize, i: usize, x: u64) -> bool
+    requires { ⌜ from + 4 * i + 16 ≤ length (now words) ⌝ }
+    ensures { λ b. ⌜ b ≡ anyAt (numberedAt x (now (words .entry)) from) i 4 ⌝ }
+{
+    let at = from + 4 * i;
+    let first = (x == words[at + 1]) | (x == words[at + 5]);
+    let last = (x == words[at + 9]) | (x == words[at + 13]);
+    first | last
+}
+
 // Whether one of four records from place i on has the number in the class asked for.
 fn used_in_four(words: &[u64], from: usize, i: usize, arrival: bool, x: u64) -> bool
     requires { ⌜ from + 4 * i + 16 ≤ length (now words) ⌝ }
     ensures { λ b. ⌜ b ≡ anyAt (usedAt arrival x (now (words .entry)) from) i 4 ⌝ }
 {
+    if !numbered_in_four(words, from, i, x) {
+        return false;
+    }
     if used_at(words, from, i, arrival, x) {
         return true;
     }
