@@ -10,7 +10,7 @@
 
 #define HELD (MOATBETONY_CAPACITY - 1)
 #define RUNS 401
-enum { OLD_RECORD, RECORD, TAKE, OLD_LIST, LIST, TAKE_LIST, ALL_PAIRS, TIMED };
+enum { OLD_RECORD, RECORD, OLD_TAKE, TAKE, OLD_LIST, LIST, TAKE_LIST, ALL_PAIRS, TIMED };
 /* Numbers one after the other, at random, and with shared low bits; then the first and the last of these with each number in both classes,
    arrivals and all others, which an earlier build may refuse: that is then not timed. */
 enum { CONSECUTIVE, RANDOM, SHARED, TWICE, SHARED_TWICE, NUMBERS };
@@ -93,16 +93,16 @@ static void must(int passed)
 
 static void print(const char *validator, int numbers, size_t records)
 {
-    double old = median(OLD_RECORD), value = median(RECORD), in_place = median(TAKE);
+    double old = median(OLD_RECORD), value = median(RECORD), old_take = median(OLD_TAKE), in_place = median(TAKE);
     double old_list = median(OLD_LIST) / (double)records, by_list = median(LIST) / (double)records;
     double in_place_list = median(TAKE_LIST) / (double)records;
     if (is_twice(numbers))
         printf("%s, %s: record by value %.0f, in place %.0f; a list's record by value %.1f, in place %.1f\n", validator, names[numbers],
             value, in_place, by_list, in_place_list);
     else
-        printf("%s, %s: record %.0f, by value %.0f (%.2f), in place %.0f (%.2f); a list's record %.1f, by value %.1f (%.2f), in place %.1f (%.2f)\n",
-            validator, names[numbers], old, value, value / old, in_place, in_place / old, old_list, by_list, by_list / old_list,
-            in_place_list, in_place_list / old_list);
+        printf("%s, %s: record by value %.0f, %.0f (%.2f), in place %.0f, %.0f (%.2f); a list's record by value %.1f, %.1f (%.2f), in place %.1f\n",
+            validator, names[numbers], old, value, value / old, old_take, in_place, in_place / old_take, old_list, by_list,
+            by_list / old_list, in_place_list);
     if (is_shared(numbers)) {
         double pairs = median(ALL_PAIRS);
         printf("%s, %s: comparing all pairs %.0f, in place %.2f of it\n", validator, names[numbers], pairs, in_place / pairs);
@@ -147,7 +147,7 @@ static int are_sent(const moatbetony_held_t *records, uint64_t n, const moatbeto
 static void home(const uint64_t *balances, int numbers)
 {
     static moatbetony_home_t empty, full, lent;
-    static old_moatbetony_home_t old_empty, old_full;
+    static old_moatbetony_home_t old_empty, old_full, old_lent;
     seed = (uint64_t)1 << 32;
     for (int i = 0; i < HELD; i++)
         record(list + 32 * i, !is_twice(numbers) ? 1 + (int)below(3) : i % 2 ? 3 : 1 + (int)below(2), 0, number(numbers, (uint64_t)i));
@@ -157,11 +157,14 @@ static void home(const uint64_t *balances, int numbers)
     full = moatbetony_home_check_list(empty, list, 32 * HELD).state;
     must(full.count == HELD);
     old_full = old_moatbetony_home_check_list(old_empty, list, 32 * HELD).state;
-    lent = full;
+    lent = full, old_lent = old_full;
     for (int run = 0; run < RUNS; run++) {
-        if (!is_twice(numbers))
+        if (!is_twice(numbers)) {
             TIME(OLD_RECORD, 20, old_moatbetony_home_outcome_t *o = (void *)(page + place);
                  *o = old_moatbetony_home_check_record(old_full, last, 32); must((int)o->answer.passed));
+            TIME(OLD_TAKE, 20, must((int)old_moatbetony_home_take(&old_lent, last, 32).passed); old_lent.pool = old_full.pool;
+                 old_lent.count = old_full.count; old_lent.balances[last[5]] = old_full.balances[last[5]]);
+        }
         TIME(RECORD, 20, moatbetony_home_outcome_t *o = (void *)(page + place); *o = moatbetony_home_check_record(full, last, 32);
              must((int)o->answer.passed));
         TIME(TAKE, 20, must((int)moatbetony_home_take(&lent, last, 32).passed); lent.pool = full.pool; lent.count = full.count;
@@ -182,7 +185,7 @@ static void home(const uint64_t *balances, int numbers)
 static void pair(const uint64_t *balances, int numbers)
 {
     static moatbetony_pair_t empty, full, lent;
-    static old_moatbetony_pair_t old_empty, old_full;
+    static old_moatbetony_pair_t old_empty, old_full, old_lent;
     seed = (uint64_t)1 << 33;
     for (int i = 0; i < HELD; i++) { /* a home record, and its arrival or a far local under its number; or crossings both ways */
         uint8_t *b = list + 64 * i;
@@ -196,11 +199,15 @@ static void pair(const uint64_t *balances, int numbers)
     full = moatbetony_pair_check_list(empty, list, sizeof list).state;
     must(full.counts[0] == HELD && full.counts[1] == HELD);
     old_full = old_moatbetony_pair_check_list(old_empty, list, sizeof list).state;
-    lent = full;
+    lent = full, old_lent = old_full;
     for (int run = 0; run < RUNS; run++) {
-        if (!is_twice(numbers))
+        if (!is_twice(numbers)) {
             TIME(OLD_RECORD, 10, old_moatbetony_pair_outcome_t *o = (void *)(page + place);
                  *o = old_moatbetony_pair_check_record(old_full, last, 32); must((int)o->answer.passed));
+            TIME(OLD_TAKE, 10, must((int)old_moatbetony_pair_take(&old_lent, last, 32).passed); old_lent.counts[0] = old_full.counts[0];
+                 old_lent.balances[0][last[3]] = old_full.balances[0][last[3]];
+                 old_lent.balances[0][last[5]] = old_full.balances[0][last[5]]);
+        }
         TIME(RECORD, 10, moatbetony_pair_outcome_t *o = (void *)(page + place); *o = moatbetony_pair_check_record(full, last, 32);
              must((int)o->answer.passed));
         TIME(TAKE, 10, must((int)moatbetony_pair_take(&lent, last, 32).passed); lent.counts[0] = full.counts[0];
