@@ -4,7 +4,8 @@ use Rattle.wire.proofs.Prelude.{refl, suc, sym, true, zero, ℕ}
 use Rattle.places.specs.OverPlaces.{anyAt}
 use Rattle.rules.proofs.Lists.{or-neither}
 use Rattle.table.proofs.Arriving.{other-number}
-use Rattle.table.specs.Table.{arrivalIn, headAt, numberedAt, usedAt}
+use Rattle.table.specs.Table.{arrivalIn, headAt, numberedAt, sentAt, usedAt}
+use Rattle.wire.proofs.Lists.{every-not}
 
 -- four tests and a rest
 regroup : (a b c d r : Bool) → (a || (b || (c || (d || r)))) ≡ ((a || (b || (c || (d || false)))) || r)
@@ -60,10 +61,20 @@ module _ (x : ℕ) (s : List ℕ) (from : ℕ) where
       (or-assoc (numberedAt x s from i) (numberedAt x s from (i + 1)) (numberedAt x s from (i + 2) || numberedAt x s from (i + 3))
       ∙ sym (four-are (numberedAt x s from) i))
 
-  -- no place without the number has it in a class
-  pub unnumbered : (arrival : Bool) (i n : ℕ) → anyAt (numberedAt x s from) i n ≡ false → anyAt (usedAt arrival x s from) i n ≡ false
+  -- where no place has the number, none meets a test that asks for it
+  pub unnumbered : (p : ℕ → Bool) → ((j : ℕ) → numberedAt x s from j ≡ false → p j ≡ false) → (i n : ℕ)
+      → anyAt (numberedAt x s from) i n ≡ false → anyAt p i n ≡ false
   unfolding anyAt
-  unnumbered arrival i zero h = refl
-  unnumbered arrival i (suc n) h =
+  unnumbered p asks i zero h = refl
+  unnumbered p asks i (suc n) h =
       let u = or-neither (numberedAt x s from i) (anyAt (numberedAt x s from) (suc i) n) h in
-      ap₂ _||_ (sym (other-number arrival (arrivalIn (headAt s from i)) (numberedAt x s from i) (u .0))) (unnumbered arrival (suc i) n (u .1))
+      ap₂ _||_ (asks i (u .0)) (unnumbered p asks (suc i) n (u .1))
+
+  -- one for the number in a class
+  pub unused : (arrival : Bool) (j : ℕ) → numberedAt x s from j ≡ false → usedAt arrival x s from j ≡ false
+  unused arrival j h = sym (other-number arrival (arrivalIn (headAt s from j)) (numberedAt x s from j) h)
+
+  -- and one for a number, a head and an amount
+  pub unsent : (head amount j : ℕ) → numberedAt x s from j ≡ false → sentAt x head amount s from j ≡ false
+  unfolding sentAt
+  unsent head amount j h = every-not 0 _ h

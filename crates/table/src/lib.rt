@@ -359,12 +359,40 @@ fn sent_at(words: &[u64], from: usize, i: usize, number: u64, head: u64, amount:
     amount == words[at + 2]
 }
 
-// Whether one of n records has them, by a scan.
-fn scanned_sent(words: &[u64], from: usize, n: usize, number: u64, head: u64, amount: u64) -> bool
-    requires { ⌜ from + 4 * n ≤ length (now words) ⌝ }
-    ensures { λ b. ⌜ b ≡ anyAt (sentAt number head amount (now (words .entry)) from) 0 n ⌝ }
+// Whether one of four records from place i on has them.
+fn sent_in_four(words: &[u64], from: usize, i: usize, number: u64, head: u64, amount: u64) -> bool
+    requires { ⌜ from + 4 * i + 16 ≤ length (now words) ⌝ }
+    ensures { λ b. ⌜ b ≡ anyAt (sentAt number head amount (now (words .entry)) from) i 4 ⌝ }
 {
-    let mut i = 0;
+    if !numbered_in_four(words, from, i, number) {
+        return false;
+    }
+    if sent_at(words, from, i, number, head, amount) {
+        return true;
+    }
+    if sent_at(words, from, i + 1, number, head, amount) {
+        return true;
+    }
+    if sent_at(words, from, i + 2, number, head, amount) {
+        return true;
+    }
+    sent_at(words, from, i + 3, number, head, amount)
+}
+
+// Whether one of the records from place k on, before place n, has them.
+fn scanned_sent_from(
+    words: &[u64],
+    from: usize,
+    k: usize,
+    n: usize,
+    number: u64,
+    head: u64,
+    amount: u64,
+) -> bool
+    requires { ⌜ (from + 4 * n ≤ length (now words)) × (k ≤ n) ⌝ }
+    ensures { λ b. ⌜ b ≡ anyAt (sentAt number head amount (now (words .entry)) from) k (n - k) ⌝ }
+{
+    let mut i = k;
     while i < n {
         if sent_at(words, from, i, number, head, amount) {
             return true;
@@ -372,6 +400,21 @@ fn scanned_sent(words: &[u64], from: usize, n: usize, number: u64, head: u64, am
         i += 1;
     }
     false
+}
+
+// Whether one of n records has them, by a scan of four places at a time.
+fn scanned_sent(words: &[u64], from: usize, n: usize, number: u64, head: u64, amount: u64) -> bool
+    requires { ⌜ from + 4 * n ≤ length (now words) ⌝ }
+    ensures { λ b. ⌜ b ≡ anyAt (sentAt number head amount (now (words .entry)) from) 0 n ⌝ }
+{
+    let mut i = 0;
+    while i + 3 < n {
+        if sent_in_four(words, from, i, number, head, amount) {
+            return true;
+        }
+        i += 4;
+    }
+    scanned_sent_from(words, from, i, n, number, head, amount)
 }
 
 // Whether one of n records has a number, a head and an amount.

@@ -1,6 +1,6 @@
 -- `table::used_in_four` meets its contract. Assumes nothing.
 use Rattle.wire.proofs.Prelude.{_∙_, needs, not-true, sym}
-use Rattle.table.proofs.Scanning.{four-are, unnumbered}
+use Rattle.table.proofs.Scanning.{four-are, unnumbered, unused}
 use Rattle.table.specs.Table.{usedAt}
 use Rattle.table.proofs.used_in_four.Statement.{statement}
 use Rattle.table.proofs.used_in_four.Tie as tie
@@ -9,7 +9,8 @@ returns : tie.Need-returns
 returns c =
     let n = c .before .numbered-in-four in
     let a = c .before .before .before .args in
-    sym (unnumbered (a .x) (a .words .now) (a .from) (a .arrival) (a .i) 4 (sym (n .ensures) ∙ not-true _ (c .if1 .taken)))
+    sym (unnumbered (a .x) (a .words .now) (a .from) _ (unused (a .x) (a .words .now) (a .from) (a .arrival)) (a .i) 4
+    (sym (n .ensures) ∙ not-true _ (c .if1 .taken)))
 
 returns-2 : tie.Need-returns-2
 returns-2 c =
