@@ -1,0 +1,3 @@
+-- Laws of the charge, and the proofs of the functions. Assumes nothing.
+
+pub mod Charges

@@ -1,0 +1,3 @@
+-- The tariff of home's sendings. Assumes nothing.
+
+pub mod Tariffs
