@@ -2,7 +2,7 @@
 -- records that pass the rules. Far account 0 holds the far pool: what home sends goes on to it, and what home receives comes
 -- from it. The far locals for that take their numbers from a block of 2^32 that no home record uses. Assumes nothing.
 use Rattle.rules.specs.Calls.{InTurn}
-use Rattle.wire.proofs.Prelude.{Bool, List, [], _&&_, _*_, _+_, _-_, _/_, _<_, _^_, _∙_, _∷_, _≡_, _≤_, and-false, ap, arith, drop}
+use Rattle.wire.proofs.Prelude.{Bool, List, [], _&&_, _*_, _+_, _-_, _/_, _<_, _^_, _∙_, _∷_, _≡_, _≤_, add-zero, and-false, ap, arith, drop}
 use Rattle.wire.proofs.Prelude.{drop-cons, drop-of-length-le, drop-set-lt, eqb, false, getD, getD-set-other, getD-set-same, length}
 use Rattle.wire.proofs.Prelude.{lt-length-set, ne-eqb, not, refl, set-getD, set-set, suc, sym, true, zero, ℕ}
 use native.Mathlib.Decide.{ℕ-discrete}
@@ -19,7 +19,9 @@ use Rattle.rules.proofs.Refusals.{HomePassable, Passable, home-judge-no
 use Rattle.rules.specs.HomeValidator.{Possible, homeValidator, isFar, poolAfter, readsFar}
 use Rattle.rules.specs.Lists.{any, left, lowered, none, raised, right, sameTruth, sum, total}
 use Rattle.rules.specs.Rules.{Far, Home, Kind, LedgerState, Local, Read, Receiving, Record, Sending, held, isSending, judge, matches}
-use Rattle.rules.specs.Rules.{Passes, afterBytes, clashes, isReceiving, judgeBytes}
+use Rattle.rules.specs.Rules.{Ledger, Passes, Tariff, afterBytes, clashes, debit, isReceiving, judgeBytes, moved}
+use Rattle.tariffs.proofs.Charges.{charge-free}
+use Rattle.tariffs.specs.Tariffs.{charge, free}
 use Rattle.wire.specs.BigEndian.{All, Bytes, field}
 
 -- a far record with a good signature: kind, sender, receiver, number, amount
@@ -88,6 +90,17 @@ lowered-raised balances i a h =
     let z : getD balances i 0 + a - a ≡ getD balances i 0 = omega arith in
     rw (set-set, getD-set-same balances i (getD balances i 0 + a) 0 h, z, set-getD)
 
+-- where nothing is taken on sendings, one takes its amount
+untaxed-debit : (t : Tariff) (r : Record) (l : Ledger) → t ≡ free → debit t r (Sending l) ≡ r .amount
+untaxed-debit t r l q = rw (q, charge-free (r .amount)) (omega arith)
+
+-- and moves nothing else
+untaxed-moved : (t : Tariff) (balances : List ℕ) (r : Record) (l : Ledger) → t ≡ free
+    → moved t balances r (Sending l) ≡ lowered balances (r .sender) (r .amount)
+unfolding raised
+untaxed-moved t balances r l q =
+    rw (untaxed-debit t r l q, q, charge-free (r .amount), add-zero, set-getD)
+
 -- account 0 gets what another one had, and those after that one keep theirs
 gathered : (balances : List ℕ) (i a : ℕ) → 0 < i → i < length balances
     → getD (raised (lowered balances i a) 0 a) 0 0 + total (drop (suc i) (raised (lowered balances i a) 0 a))
@@ -129,6 +142,7 @@ module _ (farAccounts supply block : ℕ) (some : 0 < farAccounts) (few : farAcc
   -- far account 0 has the pool, and the numbers of the block from k on are left
   record Ready (H F : LedgerState) (pool k : ℕ) : Type 0 where
     count : length (F .balances) ≡ farAccounts
+    untaxed : F .tariff ≡ free
     pool-there : pool ≤ getD (F .balances) 0 0
     outside : Outside block H
     unused : Unused block k H F
@@ -158,6 +172,7 @@ module _ (farAccounts supply block : ℕ) (some : 0 < farAccounts) (few : farAcc
         (follow F
         (record {
           count = rd .count;
+          untaxed = rd .untaxed;
           pool-there = rw q (rd .pool-there);
           outside = outside-next;
           unused = λ arrival n i u. rd .unused arrival n (λ w. omega (arith, i w)) (used-less (not arrival) n H r u .0);
@@ -167,7 +182,7 @@ module _ (farAccounts supply block : ℕ) (some : 0 < farAccounts) (few : farAcc
         let x : Record = farRecord (Receiving Far) (r .sender) (r .receiver) (r .number) (r .amount) in
         let F₁ : LedgerState = held F x in
         let open-receiver : r .receiver < length (F .balances) = rw (rd .count) (h .0 .receiver-open) in
-        let open-sender : r .sender < length (held H r .balances) = rw (length-moved (H .balances) r (r .kind)) (h .0 .sender-open) in
+        let open-sender : r .sender < length (held H r .balances) = rw (length-moved (H .tariff) (H .balances) r (r .kind)) (h .0 .sender-open) in
         let fresh : used true (r .number) (F .passed) ≡ false = rd .unused true (r .number) (λ w. absurd (out w)) (own-unused false (ap
         isReceiving q) (h .0 .fresh)) in
         possible-home H F r bs b is (ap ledgerOf q) (none-judge (pairOf H F) r (Sending Home) q (rw (rd .count) h))
@@ -185,6 +200,7 @@ module _ (farAccounts supply block : ℕ) (some : 0 < farAccounts) (few : farAcc
         follow (held F₁ (farRecord (Local Far) (r .receiver) 0 (block * 2 ^ 32 + k) (r .amount)))
         (record {
           count = simp (length-raised, length-lowered) (rd .count);
+          untaxed = rd .untaxed;
           pool-there =
               rw (q, lowered-raised (F .balances) (r .receiver) (r .amount) open-receiver)
               (omega (arith, rd .pool-there, raised-same (F .balances) 0 (r .amount) (rw (rd .count) some)));
@@ -208,7 +224,7 @@ module _ (farAccounts supply block : ℕ) (some : 0 < farAccounts) (few : farAcc
             signed = refl;
             fresh = clash-used x (F₁ .passed) ∙ u false (r .number) (λ w. absurd (out w)) (own-unused true (ap isReceiving q) (h .0 .fresh));
           },
-          omega (arith, raised-same left-over (r .sender) (r .amount) open-sender),
+          omega (arith, untaxed-debit (F .tariff) r Far (rd .untaxed), raised-same left-over (r .sender) (r .amount) open-sender),
         ))
         (possible-home H (held F₁ x) r bs b is (ap ledgerOf q)
         (none-judge (pairOf H (held F₁ x)) r (Receiving Home) q (
@@ -219,8 +235,9 @@ module _ (farAccounts supply block : ℕ) (some : 0 < farAccounts) (few : farAcc
         (follow (held F₁ x)
         (record {
           count = simp (length-raised, length-lowered) (rd .count);
+          untaxed = rd .untaxed;
           pool-there =
-              rw (q, lowered-raised left-over (r .sender) (r .amount) open-sender)
+              rw (q, untaxed-moved (F .tariff) (F₁ .balances) x Far (rd .untaxed), lowered-raised left-over (r .sender) (r .amount) open-sender)
               (omega (arith, rd .pool-there, lowered-same (F .balances) 0 (r .amount) (rw (rd .count) some)));
           outside = outside-next;
           unused = unused-both block (suc k) H F₁ r x refl (sym (ap (λ (t : Kind). not (isReceiving t)) q)) u;
@@ -252,25 +269,26 @@ module _ (farAccounts supply block : ℕ) (some : 0 < farAccounts) (few : farAcc
   pub gather : (bs : List (List ℕ)) (capacity pool : ℕ) (H : LedgerState) → pool ≤ maxAmount → Outside block H
       → All (λ (b : List ℕ). field 8 8 b / 2 ^ 32 ≡ block → ⊥) bs → All Bytes bs
       → InTurn (homeValidator capacity) (viewOf H farAccounts pool supply) bs
-      → (c i k : ℕ) (F : LedgerState) → 0 < i → i + c ≡ farAccounts → k + c + length bs ≤ 2 ^ 32 → length (F .balances) ≡ farAccounts
+      → (c i k : ℕ) (F : LedgerState) → 0 < i → i + c ≡ farAccounts → k + c + length bs ≤ 2 ^ 32
+      → F .tariff ≡ free → length (F .balances) ≡ farAccounts
       → getD (F .balances) 0 0 + total (drop i (F .balances)) ≡ pool → Unused block k H F → Possible (pairOf H F) bs
   unfolding sum
-  gather bs capacity pool H small out off by it zero i k F pos end room ln inv un =
+  gather bs capacity pool H small out off by it zero i k F pos end room tax ln inv un =
       let e : drop i (F .balances) ≡ [] = drop-of-length-le (F .balances) {i = i} (omega arith) in
       home-list bs capacity pool k H F (omega arith)
-      (record { count = ln; pool-there = omega (arith, rw e at inv); outside = out; unused = un }) off by it
-  gather bs capacity pool H small out off by it (suc c) i k F pos end room ln inv un =
+      (record { count = ln; untaxed = tax; pool-there = omega (arith, rw e at inv); outside = out; unused = un }) off by it
+  gather bs capacity pool H small out off by it (suc c) i k F pos end room tax ln inv un =
       let a : ℕ = getD (F .balances) i 0 in
       let F₁ : LedgerState = held F (farRecord (Local Far) i 0 (block * 2 ^ 32 + k) a) in
       let parts : total (drop i (F .balances)) ≡ a + total (drop (suc i) (F .balances)) = rw (drop-cons (F .balances) i 0 (omega arith)) in
       elim (ℕ-discrete a 0) [
         | yes p ↦
-            gather bs capacity pool H small out off by it c (suc i) k F (omega arith) (omega arith) (omega arith) ln
+            gather bs capacity pool H small out off by it c (suc i) k F (omega arith) (omega arith) (omega arith) tax ln
             (omega (arith, parts)) un
         | no p ↦
             local-far farAccounts block few top H F i 0 a k bs ln (omega arith) some (omega arith) (omega (arith, parts)) (omega arith)
             (omega arith) out un
             (λ u.
-            gather bs capacity pool H small out off by it c (suc i) (suc k) F₁ (omega arith) (omega arith) (omega arith)
+            gather bs capacity pool H small out off by it c (suc i) (suc k) F₁ (omega arith) (omega arith) (omega arith) tax
             (simp (length-raised, length-lowered) ln) (omega (arith, gathered (F .balances) i a pos (omega arith), parts)) u)
       ]

@@ -17,7 +17,9 @@ use Rattle.rules.specs.HomeValidator.{HomeKeepsAccepted, HomeView, homeA
 use Rattle.rules.specs.HomeValidator.{homeAccepts, homeAfter, homeOpened, homeOpeningRefusal, homeValidator}
 use Rattle.rules.specs.Lists.{all, lowered, total}
 use Rattle.rules.specs.PairValidator.{countAllowed, heldAllowed, standsUnder, supplyAllowed}
-use Rattle.rules.specs.Rules.{Far, Home, Kind, Local, Read, Receiving, Record, Sending, credit, debit, moved}
+use Rattle.rules.specs.Rules.{Far, Home, Kind, Local, Read, Receiving, Record, Sending, Tariff, credit, debit, moved}
+use Rattle.tariffs.proofs.Allowing.{allowed-open}
+use Rattle.tariffs.specs.Tariffs.{charge, tariffAllowed}
 use Rattle.wire.specs.BigEndian.{All}
 
 -- ## The facts of an accepted state
@@ -28,6 +30,7 @@ pub record HomeFacts (capacity : ℕ) (v : HomeView) : Type 0 where
   pub far-count : countAllowed (v .farAccounts) ≡ true
   pub room : length (v .home .passed) ≤ capacity
   pub supply-fits : supplyAllowed (v .supply) ≡ true
+  pub pays : tariffAllowed (v .home .tariff) (length (v .home .balances)) ≡ true
   pub allowed : all (heldAllowed (homeAccounts v)) (v .home .passed) ≡ true
   pub distinct : Distinct (v .home .passed)
   pub stand : all (standsUnder Home) (v .home .passed) ≡ true
@@ -41,7 +44,7 @@ home-accepts-facts capacity v h = let a = every-all _ h in search (leb-true, uns
 -- and back
 pub home-facts-accepts : (capacity : ℕ) (v : HomeView) → HomeFacts capacity v → homeAccepts capacity v ≡ true
 unfolding homeAccepts All
-home-facts-accepts capacity v f = all-every _ (search (le-leb, distinct-unshared, eq-eqb) depth 12)
+home-facts-accepts capacity v f = all-every _ (search (le-leb, distinct-unshared, eq-eqb) depth 13)
 
 -- ## A record that passes
 
@@ -51,18 +54,23 @@ unfolding homeJudgeRecord
 home-only v r j = is-home _ (refuse-zero (isFar (ledgerOf (r .kind))) 33 _ (lit< tt) j .0)
 
 -- home balances and far pool together stay
-home-sums : (v : HomeView) (r : Record) (k : Kind) → HomePassable v r k
-    → total (moved (v .home .balances) r k) + poolAfter (v .farPool) r k ≡ total (v .home .balances) + v .farPool
+home-sums : (v : HomeView) (r : Record) (k : Kind) → v .home .tariff .account < length (v .home .balances) → HomePassable v r k
+    → total (moved (v .home .tariff) (v .home .balances) r k) + poolAfter (v .farPool) r k ≡ total (v .home .balances) + v .farPool
 unfolding HomePassable
-home-sums v r (Local Home) h =
-    let u = total-lowered (v .home .balances) (r .sender) (debit r) (h .0 .sender-open) (h .1) in
-    let left = lowered (v .home .balances) (r .sender) (debit r) in
+home-sums v r (Local Home) o h =
+    let u = total-lowered (v .home .balances) (r .sender) (r .amount) (h .0 .sender-open) (h .1) in
+    let left = lowered (v .home .balances) (r .sender) (r .amount) in
     omega (arith, total-raised left (r .receiver) (credit r) (rw length-lowered (h .0 .receiver-open)))
-home-sums v r (Sending Home) h = omega (arith, total-lowered (v .home .balances) (r .sender) (debit r) (h .0 .sender-open) (h .1))
-home-sums v r (Receiving Home) h = omega (arith, h .1, total-raised (v .home .balances) (r .receiver) (credit r) (h .0 .receiver-open))
-home-sums v r (Local Far) h = absurd h
-home-sums v r (Sending Far) h = absurd h
-home-sums v r (Receiving Far) h = absurd h
+home-sums v r (Sending Home) o h =
+    let t = v .home .tariff in
+    let whole = debit t r (Sending Home) in
+    let u = total-lowered (v .home .balances) (r .sender) whole (h .0 .sender-open) (h .1) in
+    let left = lowered (v .home .balances) (r .sender) whole in
+    omega (arith, total-raised left (t .account) (charge (t .rate) (r .amount)) (rw length-lowered o))
+home-sums v r (Receiving Home) o h = omega (arith, h .1, total-raised (v .home .balances) (r .receiver) (credit r) (h .0 .receiver-open))
+home-sums v r (Local Far) o h = absurd h
+home-sums v r (Sending Far) o h = absurd h
+home-sums v r (Receiving Far) o h = absurd h
 
 -- the facts after it
 home-facts-after : (capacity : ℕ) (v : HomeView) (r : Record) → (0 < r .amount) × (r .amount ≤ maxAmount) → homeJudgeRecord v r ≡ 0
@@ -71,17 +79,18 @@ unfolding homeJudgeRecord
 home-facts-after capacity v r m j room f =
     let h = home-judge-none v r (r .kind) refl j in
     let a = first-none (homeAccounts v) (v .home .passed) r _ (refuse-zero (isFar (ledgerOf (r .kind))) 33 _ (lit< tt) j .1) .0 in
-    let count = length-moved (v .home .balances) r (r .kind) in
+    let count = length-moved (v .home .tariff) (v .home .balances) r (r .kind) in
     let accounts : homeAccounts (homeAfter v (Read r)) ≡ homeAccounts v = fun-ext (elim [ Home ↦ count | Far ↦ refl ]) in
     record {
       home-count = rw count (f .home-count);
       far-count = f .far-count;
       room = omega (arith, length-append (v .home .passed) (r ∷ []));
       supply-fits = f .supply-fits;
+      pays = rw count (f .pays);
       allowed = rw accounts (all-snoc _ (v .home .passed) r (f .allowed) (allowed-held (homeAccounts v) (v .home .passed) r a m));
       distinct = distinct-snoc (v .home .passed) r (f .distinct) (a .fresh);
       stand = all-snoc _ (v .home .passed) r (f .stand) (rw (home-only v r j) at (stands-own r));
-      sums = home-sums v r (r .kind) h ∙ f .sums;
+      sums = home-sums v r (r .kind) (allowed-open _ _ (f .pays)) h ∙ f .sums;
     }
 
 -- a record of bytes that passes
@@ -99,16 +108,18 @@ unfolding HomeKeepsAccepted
 home-keeps-accepted capacity = keeps-accepted (homeValidator capacity) (λ v b a j. home-step capacity v b a j)
 
 -- the state of an accepted opening is accepted
-pub home-opened-accepted : (capacity : ℕ) (homes : List ℕ) (farAccounts farTotal : ℕ) → homeOpeningRefusal homes farAccounts farTotal ≡ 0
-    → homeAccepts capacity (homeOpened homes farAccounts farTotal) ≡ true
+pub home-opened-accepted : (capacity : ℕ) (tariff : Tariff) (homes : List ℕ) (farAccounts farTotal : ℕ)
+    → homeOpeningRefusal tariff homes farAccounts farTotal ≡ 0
+    → homeAccepts capacity (homeOpened tariff homes farAccounts farTotal) ≡ true
 unfolding all Distinct
-home-opened-accepted capacity homes farAccounts farTotal h =
-    let o = opening-none _ _ _ h in
-    home-facts-accepts capacity (homeOpened homes farAccounts farTotal) (search arith)
+home-opened-accepted capacity tariff homes farAccounts farTotal h =
+    let o = opening-none _ _ _ _ h in
+    home-facts-accepts capacity (homeOpened tariff homes farAccounts farTotal) (search arith)
 
 -- every state of a run from an accepted opening is accepted
-pub home-run-accepted : (capacity : ℕ) (homes : List ℕ) (farAccounts farTotal : ℕ) → homeOpeningRefusal homes farAccounts farTotal ≡ 0
-    → (ds : List Call) → homeAccepts capacity (run (homeValidator capacity) (homeOpened homes farAccounts farTotal) ds) ≡ true
-home-run-accepted capacity homes farAccounts farTotal h ds =
-    run-accepted (homeValidator capacity) (λ v b a j. home-step capacity v b a j) (homeOpened homes farAccounts farTotal)
-    (home-opened-accepted capacity homes farAccounts farTotal h) ds
+pub home-run-accepted : (capacity : ℕ) (tariff : Tariff) (homes : List ℕ) (farAccounts farTotal : ℕ)
+    → homeOpeningRefusal tariff homes farAccounts farTotal ≡ 0
+    → (ds : List Call) → homeAccepts capacity (run (homeValidator capacity) (homeOpened tariff homes farAccounts farTotal) ds) ≡ true
+home-run-accepted capacity tariff homes farAccounts farTotal h ds =
+    run-accepted (homeValidator capacity) (λ v b a j. home-step capacity v b a j) (homeOpened tariff homes farAccounts farTotal)
+    (home-opened-accepted capacity tariff homes farAccounts farTotal h) ds

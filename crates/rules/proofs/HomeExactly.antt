@@ -18,7 +18,8 @@ use Rattle.rules.specs.HomeValidator.{HomeRecord, Possible, homeOpened, 
 use Rattle.rules.specs.HomeValidator.{ExactlyWhenPossible}
 use Rattle.rules.specs.Lists.{any, sum, total}
 use Rattle.rules.specs.PairValidator.{countAllowed, supplyAllowed}
-use Rattle.rules.specs.Rules.{newLedger, opened}
+use Rattle.rules.specs.Rules.{Tariff, newLedger, opened}
+use Rattle.tariffs.specs.Tariffs.{free}
 use Rattle.wire.proofs.Lists.{all-append}
 use Rattle.wire.specs.BigEndian.{All, Bytes, field}
 
@@ -46,47 +47,47 @@ first-and-rest [] h = absurd (omega arith)
 first-and-rest (f ∷ fars) h = refl
 
 -- home records that pass in turn from the opening have a far list beside them, for every split of the far total
-pub complete : (homes fars : List ℕ) (farAccounts farTotal capacity : ℕ) (bs : List (List ℕ)) → 0 < farAccounts
+pub complete : (tariff : Tariff) (homes fars : List ℕ) (farAccounts farTotal capacity : ℕ) (bs : List (List ℕ)) → 0 < farAccounts
     → farAccounts ≤ accountLimit → farTotal ≤ maxAmount → length fars ≡ farAccounts → total fars ≡ farTotal → length bs ≤ capacity
-    → capacity ≤ mostCapacity → All Bytes bs → InTurn (homeValidator capacity) (homeOpened homes farAccounts farTotal) bs
-    → Possible (opened homes fars) bs
+    → capacity ≤ mostCapacity → All Bytes bs → InTurn (homeValidator capacity) (homeOpened tariff homes farAccounts farTotal) bs
+    → Possible (opened tariff homes fars) bs
 unfolding used any
-complete homes fars farAccounts farTotal capacity bs some few small ln tot len most by it =
+complete tariff homes fars farAccounts farTotal capacity bs some few small ln tot len most by it =
     let l = lacking (map blockOf bs) in
     let block = l .0 in
     let le : block ≤ length bs = omega (arith, l .1, length-map bs blockOf) in
     let top : block * 2 ^ 32 + 2 ^ 32 ≤ 2 ^ 64 = omega arith in
-    gather farAccounts (total homes + farTotal) block some (omega arith) top bs capacity farTotal (newLedger homes) small (λ arrival n i. refl)
-    (clear-block block bs (l .2)) by it (farAccounts - 1) 1 0 (newLedger fars)
-    (omega arith) (omega arith) (omega arith) ln (first-and-rest fars (omega arith) ∙ tot) (λ arrival n i u. refl)
+    gather farAccounts (total homes + farTotal) block some (omega arith) top bs capacity farTotal (newLedger tariff homes) small (λ arrival n i. refl)
+    (clear-block block bs (l .2)) by it (farAccounts - 1) 1 0 (newLedger free fars)
+    (omega arith) (omega arith) (omega arith) refl ln (first-and-rest fars (omega arith) ∙ tot) (λ arrival n i u. refl)
 
 -- ## The theorem
 
 -- demand 3, the "exactly when" of its second half
 pub exactly-when-possible : ExactlyWhenPossible
 unfolding ExactlyWhenPossible countAllowed supplyAllowed sent received sum All
-exactly-when-possible capacity most homes farAccounts farTotal ok ds by d byd hm fit fars ln tot =
+exactly-when-possible capacity most tariff homes farAccounts farTotal ok ds by d byd hm fit fars ln tot =
     let c = homeValidator capacity in
-    let v₀ = homeOpened homes farAccounts farTotal in
+    let v₀ = homeOpened tariff homes farAccounts farTotal in
     let v = run c v₀ ds in
     let done = passedRecords c v₀ ds in
     let reached = reached-run c v₀ ds in
     let len : length (done ++ handed d) ≤ capacity = rw length-append fit in
-    let opening = opening-none (length homes) farAccounts (total homes + farTotal) ok in
+    let opening = opening-none tariff (length homes) farAccounts (total homes + farTotal) ok in
     let count = every-all _ (opening .far-count) in
     let small = leb-true (total homes + farTotal) maxAmount (opening .supply-fits) in (
       (λ h.
-          complete homes fars farAccounts farTotal capacity (done ++ handed d) (ltb-true 0 farAccounts (count .0))
+          complete tariff homes fars farAccounts farTotal capacity (done ++ handed d) (ltb-true 0 farAccounts (count .0))
           (leb-true farAccounts accountLimit (count .1 .0)) (omega arith) ln tot len most
           (all-append Bytes done (handed d) (passed-bytes c v₀ ds by) (handed-bytes d byd))
           (in-turn-append c v₀ done (handed d) (reached .in-turn) (rw (← reached .state) (call-in-turn c v d h)))),
       (λ p.
           let it : InTurn c v₀ (done ++ handed d) =
           interleaving-sound (p .interleaved) capacity farAccounts farTotal (total homes + farTotal) farTotal
-          (newLedger homes) (newLedger fars) ln
-          (subst (Sound (newLedger homes) (newLedger fars)) tot (sound-opened homes fars)) refl
+          (newLedger tariff homes) (newLedger free fars) ln
+          (subst (Sound (newLedger tariff homes) (newLedger free fars)) tot (sound-opened tariff homes fars (omega (arith, ltb-true 0 farAccounts (count .0))))) refl
           (omega (arith, len)) (all-append HomeRecord done (handed d) (all-home capacity v₀ done (reached .in-turn)) hm)
           (p .are-far) (p .passes) in
-          in-turn-call c v d (home-run-accepted capacity homes farAccounts farTotal ok ds)
+          in-turn-call c v d (home-run-accepted capacity tariff homes farAccounts farTotal ok ds)
           (rw (reached .state) (in-turn-split c v₀ done (handed d) it .1))),
     )

@@ -13,7 +13,7 @@ use Rattle.rules.specs.Calls.{InTurn, passedRecords, recordsOn, stateAft
 use Rattle.rules.specs.HomeValidator.{HomeView, farPoolOf, homeAfter, homeJudge, homeJudgeRecord, poolAfter, received, sent}
 use Rattle.rules.specs.HomeValidator.{HomeRecord, WithinPool, homeOpened, homeValidator}
 use Rattle.rules.specs.Lists.{sum}
-use Rattle.rules.specs.Rules.{Far, Home, Kind, Local, Read, Receiving, Record, Sending}
+use Rattle.rules.specs.Rules.{Far, Home, Kind, Local, Read, Receiving, Record, Sending, Tariff}
 
 -- ## The far pool and the passed records
 
@@ -48,13 +48,13 @@ pooled-step capacity farTotal v b done j t =
     }
 
 -- so it is after records that pass in turn from the opening
-pooled-all : (capacity : ℕ) (homes : List ℕ) (farAccounts farTotal : ℕ) (bs : List (List ℕ))
-    → InTurn (homeValidator capacity) (homeOpened homes farAccounts farTotal) bs
-    → Pooled farTotal (stateAfter (homeValidator capacity) (homeOpened homes farAccounts farTotal) bs) bs
+pooled-all : (capacity : ℕ) (tariff : Tariff) (homes : List ℕ) (farAccounts farTotal : ℕ) (bs : List (List ℕ))
+    → InTurn (homeValidator capacity) (homeOpened tariff homes farAccounts farTotal) bs
+    → Pooled farTotal (stateAfter (homeValidator capacity) (homeOpened tariff homes farAccounts farTotal) bs) bs
 unfolding recordsOn sent received sum
-pooled-all capacity homes farAccounts farTotal bs it =
+pooled-all capacity tariff homes farAccounts farTotal bs it =
     keep-in-turn (homeValidator capacity) (Pooled farTotal) (pooled-step capacity farTotal) bs
-    (homeOpened homes farAccounts farTotal) [] it
+    (homeOpened tariff homes farAccounts farTotal) [] it
     (record { records = refl; pool = refl })
 
 -- the far pool is then the one worked out
@@ -76,24 +76,24 @@ all-home capacity v (b ∷ bs) h =
 -- demand 3, the bound of its second half
 pub within-pool : WithinPool
 unfolding WithinPool InTurn HomePassable
-within-pool capacity homes farAccounts farTotal ok ds =
+within-pool capacity tariff homes farAccounts farTotal ok ds =
     let c = homeValidator capacity in
-    let v₀ = homeOpened homes farAccounts farTotal in
+    let v₀ = homeOpened tariff homes farAccounts farTotal in
     let reached = reached-run c v₀ ds in
-    let t = pooled-all capacity homes farAccounts farTotal (passedRecords c v₀ ds) (reached .in-turn) in
+    let t = pooled-all capacity tariff homes farAccounts farTotal (passedRecords c v₀ ds) (reached .in-turn) in
     record {
       bounded = λ xs ys q.
           let it : InTurn c v₀ (xs ++ ys) = rw q at (reached .in-turn) in
-          omega (arith, pooled-all capacity homes farAccounts farTotal xs (in-turn-split c v₀ xs ys it .0) .pool);
+          omega (arith, pooled-all capacity tariff homes farAccounts farTotal xs (in-turn-split c v₀ xs ys it .0) .pool);
       each = λ xs ys b r q g k.
           let it : InTurn c v₀ (xs ++ b ∷ ys) = rw q at (reached .in-turn) in
           let s = in-turn-split c v₀ xs (b ∷ ys) it in
           let v : HomeView = stateAfter c v₀ xs in
           let j : homeJudge capacity v (Read r) ≡ 0 = rw g at (s .1 .0) in
-          rw (← pooled-figure farTotal v xs (pooled-all capacity homes farAccounts farTotal xs (s .0)))
+          rw (← pooled-figure farTotal v xs (pooled-all capacity tariff homes farAccounts farTotal xs (s .0)))
           (home-judge-none v r (Receiving Home) k (or-else-zero (homeJudgeRecord v r) _ j .0) .1);
       figure = ap (λ (v : HomeView). v .farPool) (reached .state) ∙ pooled-figure farTotal _ _ t;
       home-records = all-home capacity v₀ _ (reached .in-turn);
       table = ap (λ (v : HomeView). v .home .passed) (reached .state) ∙ t .records;
-      accepted = home-run-accepted capacity homes farAccounts farTotal ok ds;
+      accepted = home-run-accepted capacity tariff homes farAccounts farTotal ok ds;
     }

@@ -1,7 +1,7 @@
 -- Demand 3, second half, from a far list to a pass: where an interleaving passes the rules, the home validator passes its home
 -- records. Assumes nothing.
 use Rattle.rules.specs.Calls.{InTurn}
-use Rattle.wire.proofs.Prelude.{List, [], _+_, _∙_, _∷_, _≡_, _≤_, arith, false, fun-ext, length, length-append, refl, sym, true, ℕ}
+use Rattle.wire.proofs.Prelude.{List, [], _+_, _<_, _∙_, _∷_, _≡_, _≤_, arith, false, fun-ext, length, length-append, refl, sym, true, ℕ}
 use Rattle.ledgers.specs.Ledgers.{ledgerOf}
 use Rattle.records.specs.Records.{reading}
 use Rattle.rules.proofs.Clashes.{Distinct}
@@ -14,7 +14,8 @@ use Rattle.rules.specs.HomeValidator.{HomeView, homeAccounts, homeJudgeR
 use Rattle.rules.specs.HomeValidator.{FarRecord, HomeFollowsRules, HomeRecord, homeValidator}
 use Rattle.rules.specs.Lists.{Interleaving, all, left, none, right, sum, total}
 use Rattle.rules.specs.Rules.{Far, Home, Kind, Ledger, LedgerState, Local, PairState, Receiving, Record, Sending, accountsOf}
-use Rattle.rules.specs.Rules.{Passes, after, afterBytes, held, isReceiving, judge, judgeBytes, lastRefusal, newLedger}
+use Rattle.rules.specs.Rules.{Passes, Tariff, after, afterBytes, held, isReceiving, judge, judgeBytes, lastRefusal, newLedger}
+use Rattle.tariffs.specs.Tariffs.{free}
 use Rattle.wire.specs.BigEndian.{All}
 
 -- ## Both ledgers by name
@@ -52,17 +53,23 @@ home-follows-rules v far count r l =
 
 -- ## What the rules keep from an opening
 
--- both ledgers' records are clean, and far balances are what its records leave of the far total
+-- both ledgers' records are clean, far's charge account is open, and far balances are what its records leave of the far total
 pub record Sound (H F : LedgerState) (farTotal : ℕ) : Type 0 where
   pub home-clean : Clean H F
   pub far-clean : Clean F H
+  pub far-open : F .tariff .account < length (F .balances)
   pub far-sum : total (F .balances) + sent (F .passed) ≡ farTotal + received (F .passed)
 
 -- after a home record
 sound-home : (H F : LedgerState) (r : Record) (farTotal : ℕ) → Passable H F r (r .kind) → Sound H F farTotal
     → Sound (held H r) F farTotal
 sound-home H F r farTotal h s =
-    record { home-clean = clean-own H F r h (s .home-clean); far-clean = clean-other F H r (s .far-clean); far-sum = s .far-sum }
+    record {
+      home-clean = clean-own H F r h (s .home-clean);
+      far-clean = clean-other F H r (s .far-clean);
+      far-open = s .far-open;
+      far-sum = s .far-sum;
+    }
 
 -- after a far record
 sound-far : (H F : LedgerState) (r : Record) (farTotal : ℕ) → Passable F H r (r .kind) → Sound H F farTotal → Sound H (held F r) farTotal
@@ -70,7 +77,8 @@ sound-far H F r farTotal h s =
     record {
       home-clean = clean-other H F r (s .home-clean);
       far-clean = clean-own F H r h (s .far-clean);
-      far-sum = omega (arith, s .far-sum, own-sums F H r (r .kind) refl h);
+      far-open = rw (length-moved (F .tariff) (F .balances) r (r .kind)) (s .far-open);
+      far-sum = omega (arith, s .far-sum, own-sums F H r (r .kind) (s .far-open) refl h);
     }
 
 -- what home received is within the far total and what it sent
@@ -79,9 +87,9 @@ sound-within H F farTotal s =
     omega (arith, s .far-sum, crossing H F (s .home-clean) (s .far-clean), crossing F H (s .far-clean) (s .home-clean))
 
 -- at the opening
-pub sound-opened : (homes fars : List ℕ) → Sound (newLedger homes) (newLedger fars) (total fars)
+pub sound-opened : (tariff : Tariff) (homes fars : List ℕ) → 0 < length fars → Sound (newLedger tariff homes) (newLedger free fars) (total fars)
 unfolding all Distinct sent received sum
-sound-opened homes fars = search
+sound-opened tariff homes fars h = search
 
 -- ## One record
 
@@ -131,5 +139,5 @@ interleaving-sound (right {y = b} {ys = fars} {zs = merged} w) capacity farAccou
     let r = x .0 in
     let q : ledgerOf (r .kind) ≡ Far = is-far _ (rw (x .1) at (fr .0 .1)) in
     let h : Passable F H r (r .kind) = rw q at (judge-none (pairOf H F) r (r .kind) refl (x .2)) in
-    interleaving-sound w capacity farAccounts pool supply farTotal H (held F r) (length-moved (F .balances) r (r .kind) ∙ count)
+    interleaving-sound w capacity farAccounts pool supply farTotal H (held F r) (length-moved (F .tariff) (F .balances) r (r .kind) ∙ count)
     (sound-far H F r farTotal h sound) out fit hr (fr .1) (rw (x .1, after-far H F r q) at (ps .1))

@@ -1,5 +1,6 @@
 -- A passed record on one ledger, seen from it and from the other one. Assumes nothing.
-use Rattle.wire.proofs.Prelude.{List, [], _++_, _+_, _<_, _∷_, _≡_, _≤_, ap, arith, false, fun-ext, or-assoc, or-true, refl, true, ℕ}
+use Rattle.wire.proofs.Prelude.{List, [], _++_, _+_, _<_, _∷_, _≡_, _≤_, ap, arith, false, fun-ext, length, or-assoc, or-true, refl}
+use Rattle.wire.proofs.Prelude.{true, ℕ}
 use Rattle.ledgers.specs.Ledgers.{counterpart}
 use Rattle.ledgers.specs.Limits.{maxAmount}
 use Rattle.records.proofs.Formed.{formed-facts, read-formed}
@@ -13,6 +14,7 @@ use Rattle.rules.specs.Lists.{all, any, lowered, total}
 use Rattle.rules.specs.PairValidator.{matched}
 use Rattle.rules.specs.Rules.{Far, Home, Kind, Ledger, LedgerState, Local, PairState, Read, Receiving, Record, Sending, stateOf}
 use Rattle.rules.specs.Rules.{accountsOf, clashes, credit, debit, flight, held, matches, moved, withState}
+use Rattle.tariffs.specs.Tariffs.{charge}
 use Rattle.wire.specs.BigEndian.{field}
 
 -- ## One of two ledgers
@@ -26,8 +28,8 @@ counterpart-twice Far = refl
 
 -- a passed record leaves the numbers of accounts, whichever ledger it stands on
 pub accounts-with : (m : Ledger) (r : Record) (p : PairState) → accountsOf (withState m (held (stateOf m p) r) p) ≡ accountsOf p
-accounts-with Home r p = fun-ext (elim [ Home ↦ length-moved (p .home .balances) r (r .kind) | Far ↦ refl ])
-accounts-with Far r p = fun-ext (elim [ Home ↦ refl | Far ↦ length-moved (p .far .balances) r (r .kind) ])
+accounts-with Home r p = fun-ext (elim [ Home ↦ length-moved (p .home .tariff) (p .home .balances) r (r .kind) | Far ↦ refl ])
+accounts-with Far r p = fun-ext (elim [ Home ↦ refl | Far ↦ length-moved (p .far .tariff) (p .far .balances) r (r .kind) ])
 
 module _ (own other : LedgerState) (r : Record) where
   -- a passable record clashes with none, and where it is an arrival it has its sending
@@ -39,21 +41,24 @@ module _ (own other : LedgerState) (r : Record) where
   passable-clean (Receiving l) q h = (h .0 .fresh, rw (h .1, or-true))
 
   -- what it does to balances, sent and received on its ledger
-  pub own-sums : (k : Kind) → r .kind ≡ k → Passable own other r k
-      → total (moved (own .balances) r k) + sent (own .passed ++ r ∷ []) + received (own .passed)
+  pub own-sums : (k : Kind) → own .tariff .account < length (own .balances) → r .kind ≡ k → Passable own other r k
+      → total (moved (own .tariff) (own .balances) r k) + sent (own .passed ++ r ∷ []) + received (own .passed)
       ≡ total (own .balances) + sent (own .passed) + received (own .passed ++ r ∷ [])
   unfolding Passable
-  own-sums (Local l) q h =
+  own-sums (Local l) o q h =
       let s = sent-snoc (own .passed) r q in
       let t = received-snoc (own .passed) r q in
-      let u = total-lowered (own .balances) (r .sender) (debit r) (h .0 .sender-open) (h .1) in
-      let left = lowered (own .balances) (r .sender) (debit r) in
+      let u = total-lowered (own .balances) (r .sender) (r .amount) (h .0 .sender-open) (h .1) in
+      let left = lowered (own .balances) (r .sender) (r .amount) in
       omega (arith, total-raised left (r .receiver) (credit r) (rw length-lowered (h .0 .receiver-open)))
-  own-sums (Sending l) q h =
+  own-sums (Sending l) o q h =
       let s = sent-snoc (own .passed) r q in
       let t = received-snoc (own .passed) r q in
-      omega (arith, total-lowered (own .balances) (r .sender) (debit r) (h .0 .sender-open) (h .1))
-  own-sums (Receiving l) q h =
+      let whole = debit (own .tariff) r (Sending l) in
+      let u = total-lowered (own .balances) (r .sender) whole (h .0 .sender-open) (h .1) in
+      let left = lowered (own .balances) (r .sender) whole in
+      omega (arith, total-raised left (own .tariff .account) (charge (own .tariff .rate) (r .amount)) (rw length-lowered o))
+  own-sums (Receiving l) o q h =
       let s = sent-snoc (own .passed) r q in
       let t = received-snoc (own .passed) r q in
       omega (arith, total-raised (own .balances) (r .receiver) (credit r) (h .0 .receiver-open))

@@ -3,7 +3,8 @@ use Rattle.wire.proofs.Prelude.{Bool, List, [], _++_, _+_, _-_, _<_, _||_, _∙
 use Rattle.wire.proofs.Prelude.{eqb-false, eqb-true, false, getD, getD-set-same, inl, inr, length, length-set, ne-eqb, not, or-assoc}
 use Rattle.wire.proofs.Prelude.{or-false, or-true, refl, set, suc, sym, true, zero, ℕ}
 use Rattle.rules.specs.Lists.{all, any, lowered, raised, sameTruth, sum, total}
-use Rattle.rules.specs.Rules.{Kind, Local, Receiving, Record, Sending, credit, debit, moved}
+use Rattle.rules.specs.Rules.{Kind, Local, Receiving, Record, Sending, Tariff, credit, debit, moved}
+use Rattle.tariffs.specs.Tariffs.{charge}
 use Rattle.wire.proofs.Lists.{and-both, every-both, every-first, every-none}
 use Rattle.wire.specs.BigEndian.{All, every}
 
@@ -165,11 +166,14 @@ unfolding raised
 length-raised balances i a = length-set balances i (getD balances i 0 + a)
 
 -- a passed record leaves the number of accounts
-pub length-moved : (balances : List ℕ) (r : Record) (k : Kind) → length (moved balances r k) ≡ length balances
-length-moved balances r (Local l) =
-    length-raised (lowered balances (r .sender) (debit r)) (r .receiver) (credit r) ∙ length-lowered balances (r .sender) (debit r)
-length-moved balances r (Sending l) = length-lowered balances (r .sender) (debit r)
-length-moved balances r (Receiving l) = length-raised balances (r .receiver) (credit r)
+pub length-moved : (t : Tariff) (balances : List ℕ) (r : Record) (k : Kind) → length (moved t balances r k) ≡ length balances
+length-moved t balances r (Local l) =
+    length-raised (lowered balances (r .sender) (debit t r (Local l))) (r .receiver) (credit r)
+    ∙ length-lowered balances (r .sender) (debit t r (Local l))
+length-moved t balances r (Sending l) =
+    length-raised (lowered balances (r .sender) (debit t r (Sending l))) (t .account) (charge (t .rate) (r .amount))
+    ∙ length-lowered balances (r .sender) (debit t r (Sending l))
+length-moved t balances r (Receiving l) = length-raised balances (r .receiver) (credit r)
 
 -- ## One account
 

@@ -15,6 +15,8 @@ use Rattle.rules.specs.PairValidator.{PairKeepsAccepted, PairView, count
 use Rattle.rules.specs.PairValidator.{pairAccepts, pairValidator}
 use Rattle.rules.specs.Rules.{Far, Home, Ledger, LedgerState, PairState, Record, accountsOf, after, held, judge, stateOf, withState}
 use Rattle.rules.specs.Rules.{afterBytes, flight, inFlight}
+use Rattle.tariffs.proofs.Allowing.{allowed-open, free-allowed, nothing-free}
+use Rattle.tariffs.specs.Tariffs.{takesNothing, tariffAllowed}
 use Rattle.wire.specs.BigEndian.{All}
 
 -- ## The facts of an accepted state
@@ -23,6 +25,7 @@ use Rattle.wire.specs.BigEndian.{All}
 pub record LedgerFacts (capacity : ℕ) (accounts : Ledger → ℕ) (l : Ledger) (own other : LedgerState) : Type 0 where
   pub count : countAllowed (length (own .balances)) ≡ true
   pub room : length (own .passed) ≤ capacity
+  pub pays : tariffAllowed (own .tariff) (length (own .balances)) ≡ true
   pub allowed : all (heldAllowed accounts) (own .passed) ≡ true
   pub clean : Clean own other
   pub stand : all (standsUnder l) (own .passed) ≡ true
@@ -31,7 +34,18 @@ pub record LedgerFacts (capacity : ℕ) (accounts : Ledger → ℕ) (l : Ledger)
 pub record AcceptedFacts (capacity : ℕ) (v : PairView) : Type 0 where
   pub ledgers : (l : Ledger) → LedgerFacts capacity (accountsOf (v .pair)) l (stateOf l (v .pair)) (stateOf (counterpart l) (v .pair))
   pub supply-fits : supplyAllowed (v .supply) ≡ true
+  pub far-free : takesNothing (v .pair .far .tariff) ≡ true
   pub sums : total (v .pair .home .balances) + total (v .pair .far .balances) + inFlight (v .pair) ≡ v .supply
+
+-- an allowed number of accounts is not 0
+pub count-some : (n : ℕ) → countAllowed n ≡ true → 0 < n
+unfolding countAllowed All
+count-some n h = ltb-true _ _ (every-all _ h .0)
+
+-- a ledger on whose sendings nothing is taken
+nothing-pays : (s : LedgerState) → countAllowed (length (s .balances)) ≡ true → takesNothing (s .tariff) ≡ true
+    → tariffAllowed (s .tariff) (length (s .balances)) ≡ true
+nothing-pays s c h = rw (nothing-free (s .tariff) h) (free-allowed _ (count-some _ c))
 
 -- the test of refusal 3
 pub accepts-facts : (capacity : ℕ) (v : PairView) → pairAccepts capacity v ≡ true → AcceptedFacts capacity v
@@ -39,8 +53,9 @@ unfolding pairAccepts All
 accepts-facts capacity v h =
     let a = every-all _ h in
     record {
-      ledgers = elim [ Home ↦ search (leb-true, unshared-distinct) | Far ↦ search (leb-true, unshared-distinct) ];
+      ledgers = elim [ Home ↦ search (leb-true, unshared-distinct) | Far ↦ search (leb-true, unshared-distinct, nothing-pays) ];
       supply-fits = search;
+      far-free = search;
       sums = search eqb-true;
     }
 
@@ -83,7 +98,8 @@ module _ (capacity : ℕ) (accounts : Ledger → ℕ) (l : Ledger) (own other : 
       → LedgerFacts capacity accounts l own other → LedgerFacts capacity accounts l (held own r) other
   facts-own a s h room f =
       record {
-        count = rw (length-moved (own .balances) r (r .kind)) (f .count);
+        count = rw (length-moved (own .tariff) (own .balances) r (r .kind)) (f .count);
+        pays = rw (length-moved (own .tariff) (own .balances) r (r .kind)) (f .pays);
         room = omega (arith, length-append (own .passed) (r ∷ []));
         allowed = all-snoc _ (own .passed) r (f .allowed) a;
         clean = clean-own own other r h (f .clean);
@@ -95,15 +111,16 @@ module _ (capacity : ℕ) (accounts : Ledger → ℕ) (l : Ledger) (own other : 
   facts-other f = let c = clean-other own other r (f .clean) in search
 
 -- balances and in flight, from the record's ledger
-sum-step : (own other : LedgerState) (r : Record) → Passable own other r (r .kind) → Clean own other → Clean other own
+sum-step : (own other : LedgerState) (r : Record) → own .tariff .account < length (own .balances)
+    → Passable own other r (r .kind) → Clean own other → Clean other own
     → total (held own r .balances) + (flight (held own r .passed) (other .passed) + flight (other .passed) (held own r .passed))
     ≡ total (own .balances) + (flight (own .passed) (other .passed) + flight (other .passed) (own .passed))
-sum-step own other r h c d =
+sum-step own other r o h c d =
     let e = clean-own own other r h c in
     let f = clean-other other own r d in
     let a = crossing own other c d in
     let b = crossing other own d c in
-    omega (arith, own-sums own other r (r .kind) refl h, crossing (held own r) other e f, crossing other (held own r) f e)
+    omega (arith, own-sums own other r (r .kind) o refl h, crossing (held own r) other e f, crossing other (held own r) f e)
 
 -- both ledgers
 accepted-after : (capacity : ℕ) (v : PairView) (r : Record) → (0 < r .amount) × (r .amount ≤ maxAmount) → judge (v .pair) r ≡ 0
@@ -129,7 +146,8 @@ accepted-after capacity v r m j room a =
             | Far ↦ facts-other capacity (accountsOf p) Far (p .far) (p .home) r (a .ledgers Far)
           ]);
           supply-fits = a .supply-fits;
-          sums = omega (arith, a .sums, sum-step (p .home) (p .far) r h (a .ledgers Home .clean) (a .ledgers Far .clean));
+          far-free = a .far-free;
+          sums = omega (arith, a .sums, sum-step (p .home) (p .far) r (allowed-open _ _ (a .ledgers Home .pays)) h (a .ledgers Home .clean) (a .ledgers Far .clean));
         }
     go Far s h room =
         record {
@@ -138,7 +156,8 @@ accepted-after capacity v r m j room a =
             | Far ↦ facts-own capacity (accountsOf p) Far (p .far) (p .home) r ok s h room (a .ledgers Far)
           ]);
           supply-fits = a .supply-fits;
-          sums = omega (arith, a .sums, sum-step (p .far) (p .home) r h (a .ledgers Far .clean) (a .ledgers Home .clean));
+          far-free = a .far-free;
+          sums = omega (arith, a .sums, sum-step (p .far) (p .home) r (allowed-open _ _ (a .ledgers Far .pays)) h (a .ledgers Far .clean) (a .ledgers Home .clean));
         }
 
 -- a record of bytes that passes

@@ -50,9 +50,10 @@ first-else accounts passed r later x = rw (refuse-later, refuse-later, refuse-la
 -- ## 25, 31, 32 and 41
 
 -- the sender has what is taken
-funds : (balances : List ℕ) (r : Record) → (fundsRefusal balances r ≡ 0) ↔ (debit r ≤ getD balances (r .sender) 0)
+funds : (s : LedgerState) (r : Record) (k : Kind)
+    → (fundsRefusal s r k ≡ 0) ↔ (debit (s .tariff) r k ≤ getD (s .balances) (r .sender) 0)
 unfolding fundsRefusal
-funds balances r = (λ h. ltb-false _ _ (refuse-zero _ 25 0 (lit< tt) h .0), λ h. simp (le-ltb _ _ h))
+funds s r k = (λ h. ltb-false _ _ (refuse-zero _ 25 0 (lit< tt) h .0), λ h. simp (le-ltb _ _ h))
 
 -- there is room
 pub room-none : (capacity : ℕ) (passed : List Record) → roomRefusal capacity passed ≡ 0 → length passed < capacity
@@ -74,9 +75,11 @@ full-room capacity passed h = simp (le-leb _ _ h)
 -- what the rules ask of a record of a kind
 unfoldable pub Passable : LedgerState → LedgerState → Record → Kind → Type 0
 Passable own other r (Local l) =
-    Allowed (length (own .balances)) (length (own .balances)) (own .passed) r × (debit r ≤ getD (own .balances) (r .sender) 0)
+    Allowed (length (own .balances)) (length (own .balances)) (own .passed) r
+    × (debit (own .tariff) r (Local l) ≤ getD (own .balances) (r .sender) 0)
 Passable own other r (Sending l) =
-    Allowed (length (own .balances)) (length (other .balances)) (own .passed) r × (debit r ≤ getD (own .balances) (r .sender) 0)
+    Allowed (length (own .balances)) (length (other .balances)) (own .passed) r
+    × (debit (own .tariff) r (Sending l) ≤ getD (own .balances) (r .sender) 0)
 Passable own other r (Receiving l) =
     Allowed (length (other .balances)) (length (own .balances)) (own .passed) r × (any (matches r) (other .passed) ≡ true)
 
@@ -112,9 +115,10 @@ module _ (p : PairState) (r : Record) where
 unfoldable pub HomePassable : HomeView → Record → Kind → Type 0
 HomePassable v r (Local Home) =
     Allowed (length (v .home .balances)) (length (v .home .balances)) (v .home .passed) r
-    × (debit r ≤ getD (v .home .balances) (r .sender) 0)
+    × (debit (v .home .tariff) r (Local Home) ≤ getD (v .home .balances) (r .sender) 0)
 HomePassable v r (Sending Home) =
-    Allowed (length (v .home .balances)) (v .farAccounts) (v .home .passed) r × (debit r ≤ getD (v .home .balances) (r .sender) 0)
+    Allowed (length (v .home .balances)) (v .farAccounts) (v .home .passed) r
+    × (debit (v .home .tariff) r (Sending Home) ≤ getD (v .home .balances) (r .sender) 0)
 HomePassable v r (Receiving Home) = Allowed (v .farAccounts) (length (v .home .balances)) (v .home .passed) r × (r .amount ≤ v .farPool)
 HomePassable v r (Local Far) = ⊥
 HomePassable v r (Sending Far) = ⊥
@@ -130,8 +134,8 @@ module _ (v : HomeView) (r : Record) where
   -- it is what it asks
   home-judged : (k : Kind) → HomeJudged k ↔ HomePassable v r k
   unfolding HomePassable HomeJudged poolRefusal
-  home-judged (Local Home) = (λ a. (a .1, funds _ r .0 (a .2)), λ a. (refl, a .0, funds _ r .1 (a .1)))
-  home-judged (Sending Home) = (λ a. (a .1, funds _ r .0 (a .2)), λ a. (refl, a .0, funds _ r .1 (a .1)))
+  home-judged (Local Home) = (λ a. (a .1, funds _ r _ .0 (a .2)), λ a. (refl, a .0, funds _ r _ .1 (a .1)))
+  home-judged (Sending Home) = (λ a. (a .1, funds _ r _ .0 (a .2)), λ a. (refl, a .0, funds _ r _ .1 (a .1)))
   home-judged (Receiving Home) =
       (λ a. (a .1, ltb-false _ _ (refuse-zero _ 32 0 (lit< tt) (a .2) .0)), λ a. (refl, a .0, simp (le-ltb _ _ (a .1))))
   home-judged (Local Far) = (λ a. never-both-tests (a .0), absurd)

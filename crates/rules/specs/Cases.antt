@@ -1,5 +1,5 @@
 -- The starred cases of document 01 as rows of one table, and rows of our own: accounts that are not open, the order of refusals, numbers
--- by class, matches that look near enough, openings, and states that refusal 3 has something against. Assumes nothing.
+-- by class, charges, matches that look near enough, openings, and states that refusal 3 has something against. Assumes nothing.
 use Prim.Native.Nat.{ℕ, _-_, _^_}
 use mathlib.Core.Path.{_≡_}
 use mathlib.Core.Bool.{Bool, true, false, _&&_, not}
@@ -11,7 +11,9 @@ use Rattle.records.specs.Records.{encoding}
 use Rattle.rules.specs.HomeValidator.{HomeView, homeAccepts, homeOpened, homeOpeningRefusal, homeValidator}
 use Rattle.rules.specs.Lists.{all, sameTruth}
 use Rattle.rules.specs.PairValidator.{PairView, pairAccepts, pairOpened, pairOpeningRefusal}
-use Rattle.rules.specs.Rules.{Far, Home, Kind, Local, PairState, Receiving, Record, Sending, afterBytes, inFlight, judgeBytes, opened}
+use Rattle.rules.specs.Rules.{Far, Home, Kind, Local, PairState, Receiving, Record, Sending, Tariff, afterBytes, inFlight, judgeBytes}
+use Rattle.rules.specs.Rules.{newLedger, opened}
+use Rattle.tariffs.specs.Tariffs.{free}
 use Rattle.wire.specs.BigEndian.{every, same}
 
 -- ## Rows
@@ -27,22 +29,28 @@ pub data CaseRow : Type 0 where
   homeRow : ℕ → List (List ℕ) → List ℕ → ℕ → CaseRow
   -- the home validator in this state gives the number
   homeRowIn : HomeView → List ℕ → ℕ → CaseRow
-  -- an opening with these balances gets the number (0: accepted)
-  openingRow : ℕ → List ℕ → List ℕ → ℕ → CaseRow
-  -- an opening of the home validator, with home balances, far accounts and far total, gets the number
-  homeOpeningRow : ℕ → List ℕ → ℕ → ℕ → ℕ → CaseRow
+  -- the rules in this state pass the record; then home balances, far balances and in flight
+  passRowIn : PairState → List ℕ → List ℕ → List ℕ → ℕ → CaseRow
+  -- or refuse it with the number
+  refusalRowIn : PairState → List ℕ → ℕ → CaseRow
+  -- the home validator in this state passes the record; then home balances and the far pool
+  homePassRowIn : HomeView → List ℕ → List ℕ → ℕ → CaseRow
+  -- an opening with this tariff and these balances gets the number (0: accepted)
+  openingRow : ℕ → Tariff → List ℕ → List ℕ → ℕ → CaseRow
+  -- an opening of the home validator, with tariff, home balances, far accounts and far total, gets the number
+  homeOpeningRow : ℕ → Tariff → List ℕ → ℕ → ℕ → ℕ → CaseRow
   -- the pair validator with this capacity accepts the state, or does not
   stateRow : ℕ → PairView → Bool → CaseRow
   -- the home validator likewise
   homeStateRow : ℕ → HomeView → Bool → CaseRow
 
--- home has accounts with 100 and 50, far has one with 20 (Cases: opening)
+-- home has accounts with 100 and 50, far has one with 20 (Cases: opening); nothing is taken on sendings
 unfoldable pub caseOpening : PairState
-caseOpening = opened (100 ∷ 50 ∷ []) (20 ∷ [])
+caseOpening = opened free (100 ∷ 50 ∷ []) (20 ∷ [])
 
 -- the same for the home validator
 unfoldable pub homeCaseOpening : HomeView
-homeCaseOpening = homeOpened (100 ∷ 50 ∷ []) 1 20
+homeCaseOpening = homeOpened free (100 ∷ 50 ∷ []) 1 20
 
 -- the state after records
 unfoldable pub afterAll : PairState → List (List ℕ) → PairState
@@ -89,8 +97,17 @@ holds (homeRow n before now number) =
     ∷ []
     )
 holds (homeRowIn v now number) = eqb (homeValidator capacity .judge v now) number
-holds (openingRow n homes fars number) = eqb (pairOpeningRefusal homes fars) number
-holds (homeOpeningRow n homes farAccounts farTotal number) = eqb (homeOpeningRefusal homes farAccounts farTotal) number
+holds (passRowIn p now homes fars flying) = every (eqb (judgeBytes p now) 0 ∷ shows (afterBytes p now) homes fars flying ∷ [])
+holds (refusalRowIn p now number) = eqb (judgeBytes p now) number
+holds (homePassRowIn v now homes pool) =
+    every
+    (eqb (homeValidator capacity .judge v now) 0
+    ∷ same (homeValidator capacity .after v now .home .balances) homes
+    ∷ eqb (homeValidator capacity .after v now .farPool) pool
+    ∷ []
+    )
+holds (openingRow n tariff homes fars number) = eqb (pairOpeningRefusal tariff homes fars) number
+holds (homeOpeningRow n tariff homes farAccounts farTotal number) = eqb (homeOpeningRefusal tariff homes farAccounts farTotal) number
 holds (stateRow room v accepted) = sameTruth (pairAccepts room v) accepted
 holds (homeStateRow room v accepted) = sameTruth (homeAccepts room v) accepted
 
@@ -125,19 +142,19 @@ cases =
     ∷ homeRow 9 (good (Sending Home) 0 0 1 30 ∷ []) (good (Receiving Home) 0 0 2 51) 32
     ∷ refusalRow 10 (good (Local Home) 0 0 1 1 ∷ []) (bad (Local Home) 0 0 1 1) 23
     ∷ refusalRow 11 [] (set (good (Local Home) 0 0 1 1) 24 2) 21
-    ∷ openingRow 12 ((2 ^ 63 - 1) ∷ []) (0 ∷ []) 0
-    ∷ openingRow 12 ((2 ^ 63 - 1) ∷ []) (1 ∷ []) 2
-    ∷ openingRow 12 ((2 ^ 63 - 1) ∷ 0 ∷ []) (0 ∷ []) 0
-    ∷ openingRow 12 ((2 ^ 63 - 1) ∷ 1 ∷ []) (0 ∷ []) 2
-    ∷ homeOpeningRow 12 ((2 ^ 63 - 1) ∷ []) 1 0 0
-    ∷ homeOpeningRow 12 ((2 ^ 63 - 1) ∷ []) 1 1 2
+    ∷ openingRow 12 free ((2 ^ 63 - 1) ∷ []) (0 ∷ []) 0
+    ∷ openingRow 12 free ((2 ^ 63 - 1) ∷ []) (1 ∷ []) 2
+    ∷ openingRow 12 free ((2 ^ 63 - 1) ∷ 0 ∷ []) (0 ∷ []) 0
+    ∷ openingRow 12 free ((2 ^ 63 - 1) ∷ 1 ∷ []) (0 ∷ []) 2
+    ∷ homeOpeningRow 12 free ((2 ^ 63 - 1) ∷ []) 1 0 0
+    ∷ homeOpeningRow 12 free ((2 ^ 63 - 1) ∷ []) 1 1 2
     ∷ []
 
 -- ## Rows of our own
 
 -- the home validator with fewer accounts at home than the far ledger has
 unfoldable pub farLarger : HomeView
-farLarger = homeOpened (100 ∷ []) 2 20
+farLarger = homeOpened free (100 ∷ []) 2 20
 
 -- of each kind on each ledger the sender's account alone, the receiver's alone and both not open; home has accounts 0 and 1, far has
 -- account 0 only, so that 1 is open for those at home alone, and in the last rows the other way round (document 02, U1; Refusals: 22)
@@ -253,6 +270,55 @@ classRows =
     ∷ homeRow 0 (good (Receiving Home) 0 0 7 1 ∷ []) (good (Receiving Home) 0 1 7 1) 24
     ∷ []
 
+-- a charge of so many ten-thousandths, paid to a home account
+abbrev pub taking : ℕ → ℕ → Tariff
+taking rate account = record { rate = rate; account = account }
+
+-- home with 1,000 and 50 and far with 20, and a charge
+abbrev pub charged : ℕ → ℕ → PairState
+charged rate account = opened (taking rate account) (1000 ∷ 50 ∷ []) (20 ∷ [])
+
+-- the same for the home validator
+abbrev pub homeCharged : ℕ → ℕ → HomeView
+homeCharged rate account = homeOpened (taking rate account) (1000 ∷ 50 ∷ []) 1 20
+
+-- what home's sendings cost: rounded down, paid to the charge account, which may be the sender, needed beside the amount, and exact where
+-- amount times rate is beyond 64 bits; locals, far sendings and arrivals cost nothing, and what is in flight and the far pool leave the
+-- charge out (document 02, U3)
+unfoldable pub chargeRows : List CaseRow
+chargeRows =
+    passRowIn (charged 50 1) (good (Sending Home) 0 0 7 199) (801 ∷ 50 ∷ []) (20 ∷ []) 199
+    ∷ passRowIn (charged 50 1) (good (Sending Home) 0 0 7 200) (799 ∷ 51 ∷ []) (20 ∷ []) 200
+    ∷ passRowIn (charged 50 1) (good (Sending Home) 0 0 7 399) (600 ∷ 51 ∷ []) (20 ∷ []) 399
+    ∷ passRowIn (charged 1 1) (good (Sending Home) 0 0 7 1000) (0 ∷ 50 ∷ []) (20 ∷ []) 1000
+    ∷ passRowIn (charged 9999 1) (good (Sending Home) 0 0 7 10) (981 ∷ 59 ∷ []) (20 ∷ []) 10
+    ∷ passRowIn (charged 10000 1) (good (Sending Home) 0 0 7 500) (0 ∷ 550 ∷ []) (20 ∷ []) 500
+    ∷ refusalRowIn (charged 10000 1) (good (Sending Home) 0 0 7 501) 25
+    ∷ passRowIn (charged 50 1) (good (Sending Home) 0 0 7 995) (1 ∷ 54 ∷ []) (20 ∷ []) 995
+    ∷ passRowIn (charged 50 1) (good (Sending Home) 0 0 7 996) (0 ∷ 54 ∷ []) (20 ∷ []) 996
+    ∷ refusalRowIn (charged 50 1) (good (Sending Home) 0 0 7 997) 25
+    ∷ refusalRowIn (charged 50 1) (good (Sending Home) 0 0 7 1000) 25
+    ∷ passRowIn (charged 10000 0) (good (Sending Home) 0 0 7 500) (500 ∷ 50 ∷ []) (20 ∷ []) 500
+    ∷ refusalRowIn (charged 10000 0) (good (Sending Home) 0 0 7 501) 25
+    ∷ passRowIn (charged 10000 1) (good (Sending Home) 1 0 7 25) (1000 ∷ 25 ∷ []) (20 ∷ []) 25
+    ∷ passRowIn (charged 10000 1) (good (Local Home) 0 1 7 1000) (0 ∷ 1050 ∷ []) (20 ∷ []) 0
+    ∷ passRowIn (charged 10000 1) (good (Sending Far) 0 0 7 20) (1000 ∷ 50 ∷ []) (0 ∷ []) 20
+    ∷ passRowIn (afterBytes (charged 10000 1) (good (Sending Far) 0 0 7 20)) (good (Receiving Home) 0 0 7 20) (1020 ∷ 50 ∷ []) (0 ∷ []) 0
+    ∷ passRowIn (afterBytes (charged 10000 1) (good (Sending Home) 0 0 7 500)) (good (Receiving Far) 0 0 7 500) (0 ∷ 550 ∷ []) (520 ∷ []) 0
+    ∷ refusalRowIn (afterBytes (charged 10000 1) (good (Sending Home) 0 0 7 500)) (good (Receiving Far) 0 0 7 1000) 31
+    ∷ passRowIn (opened (taking 9999 1) ((2 ^ 63 - 1) ∷ 0 ∷ []) (0 ∷ [])) (good (Sending Home) 0 0 7 4611916614258100809)
+    (0 ∷ 4611455422596674998 ∷ []) (0 ∷ []) 4611916614258100809
+    ∷ refusalRowIn (opened (taking 9999 1) ((2 ^ 63 - 1) ∷ 0 ∷ []) (0 ∷ [])) (good (Sending Home) 0 0 7 4611916614258100810) 25
+    ∷ refusalRowIn (opened (taking 10000 1) ((2 ^ 63 - 1) ∷ 0 ∷ []) (0 ∷ [])) (good (Sending Home) 0 0 7 (2 ^ 63 - 1)) 25
+    ∷ homePassRowIn (homeCharged 50 1) (good (Sending Home) 0 0 7 200) (799 ∷ 51 ∷ []) 220
+    ∷ homePassRowIn (homeCharged 10000 0) (good (Sending Home) 0 0 7 500) (500 ∷ 50 ∷ []) 520
+    ∷ homePassRowIn (homeCharged 10000 1) (good (Local Home) 0 1 7 1000) (0 ∷ 1050 ∷ []) 20
+    ∷ homePassRowIn (homeCharged 10000 1) (good (Receiving Home) 0 0 7 20) (1020 ∷ 50 ∷ []) 0
+    ∷ homeRowIn (homeCharged 10000 1) (good (Sending Home) 0 0 7 501) 25
+    ∷ homeRowIn (homeAfterAll (homeCharged 10000 1) (good (Sending Home) 0 0 7 500 ∷ [])) (good (Receiving Home) 0 0 7 520) 0
+    ∷ homeRowIn (homeAfterAll (homeCharged 10000 1) (good (Sending Home) 0 0 7 500 ∷ [])) (good (Receiving Home) 0 0 7 521) 32
+    ∷ []
+
 -- arrivals that differ from the sending in one field, or find a local; number 0 is used like any other (Matches and sums)
 unfoldable pub nearRows : List CaseRow
 nearRows =
@@ -266,19 +332,31 @@ nearRows =
     ∷ refusalRow 0 (good (Sending Home) 1 0 0 50 ∷ []) (good (Local Home) 0 0 0 1) 24
     ∷ []
 
--- 1 before 2: 1 to 56 accounts on each ledger
+-- 1 before 2 before 52: 1 to 56 accounts on each ledger, a rate of 0 to 10,000, and a charge account that is open at home, at rate 0 too
 unfoldable pub openingRows : List CaseRow
 openingRows =
-    openingRow 0 (replicate 56 1) (replicate 56 1) 0
-    ∷ openingRow 0 (replicate 57 1) (1 ∷ []) 1
-    ∷ openingRow 0 (1 ∷ []) (replicate 57 1) 1
-    ∷ openingRow 0 [] (1 ∷ []) 1
-    ∷ openingRow 0 (1 ∷ []) [] 1
-    ∷ openingRow 0 (replicate 57 (2 ^ 63)) (1 ∷ []) 1
-    ∷ homeOpeningRow 0 (replicate 56 1) 56 1 0
-    ∷ homeOpeningRow 0 (replicate 57 1) 1 1 1
-    ∷ homeOpeningRow 0 (1 ∷ []) 57 1 1
-    ∷ homeOpeningRow 0 (1 ∷ []) 0 (2 ^ 63) 1
+    openingRow 0 free (replicate 56 1) (replicate 56 1) 0
+    ∷ openingRow 0 free (replicate 57 1) (1 ∷ []) 1
+    ∷ openingRow 0 free (1 ∷ []) (replicate 57 1) 1
+    ∷ openingRow 0 free [] (1 ∷ []) 1
+    ∷ openingRow 0 free (1 ∷ []) [] 1
+    ∷ openingRow 0 free (replicate 57 (2 ^ 63)) (1 ∷ []) 1
+    ∷ openingRow 0 (taking 10000 1) (1 ∷ 1 ∷ []) (1 ∷ []) 0
+    ∷ openingRow 0 (taking 10001 0) (1 ∷ []) (1 ∷ []) 52
+    ∷ openingRow 0 (taking 1 1) (1 ∷ []) (1 ∷ 1 ∷ []) 52
+    ∷ openingRow 0 (taking 0 1) (1 ∷ []) (1 ∷ 1 ∷ []) 52
+    ∷ openingRow 0 (taking 10001 1) ((2 ^ 63) ∷ []) (1 ∷ []) 2
+    ∷ openingRow 0 (taking 10001 1) ((2 ^ 63) ∷ []) [] 1
+    ∷ homeOpeningRow 0 (taking 10000 1) (1 ∷ 1 ∷ []) 1 1 0
+    ∷ homeOpeningRow 0 (taking 10001 0) (1 ∷ []) 1 1 52
+    ∷ homeOpeningRow 0 (taking 1 1) (1 ∷ []) 2 1 52
+    ∷ homeOpeningRow 0 (taking 0 1) (1 ∷ []) 2 1 52
+    ∷ homeOpeningRow 0 (taking 10001 1) (1 ∷ []) 1 (2 ^ 63) 2
+    ∷ homeOpeningRow 0 (taking 10001 1) (1 ∷ []) 0 (2 ^ 63) 1
+    ∷ homeOpeningRow 0 free (replicate 56 1) 56 1 0
+    ∷ homeOpeningRow 0 free (replicate 57 1) 1 1 1
+    ∷ homeOpeningRow 0 free (1 ∷ []) 57 1 1
+    ∷ homeOpeningRow 0 free (1 ∷ []) 0 (2 ^ 63) 1
     ∷ []
 
 -- a record of kind k with number n and amount a, from account s to account r, and its signature
@@ -291,8 +369,8 @@ pairHolding homes fars supply =
     record {
       pair =
           record {
-            home = record { balances = 100 ∷ 50 ∷ []; passed = homes };
-            far = record { balances = 20 ∷ []; passed = fars };
+            home = record { balances = 100 ∷ 50 ∷ []; passed = homes; tariff = free };
+            far = record { balances = 20 ∷ []; passed = fars; tariff = free };
           };
       supply = supply;
     }
@@ -300,7 +378,12 @@ pairHolding homes fars supply =
 -- the same for the home validator
 abbrev pub homeHolding : List Record → ℕ → ℕ → ℕ → HomeView
 homeHolding homes farAccounts pool supply =
-    record { home = record { balances = 100 ∷ 50 ∷ []; passed = homes }; farAccounts = farAccounts; farPool = pool; supply = supply }
+    record {
+      home = record { balances = 100 ∷ 50 ∷ []; passed = homes; tariff = free };
+      farAccounts = farAccounts;
+      farPool = pool;
+      supply = supply;
+    }
 
 -- what refusal 3 has something against, one condition after the other, beside states that are accepted
 unfoldable pub stateRows : List CaseRow
@@ -308,13 +391,13 @@ stateRows =
     stateRow 2 (pairHolding [] [] 170) true
     ∷ stateRow 2 (pairHolding (heldRecord (Sending Home) 0 0 7 30 true ∷ []) [] 200) true
     ∷ stateRow 2 (pairHolding (heldRecord (Receiving Home) 0 0 8 5 true ∷ []) (heldRecord (Sending Far) 0 0 8 5 true ∷ []) 170) true
-    ∷ stateRow 2 (pairOpened [] (20 ∷ [])) false
-    ∷ stateRow 2 (pairOpened (20 ∷ []) []) false
-    ∷ stateRow 2 (pairOpened (replicate 57 1) (20 ∷ [])) false
-    ∷ stateRow 2 (pairOpened (20 ∷ []) (replicate 57 1)) false
+    ∷ stateRow 2 (pairOpened free [] (20 ∷ [])) false
+    ∷ stateRow 2 (pairOpened free (20 ∷ []) []) false
+    ∷ stateRow 2 (pairOpened free (replicate 57 1) (20 ∷ [])) false
+    ∷ stateRow 2 (pairOpened free (20 ∷ []) (replicate 57 1)) false
     ∷ stateRow 0 (pairHolding (heldRecord (Local Home) 0 1 1 1 true ∷ []) [] 170) false
     ∷ stateRow 0 (pairHolding [] (heldRecord (Local Far) 0 0 1 1 true ∷ []) 170) false
-    ∷ stateRow 2 (pairOpened ((2 ^ 63) ∷ []) (0 ∷ [])) false
+    ∷ stateRow 2 (pairOpened free ((2 ^ 63) ∷ []) (0 ∷ [])) false
     ∷ stateRow 2 (pairHolding (heldRecord (Local Home) 0 1 1 0 true ∷ []) [] 170) false
     ∷ stateRow 2 (pairHolding (heldRecord (Local Home) 0 1 1 (2 ^ 63) true ∷ []) [] 170) false
     ∷ stateRow 2 (pairHolding (heldRecord (Local Home) 2 1 1 1 true ∷ []) [] 170) false
@@ -365,6 +448,15 @@ stateRows =
     ∷ stateRow 2 (pairHolding [] (heldRecord (Local Home) 0 0 1 1 true ∷ []) 170) false
     ∷ stateRow 2 (pairHolding [] [] 169) false
     ∷ stateRow 2 (pairHolding [] [] 171) false
+    ∷ stateRow 2 (pairOpened (taking 10000 1) (100 ∷ 50 ∷ []) (20 ∷ [])) true
+    ∷ stateRow 2 (pairOpened (taking 10001 1) (100 ∷ 50 ∷ []) (20 ∷ [])) false
+    ∷ stateRow 2 (pairOpened (taking 1 2) (100 ∷ 50 ∷ []) (20 ∷ 1 ∷ 1 ∷ [])) false
+    ∷ stateRow 2 (pairOpened (taking 0 2) (100 ∷ 50 ∷ []) (20 ∷ 1 ∷ 1 ∷ [])) false
+    ∷ stateRow 2 (record { pair = record { home = newLedger free (1 ∷ []); far = newLedger (taking 1 0) (1 ∷ []) }; supply = 2 }) false
+    ∷ homeStateRow 1 (homeOpened (taking 10000 1) (100 ∷ 50 ∷ []) 1 20) true
+    ∷ homeStateRow 1 (homeOpened (taking 10001 1) (100 ∷ 50 ∷ []) 1 20) false
+    ∷ homeStateRow 1 (homeOpened (taking 1 2) (100 ∷ 50 ∷ []) 3 20) false
+    ∷ homeStateRow 1 (homeOpened (taking 0 2) (100 ∷ 50 ∷ []) 3 20) false
     ∷ homeStateRow 1 (homeHolding [] 1 20 170) true
     ∷ homeStateRow 1 (homeHolding (heldRecord (Receiving Home) 0 0 8 5 true ∷ []) 1 20 170) true
     ∷ homeStateRow 1 (homeHolding [] 0 20 170) false
@@ -399,4 +491,4 @@ CasesHold = all holds cases ≡ true
 
 -- and every row of our own
 unfoldable pub FurtherRowsHold : Type 0
-FurtherRowsHold = all holds (accountRows ++ (orderRows ++ (classRows ++ (nearRows ++ (openingRows ++ stateRows))))) ≡ true
+FurtherRowsHold = all holds (accountRows ++ (orderRows ++ (classRows ++ (chargeRows ++ (nearRows ++ (openingRows ++ stateRows)))))) ≡ true

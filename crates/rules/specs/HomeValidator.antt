@@ -16,7 +16,8 @@ use Rattle.rules.specs.Lists.{Interleaving, all, sum, total}
 use Rattle.rules.specs.PairValidator.{countAllowed, heldAllowed, openingRefusal, roomRefusal, standsUnder, supplyAllowed, unshared}
 use Rattle.rules.specs.Rules.{Far, Home, Kind, Ledger, LedgerState, Local, Read, Reading, Receiving, Record, Sending, Unreadable}
 use Rattle.rules.specs.Rules.{PairState, firstRefusal, fundsRefusal, held, isReceiving, isSending, judge, newLedger, opened}
-use Rattle.rules.specs.Rules.{Passes, after}
+use Rattle.rules.specs.Rules.{Passes, Tariff, after}
+use Rattle.tariffs.specs.Tariffs.{tariffAllowed}
 use Rattle.wire.specs.BigEndian.{All, Bytes, every}
 
 -- ## The state
@@ -60,8 +61,8 @@ poolRefusal farPool r = refuse (ltb farPool (r .amount)) 32 0
 
 -- then 25 or 32, by kind
 abbrev pub homeLastRefusal : HomeView → Record → Kind → ℕ
-homeLastRefusal v r (Local l) = fundsRefusal (v .home .balances) r
-homeLastRefusal v r (Sending l) = fundsRefusal (v .home .balances) r
+homeLastRefusal v r (Local l) = fundsRefusal (v .home) r (Local l)
+homeLastRefusal v r (Sending l) = fundsRefusal (v .home) r (Sending l)
 homeLastRefusal v r (Receiving l) = poolRefusal (v .farPool) r
 
 -- a far record is refused first (33); then the rules' own tests of accounts, signature and number (Guard: form, accounts, ..)
@@ -89,7 +90,7 @@ homeAfter v (Read r) =
 
 -- ## 3: the states that it accepts
 
--- refusal 3, in document 01's order (Refusals: 3); what only the program's state can hold is not here
+-- refusal 3, in document 01's order (Refusals: 3), with 52's condition (document 02, U3); what only the program's state can hold is not here
 unfoldable pub homeAccepts : ℕ → HomeView → Bool
 homeAccepts capacity v =
     every
@@ -97,6 +98,7 @@ homeAccepts capacity v =
     ∷ countAllowed (v .farAccounts)
     ∷ leb (length (v .home .passed)) capacity
     ∷ supplyAllowed (v .supply)
+    ∷ tariffAllowed (v .home .tariff) (length (v .home .balances))
     ∷ all (heldAllowed (homeAccounts v)) (v .home .passed)
     ∷ unshared (v .home .passed)
     ∷ all (standsUnder Home) (v .home .passed)
@@ -115,15 +117,15 @@ homeValidator capacity =
 
 -- ## The opening
 
--- the refusal of an opening with home balances, the number of far accounts and their total (Guard: opens with)
-abbrev pub homeOpeningRefusal : List ℕ → ℕ → ℕ → ℕ
-homeOpeningRefusal homes farAccounts farTotal = openingRefusal (length homes) farAccounts (total homes + farTotal)
+-- the refusal of an opening with a tariff (document 02, U3), home balances, the number of far accounts and their total (Guard: opens with)
+abbrev pub homeOpeningRefusal : Tariff → List ℕ → ℕ → ℕ → ℕ
+homeOpeningRefusal tariff homes farAccounts farTotal = openingRefusal tariff (length homes) farAccounts (total homes + farTotal)
 
 -- the state of an accepted opening
-abbrev pub homeOpened : List ℕ → ℕ → ℕ → HomeView
-homeOpened homes farAccounts farTotal =
+abbrev pub homeOpened : Tariff → List ℕ → ℕ → ℕ → HomeView
+homeOpened tariff homes farAccounts farTotal =
     record {
-      home = newLedger homes;
+      home = newLedger tariff homes;
       farAccounts = farAccounts;
       farPool = farTotal;
       supply = total homes + farTotal;
@@ -174,38 +176,38 @@ mostCapacity = 2 ^ 31
 unfoldable pub ExactlyWhenPossible : Type 0
 ExactlyWhenPossible =
     (capacity : ℕ) → capacity ≤ mostCapacity
-    → (homes : List ℕ) (farAccounts farTotal : ℕ) → homeOpeningRefusal homes farAccounts farTotal ≡ 0
+    → (tariff : Tariff) (homes : List ℕ) (farAccounts farTotal : ℕ) → homeOpeningRefusal tariff homes farAccounts farTotal ≡ 0
     → (ds : List Call) → All CallBytes ds → (d : Call) → CallBytes d → All HomeRecord (handed d)
-    → length (passedRecords (homeValidator capacity) (homeOpened homes farAccounts farTotal) ds) + length (handed d) ≤ capacity
+    → length (passedRecords (homeValidator capacity) (homeOpened tariff homes farAccounts farTotal) ds) + length (handed d) ≤ capacity
     → (fars : List ℕ) → length fars ≡ farAccounts → total fars ≡ farTotal
-    → (call (homeValidator capacity) (run (homeValidator capacity) (homeOpened homes farAccounts farTotal) ds) d .answer ≡ Passed)
-    ↔ Possible (opened homes fars) (passedRecords (homeValidator capacity) (homeOpened homes farAccounts farTotal) ds ++ handed d)
+    → (call (homeValidator capacity) (run (homeValidator capacity) (homeOpened tariff homes farAccounts farTotal) ds) d .answer ≡ Passed)
+    ↔ Possible (opened tariff homes fars) (passedRecords (homeValidator capacity) (homeOpened tariff homes farAccounts farTotal) ds ++ handed d)
 
 -- what holds after the calls of a run
-pub record WithinPoolAfter (capacity : ℕ) (homes : List ℕ) (farAccounts farTotal : ℕ) (ds : List Call) : Type 0 where
+pub record WithinPoolAfter (capacity : ℕ) (tariff : Tariff) (homes : List ℕ) (farAccounts farTotal : ℕ) (ds : List Call) : Type 0 where
   -- at every beginning of the passed records, what was received is at most the far opening total and what was sent
-  pub bounded : (xs ys : List (List ℕ)) → passedRecords (homeValidator capacity) (homeOpened homes farAccounts farTotal) ds ≡ xs ++ ys
+  pub bounded : (xs ys : List (List ℕ)) → passedRecords (homeValidator capacity) (homeOpened tariff homes farAccounts farTotal) ds ≡ xs ++ ys
       → received (recordsOn Home xs) ≤ farTotal + sent (recordsOn Home xs)
   -- an arrival among them is at most the far pool of the records before it
   pub each : (xs ys : List (List ℕ)) (b : List ℕ) (r : Record)
-      → passedRecords (homeValidator capacity) (homeOpened homes farAccounts farTotal) ds ≡ xs ++ b ∷ ys
+      → passedRecords (homeValidator capacity) (homeOpened tariff homes farAccounts farTotal) ds ≡ xs ++ b ∷ ys
       → reading b ≡ Read r → r .kind ≡ Receiving Home → r .amount ≤ farPoolOf farTotal (recordsOn Home xs)
   -- the state's far pool is the one worked out
-  pub figure : run (homeValidator capacity) (homeOpened homes farAccounts farTotal) ds .farPool
-      ≡ farPoolOf farTotal (recordsOn Home (passedRecords (homeValidator capacity) (homeOpened homes farAccounts farTotal) ds))
+  pub figure : run (homeValidator capacity) (homeOpened tariff homes farAccounts farTotal) ds .farPool
+      ≡ farPoolOf farTotal (recordsOn Home (passedRecords (homeValidator capacity) (homeOpened tariff homes farAccounts farTotal) ds))
   -- every passed record is a home one
-  pub home-records : All HomeRecord (passedRecords (homeValidator capacity) (homeOpened homes farAccounts farTotal) ds)
+  pub home-records : All HomeRecord (passedRecords (homeValidator capacity) (homeOpened tariff homes farAccounts farTotal) ds)
   -- the table holds the passed records, in order
-  pub table : run (homeValidator capacity) (homeOpened homes farAccounts farTotal) ds .home .passed
-      ≡ recordsOn Home (passedRecords (homeValidator capacity) (homeOpened homes farAccounts farTotal) ds)
+  pub table : run (homeValidator capacity) (homeOpened tariff homes farAccounts farTotal) ds .home .passed
+      ≡ recordsOn Home (passedRecords (homeValidator capacity) (homeOpened tariff homes farAccounts farTotal) ds)
   -- 3 never arises
-  pub accepted : homeAccepts capacity (run (homeValidator capacity) (homeOpened homes farAccounts farTotal) ds) ≡ true
+  pub accepted : homeAccepts capacity (run (homeValidator capacity) (homeOpened tariff homes farAccounts farTotal) ds) ≡ true
 
 -- home never pays out above the far pool: at every accepted opening and after every list of calls
 unfoldable pub WithinPool : Type 0
 WithinPool =
-    (capacity : ℕ) (homes : List ℕ) (farAccounts farTotal : ℕ) → homeOpeningRefusal homes farAccounts farTotal ≡ 0
-    → (ds : List Call) → WithinPoolAfter capacity homes farAccounts farTotal ds
+    (capacity : ℕ) (tariff : Tariff) (homes : List ℕ) (farAccounts farTotal : ℕ) → homeOpeningRefusal tariff homes farAccounts farTotal ≡ 0
+    → (ds : List Call) → WithinPoolAfter capacity tariff homes farAccounts farTotal ds
 
 -- a call in any accepted state, reached by a run or not, hands back an accepted one
 unfoldable pub HomeKeepsAccepted : Type 0

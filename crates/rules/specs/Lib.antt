@@ -7,5 +7,6 @@ pub mod PairValidator
 pub mod HomeValidator
 pub mod Accounts
 pub mod Arrivals
+pub mod Charges
 pub mod Cases
 pub mod Beyond

@@ -16,7 +16,8 @@ use Rattle.rules.specs.Calls.{Call, Checker, KeepsAccepted, call, one, p
 use Rattle.rules.specs.Lists.{all, any, total}
 use Rattle.rules.specs.Rules.{Far, Home, Ledger, PairState, Read, Reading, Record, Unreadable, accountsOf, opened, stateOf}
 use Rattle.rules.specs.Rules.{afterBytes, clashes, firstRefusal, isReceiving, judge, judgeBytes, judgeReading, matches}
-use Rattle.rules.specs.Rules.{flightBoth, inFlight}
+use Rattle.rules.specs.Rules.{Tariff, flightBoth, inFlight}
+use Rattle.tariffs.specs.Tariffs.{takesNothing, tariffAllowed}
 use Rattle.wire.specs.BigEndian.{every}
 
 -- ## The state
@@ -76,8 +77,9 @@ sameLedger Far Far = true
 unfoldable pub standsUnder : Ledger → Record → Bool
 standsUnder l r = sameLedger l (ledgerOf (r .kind))
 
--- refusal 3, in document 01's order (Refusals: 3). Balances beyond the accounts, and words that do not read (kind, ledger, verdict or
--- zero bytes wrong), do not arise here but in the state that the program holds
+-- refusal 3, in document 01's order (Refusals: 3), with 52's condition (document 02, U3). Balances beyond the accounts, and words that do
+-- not read (kind, ledger, verdict or zero bytes wrong), do not arise here but in the state that the program holds; that something is
+-- taken on far's sendings arises here alone
 unfoldable pub pairAccepts : ℕ → PairView → Bool
 pairAccepts capacity v =
     every
@@ -86,6 +88,8 @@ pairAccepts capacity v =
     ∷ leb (length (v .pair .home .passed)) capacity
     ∷ leb (length (v .pair .far .passed)) capacity
     ∷ supplyAllowed (v .supply)
+    ∷ tariffAllowed (v .pair .home .tariff) (length (v .pair .home .balances))
+    ∷ takesNothing (v .pair .far .tariff)
     ∷ all (heldAllowed (accountsOf (v .pair))) (v .pair .home .passed)
     ∷ all (heldAllowed (accountsOf (v .pair))) (v .pair .far .passed)
     ∷ unshared (v .pair .home .passed)
@@ -109,20 +113,22 @@ pairValidator capacity =
 
 -- ## The opening
 
--- 1, then 2, with the numbers of accounts and the total of all opening balances (Refusals: order of the opening)
-unfoldable pub openingRefusal : ℕ → ℕ → ℕ → ℕ
-openingRefusal homes fars supply =
+-- 1, then 2, then 52, with the tariff, the numbers of accounts and the total of all opening balances (Refusals: order of the opening;
+-- document 02, U3)
+unfoldable pub openingRefusal : Tariff → ℕ → ℕ → ℕ → ℕ
+openingRefusal tariff homes fars supply =
     refuse (not (every (countAllowed homes ∷ countAllowed fars ∷ []))) 1
     (refuse (not (supplyAllowed supply)) 2
-    0)
+    (refuse (not (tariffAllowed tariff homes)) 52
+    0))
 
--- the refusal of an opening with these balances
-abbrev pub pairOpeningRefusal : List ℕ → List ℕ → ℕ
-pairOpeningRefusal homes fars = openingRefusal (length homes) (length fars) (total homes + total fars)
+-- the refusal of an opening with this tariff and these balances
+abbrev pub pairOpeningRefusal : Tariff → List ℕ → List ℕ → ℕ
+pairOpeningRefusal tariff homes fars = openingRefusal tariff (length homes) (length fars) (total homes + total fars)
 
 -- the state of an accepted opening
-abbrev pub pairOpened : List ℕ → List ℕ → PairView
-pairOpened homes fars = record { pair = opened homes fars; supply = total homes + total fars }
+abbrev pub pairOpened : Tariff → List ℕ → List ℕ → PairView
+pairOpened tariff homes fars = record { pair = opened tariff homes fars; supply = total homes + total fars }
 
 -- ## Demand 2
 
@@ -157,27 +163,28 @@ unfoldable pub inFlightOf : List (List ℕ) → ℕ
 inFlightOf bs = flightBoth (recordsOn Home bs) (recordsOn Far bs)
 
 -- what holds after the calls of a run
-pub record ConservedAfter (capacity : ℕ) (homes fars : List ℕ) (ds : List Call) : Type 0 where
+pub record ConservedAfter (capacity : ℕ) (tariff : Tariff) (homes fars : List ℕ) (ds : List Call) : Type 0 where
   -- home balances plus far balances plus in flight, worked out from the passed records, equal the supply
-  pub conserved : total (run (pairValidator capacity) (pairOpened homes fars) ds .pair .home .balances)
-      + total (run (pairValidator capacity) (pairOpened homes fars) ds .pair .far .balances)
-      + inFlightOf (passedRecords (pairValidator capacity) (pairOpened homes fars) ds)
+  pub conserved : total (run (pairValidator capacity) (pairOpened tariff homes fars) ds .pair .home .balances)
+      + total (run (pairValidator capacity) (pairOpened tariff homes fars) ds .pair .far .balances)
+      + inFlightOf (passedRecords (pairValidator capacity) (pairOpened tariff homes fars) ds)
       ≡ total homes + total fars
   -- the state's own figure for in flight is the one worked out
-  pub figure : inFlight (run (pairValidator capacity) (pairOpened homes fars) ds .pair)
-      ≡ inFlightOf (passedRecords (pairValidator capacity) (pairOpened homes fars) ds)
+  pub figure : inFlight (run (pairValidator capacity) (pairOpened tariff homes fars) ds .pair)
+      ≡ inFlightOf (passedRecords (pairValidator capacity) (pairOpened tariff homes fars) ds)
   -- the state's supply is the opening's
-  pub supply-same : run (pairValidator capacity) (pairOpened homes fars) ds .supply ≡ total homes + total fars
+  pub supply-same : run (pairValidator capacity) (pairOpened tariff homes fars) ds .supply ≡ total homes + total fars
   -- each ledger's table holds its passed records, in order
-  pub tables : (l : Ledger) → stateOf l (run (pairValidator capacity) (pairOpened homes fars) ds .pair) .passed
-      ≡ recordsOn l (passedRecords (pairValidator capacity) (pairOpened homes fars) ds)
+  pub tables : (l : Ledger) → stateOf l (run (pairValidator capacity) (pairOpened tariff homes fars) ds .pair) .passed
+      ≡ recordsOn l (passedRecords (pairValidator capacity) (pairOpened tariff homes fars) ds)
   -- 3 never arises
-  pub accepted : pairAccepts capacity (run (pairValidator capacity) (pairOpened homes fars) ds) ≡ true
+  pub accepted : pairAccepts capacity (run (pairValidator capacity) (pairOpened tariff homes fars) ds) ≡ true
 
 -- at every accepted opening and after every list of calls
 unfoldable pub Conserved : Type 0
 Conserved =
-    (capacity : ℕ) (homes fars : List ℕ) → pairOpeningRefusal homes fars ≡ 0 → (ds : List Call) → ConservedAfter capacity homes fars ds
+    (capacity : ℕ) (tariff : Tariff) (homes fars : List ℕ) → pairOpeningRefusal tariff homes fars ≡ 0
+    → (ds : List Call) → ConservedAfter capacity tariff homes fars ds
 
 -- a call in any accepted state, reached by a run or not, hands back an accepted one
 unfoldable pub PairKeepsAccepted : Type 0

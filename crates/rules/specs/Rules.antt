@@ -1,4 +1,4 @@
--- The rules of document 01 (Rules of the pair book) as document 02 alters them (U1, U2), over balances and passed records, with no table
+-- The rules of document 01 (Rules of the pair book) as document 02 alters them (U1 to U3), over balances and passed records, with no table
 -- limit. A comment in brackets names the sentence of document 01 that a definition renders, and the line of PRIViLEDGE D3.2's
 -- Algorithm 2 that it comes from. Where the two differ document 01 decides: it counts numbers by ledger and tests accounts. Assumes
 -- nothing.
@@ -12,6 +12,7 @@ use Rattle.answers.specs.Answers.{refuse}
 use Rattle.ledgers.specs.Ledgers.{counterpart, ledgerOf, receiverLedger, senderLedger}
 use Rattle.records.specs.Records.{reading, readingRefusal}
 use Rattle.rules.specs.Lists.{any, lowered, raised, sameTruth, sum}
+use Rattle.tariffs.specs.Tariffs.{charge, cost, free}
 use Rattle.wire.specs.BigEndian.{every}
 pub use Rattle.ledgers.specs.declared.Ledger.{Ledger}
 pub use Rattle.ledgers.specs.declared.Ledger.the-variants.{Far, Home}
@@ -20,13 +21,16 @@ pub use Rattle.ledgers.specs.declared.Kind.the-variants.{Local, Receiving, Send
 pub use Rattle.records.specs.declared.Record.{Record}
 pub use Rattle.records.specs.declared.Reading.{Reading}
 pub use Rattle.records.specs.declared.Reading.the-variants.{Read, Unreadable}
+pub use Rattle.tariffs.specs.declared.Tariff.{Tariff}
 
 -- ## The state
 
--- a ledger: the balances of its accounts, numbered from 0, and the records passed on it, in order
+-- a ledger: the balances of its accounts, numbered from 0, the records passed on it, in order, and what is taken on its sendings
+-- (document 02, U3)
 pub record LedgerState : Type 0 where
   pub balances : List ℕ
   pub passed : List Record
+  pub tariff : Tariff
 
 -- both ledgers
 pub record PairState : Type 0 where
@@ -47,13 +51,13 @@ withState Far s p = record { home = p .home; far = s }
 abbrev pub accountsOf : PairState → Ledger → ℕ
 accountsOf p l = length (stateOf l p .balances)
 
--- a ledger with these balances on which no record has passed
-abbrev pub newLedger : List ℕ → LedgerState
-newLedger balances = record { balances = balances; passed = [] }
+-- a ledger with this tariff and these balances on which no record has passed
+abbrev pub newLedger : Tariff → List ℕ → LedgerState
+newLedger tariff balances = record { balances = balances; passed = []; tariff = tariff }
 
--- both ledgers at an opening (Rules: an opening; Algorithm 2, line 2)
-abbrev pub opened : List ℕ → List ℕ → PairState
-opened homes fars = record { home = newLedger homes; far = newLedger fars }
+-- both ledgers at an opening (Rules: an opening; Algorithm 2, line 2); nothing is taken on far's sendings (document 02, U3)
+abbrev pub opened : Tariff → List ℕ → List ℕ → PairState
+opened tariff homes fars = record { home = newLedger tariff homes; far = newLedger free fars }
 
 -- ## The kinds
 
@@ -76,9 +80,11 @@ isReceiving (Receiving l) = true
 unfoldable pub clashes : Record → Record → Bool
 clashes r x = sameTruth (isReceiving (r .kind)) (isReceiving (x .kind)) && eqb (r .number) (x .number)
 
--- what a local or sending takes from its sender
-abbrev pub debit : Record → ℕ
-debit r = r .amount
+-- what a record takes from its sender: a local its amount, a sending its amount and the charge (document 02, U3)
+abbrev pub debit : Tariff → Record → Kind → ℕ
+debit t r (Local l) = r .amount
+debit t r (Sending l) = cost (t .rate) (r .amount)
+debit t r (Receiving l) = 0
 
 -- what a local or arrival gives to its receiver
 abbrev pub credit : Record → ℕ
@@ -108,8 +114,8 @@ firstRefusal accounts passed r later =
     later)))
 
 -- the sender's balance is too small for what is taken (Rules: a local or sending; 25; Algorithm 2, line 16)
-unfoldable pub fundsRefusal : List ℕ → Record → ℕ
-fundsRefusal balances r = refuse (ltb (getD balances (r .sender) 0) (debit r)) 25 0
+unfoldable pub fundsRefusal : LedgerState → Record → Kind → ℕ
+fundsRefusal s r k = refuse (ltb (getD (s .balances) (r .sender) 0) (debit (s .tariff) r k)) 25 0
 
 -- no sending of the other ledger matches (Rules: an arrival has; 31; Algorithm 2, line 26)
 unfoldable pub matchRefusal : List Record → Record → ℕ
@@ -117,8 +123,8 @@ matchRefusal passed r = refuse (not (any (matches r) passed)) 31 0
 
 -- then 25 or 31, by kind
 abbrev pub lastRefusal : PairState → Record → Kind → ℕ
-lastRefusal p r (Local l) = fundsRefusal (stateOf l p .balances) r
-lastRefusal p r (Sending l) = fundsRefusal (stateOf l p .balances) r
+lastRefusal p r (Local l) = fundsRefusal (stateOf l p) r (Local l)
+lastRefusal p r (Sending l) = fundsRefusal (stateOf l p) r (Sending l)
 lastRefusal p r (Receiving l) = matchRefusal (stateOf (counterpart l) p .passed) r
 
 -- the refusal of a record that was read, or 0 (Rules: a record passes if)
@@ -128,15 +134,17 @@ judge p r = firstRefusal (accountsOf p) (stateOf (ledgerOf (r .kind)) p .passed)
 -- ## What a passed record does
 
 -- a local lowers the sender's balance and then raises the receiver's, a sending does the first and an arrival the second (Rules:
--- takes and gives; Algorithm 2, lines 32 and 37)
-abbrev pub moved : List ℕ → Record → Kind → List ℕ
-moved balances r (Local l) = raised (lowered balances (r .sender) (debit r)) (r .receiver) (credit r)
-moved balances r (Sending l) = lowered balances (r .sender) (debit r)
-moved balances r (Receiving l) = raised balances (r .receiver) (credit r)
+-- takes and gives; Algorithm 2, lines 32 and 37); a sending then raises the balance of the charge account, which may be its sender, by the
+-- charge (document 02, U3)
+abbrev pub moved : Tariff → List ℕ → Record → Kind → List ℕ
+moved t balances r (Local l) = raised (lowered balances (r .sender) (debit t r (Local l))) (r .receiver) (credit r)
+moved t balances r (Sending l) = raised (lowered balances (r .sender) (debit t r (Sending l))) (t .account) (charge (t .rate) (r .amount))
+moved t balances r (Receiving l) = raised balances (r .receiver) (credit r)
 
 -- a ledger once a record has passed on it (Algorithm 2, line 39)
 abbrev pub held : LedgerState → Record → LedgerState
-held s r = record { balances = moved (s .balances) r (r .kind); passed = s .passed ++ r ∷ [] }
+held s r =
+    record { balances = moved (s .tariff) (s .balances) r (r .kind); passed = s .passed ++ r ∷ []; tariff = s .tariff }
 
 -- both ledgers once a record has passed
 unfoldable pub after : PairState → Record → PairState

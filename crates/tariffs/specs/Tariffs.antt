@@ -2,7 +2,7 @@
 use Prim.Native.Nat.{ℕ, _+_, _*_, _/_}
 use mathlib.Core.Bool.{Bool}
 use mathlib.Core.List.{[], _∷_}
-use lib.Dec.{leb, ltb}
+use lib.Dec.{eqb, leb, ltb}
 use Rattle.wire.specs.BigEndian.{every}
 pub use Rattle.tariffs.specs.declared.Tariff.{Tariff}
 
@@ -13,6 +13,10 @@ parts = 10000
 -- nothing taken: what the far ledger has, and home in journals of before
 abbrev pub free : Tariff
 free = record { rate = 0; account = 0 }
+
+-- a tariff is that one
+unfoldable pub takesNothing : Tariff → Bool
+takesNothing t = every (eqb (t .rate) 0 ∷ eqb (t .account) 0 ∷ [])
 
 -- the charge on an amount that leaves home: so many ten-thousandths of it, rounded down
 unfoldable pub charge : ℕ → ℕ → ℕ
