@@ -26,4 +26,5 @@ pub mod Numbers
 pub mod NeverThree
 pub mod Accounts
 pub mod Arrivals
+pub mod Charges
 pub mod Parts
