@@ -14,6 +14,8 @@ use Rattle.places.specs.OverPlaces.{sumAt}
 use Rattle.places.specs.declared.exact_sums.Wide.{Wide}
 use Rattle.rules.specs.Lists.{total}
 use Rattle.rules.specs.PairValidator.{countAllowed, openingRefusal, supplyAllowed}
+use Rattle.rules.specs.Rules.{Tariff}
+use Rattle.tariffs.specs.Tariffs.{tariffAllowed}
 use Rattle.wire.proofs.Lists.{every-both, every-first, every-none, every-not}
 use Rattle.wire.specs.BigEndian.{every}
 
@@ -35,14 +37,14 @@ facts-count n some fits =
 
 -- ## The refusals
 
-module _ (homes fars supply : ℕ) where
+module _ (tariff : Tariff) (homes fars supply : ℕ) where
   -- a number of home accounts that is not allowed is refused
-  pub home-refused : countAllowed homes ≡ false → 1 ≡ openingRefusal homes fars supply
+  pub home-refused : countAllowed homes ≡ false → 1 ≡ openingRefusal tariff homes fars supply
   unfolding openingRefusal
   home-refused h = let e = every-not 0 (countAllowed homes ∷ countAllowed fars ∷ []) h in rw e
 
   -- and so is one of far accounts
-  pub far-refused : countAllowed fars ≡ false → 1 ≡ openingRefusal homes fars supply
+  pub far-refused : countAllowed fars ≡ false → 1 ≡ openingRefusal tariff homes fars supply
   unfolding openingRefusal
   far-refused f = let e = every-not 1 (countAllowed homes ∷ countAllowed fars ∷ []) f in rw e
 
@@ -52,14 +54,19 @@ module _ (homes fars supply : ℕ) where
     counts-allowed = every-both _ _ h (every-both _ _ f every-none)
 
     -- a supply that is more than an amount is refused
-    pub supply-refused : maxAmount < supply → 2 ≡ openingRefusal homes fars supply
+    pub supply-refused : maxAmount < supply → 2 ≡ openingRefusal tariff homes fars supply
     unfolding openingRefusal supplyAllowed
     supply-refused s = rw (counts-allowed, lt-leb supply maxAmount s)
 
-    -- and else nothing is
-    pub none-refused : supply ≤ maxAmount → 0 ≡ openingRefusal homes fars supply
+    -- then a tariff that is not allowed
+    pub tariff-refused : supply ≤ maxAmount → tariffAllowed tariff homes ≡ false → 52 ≡ openingRefusal tariff homes fars supply
     unfolding openingRefusal supplyAllowed
-    none-refused s = rw (counts-allowed, le-leb supply maxAmount s)
+    tariff-refused s t = rw (counts-allowed, le-leb supply maxAmount s, t)
+
+    -- and else nothing is
+    pub none-refused : supply ≤ maxAmount → tariffAllowed tariff homes ≡ true → 0 ≡ openingRefusal tariff homes fars supply
+    unfolding openingRefusal supplyAllowed
+    none-refused s t = rw (counts-allowed, le-leb supply maxAmount s, t)
 
 -- what an opening leaves, in another form
 pub opening-in : {A B : Type 0} (f : A → B) (n : ℕ) (given instead : A)

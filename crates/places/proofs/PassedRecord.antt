@@ -1,15 +1,18 @@
 -- A passed record in the balances: what changes, and what stays. Assumes nothing.
-use Rattle.wire.proofs.Prelude.{Bool, List, List·getD-eq-default, _+_, _-_, _<_, _∙_, _∷_, _≡_, _≤_, _⊎_, ap, arith, cond, drop, drop-cons}
+use Rattle.wire.proofs.Prelude.{Bool, List, List·getD-eq-default, _+_, _-_, _<_, _∙_, _∷_, _≡_, _≤_, _⊎_, add-zero, ap, arith, cond, drop}
+use Rattle.wire.proofs.Prelude.{drop-cons}
 use Rattle.wire.proofs.Prelude.{drop-set-add, eqb, eqb-false, eqb-true, false, getD, getD-drop, getD-set-other, getD-set-same, getD-take}
 use Rattle.wire.proofs.Prelude.{length, length-set, length-take, ltb, ltb-false, ltb-true, refl, set, set-getD, suc, sym, take, take-set-lt}
-use Rattle.wire.proofs.Prelude.{true, zero, ℕ, ⊎-elim}
+use Rattle.wire.proofs.Prelude.{true, zero, zero-add, ℕ, ⊎-elim}
 use Rattle.ledgers.specs.Ledgers.{counterpart, ledgerByte}
 use Rattle.places.proofs.OverPlaces.{all-ext, list-ext}
-use Rattle.places.specs.Amounts.{givenBy, takenBy}
-use Rattle.places.specs.LedgerBalances.{balanceAt, movedAt, placed, zerosAt}
+use Rattle.places.specs.Amounts.{chargeBy, givenBy, payeeBy, takenBy}
+use Rattle.places.specs.LedgerBalances.{balanceAt, movedAt, placed, placedTariff, zerosAt}
 use Rattle.places.specs.OverPlaces.{listAt}
 use Rattle.rules.specs.Lists.{lowered, raised}
-use Rattle.rules.specs.Rules.{Far, Home, Kind, Ledger, Local, Receiving, Record, Sending, moved}
+use Rattle.rules.specs.Rules.{Far, Home, Kind, Ledger, Local, Receiving, Record, Sending, Tariff, moved}
+use Rattle.tariffs.proofs.Charges.{charge-most}
+use Rattle.tariffs.specs.Tariffs.{charge, cost, parts}
 
 -- the bytes of a ledger and of the other one
 pub ledger-other : (l : Ledger) → ledgerByte l + ledgerByte (counterpart l) ≡ 1
@@ -58,24 +61,29 @@ part-raised : (b : List ℕ) (from n i x : ℕ) → i < n → Part b (raised b (
 unfolding raised
 part-raised b from n i x h = rw (← part-at b from n i h) (part-set b from n i (getD b (from + i) 0 + x) h)
 
--- the accounts that a record of a kind changes are among n
-unfoldable pub Changes : ℕ → Record → Kind → Type 0
-Changes n r (Local l) = (r .sender < n) × (r .receiver < n)
-Changes n r (Sending l) = r .sender < n
-Changes n r (Receiving l) = r .receiver < n
+-- the accounts that a record of a kind changes, with the charge account, are among n
+unfoldable pub Changes : ℕ → ℕ → Record → Kind → Type 0
+Changes n account r (Local l) = (r .sender < n) × (r .receiver < n)
+Changes n account r (Sending l) = (r .sender < n) × (account < n)
+Changes n account r (Receiving l) = r .receiver < n
 
 -- a passed record, seen from its ledger's part
-pub part-moved : (b : List ℕ) (from n : ℕ) (r : Record) → Changes n r (r .kind)
-    → Part b (movedAt b from r) from n (moved (take n (drop from b)) r (r .kind))
+pub part-moved : (t : Tariff) (b : List ℕ) (from n : ℕ) (r : Record) → Changes n (t .account) r (r .kind)
+    → Part b (movedAt t b from r) from n (moved t (take n (drop from b)) r (r .kind))
 unfolding Changes movedAt
-part-moved b from n r h = go (r .kind) h
+part-moved t b from n r h = go (r .kind) h
   where
-    go : (k : Kind) → Changes n r k → Part b (moved b (placed from r) k) from n (moved (take n (drop from b)) r k)
-    go (Local l) c =
-        let a = part-lowered b from n (r .sender) (r .amount) (c .0) in
-        part-then b (lowered b (from + r .sender) (r .amount)) _ from n _ _ a
-        (rw (← a .own) (part-raised (lowered b (from + r .sender) (r .amount)) from n (r .receiver) (r .amount) (c .1)))
-    go (Sending l) c = part-lowered b from n (r .sender) (r .amount) c
+    both : (i x j y : ℕ) → i < n → j < n
+        → Part b (raised (lowered b (from + i) x) (from + j) y) from n (raised (lowered (take n (drop from b)) i x) j y)
+    both i x j y p q =
+        let a = part-lowered b from n i x p in
+        part-then b (lowered b (from + i) x) _ from n _ _ a (rw (← a .own) (part-raised (lowered b (from + i) x) from n j y q))
+
+    go : (k : Kind) → Changes n (t .account) r k
+        → Part b (moved (placedTariff from t) b (placed from r) k) from n (moved t (take n (drop from b)) r k)
+    go (Local l) c = both (r .sender) (r .amount) (r .receiver) (r .amount) (c .0) (c .1)
+    go (Sending l) c =
+        both (r .sender) (cost (t .rate) (r .amount)) (t .account) (charge (t .rate) (r .amount)) (c .0) (c .1)
     go (Receiving l) c = part-raised b from n (r .receiver) (r .amount) c
 
 -- nothing taken
@@ -83,23 +91,31 @@ lowered-none : (b : List ℕ) (i : ℕ) → lowered b i 0 ≡ b
 unfolding lowered
 lowered-none b i = ap (λ (v : ℕ). set b i v) (let q : getD b i 0 - 0 ≡ getD b i 0 = omega arith in q) ∙ set-getD b i 0
 
--- nothing given
-raised-none : (b : List ℕ) (i : ℕ) → raised b i 0 ≡ b
-unfolding raised
-raised-none b i = ap (λ (v : ℕ). set b i v) (let q : getD b i 0 + 0 ≡ getD b i 0 = omega arith in q) ∙ set-getD b i 0
+-- what a record of a kind takes from its sender's balance
+abbrev pub debitBy : ℕ → Kind → ℕ → ℕ
+debitBy rate k amount = takenBy k amount + chargeBy rate k amount
+
+-- what it gives to its payee's
+abbrev pub creditBy : ℕ → Kind → ℕ → ℕ
+creditBy rate k amount = givenBy k amount + chargeBy rate k amount
 
 -- what is taken and then given, of any kind, is what the record moves
-pub taken-given : (b : List ℕ) (from : ℕ) (r : Record)
-    → raised (lowered b (from + r .sender) (takenBy (r .kind) (r .amount))) (from + r .receiver) (givenBy (r .kind) (r .amount))
-    ≡ movedAt b from r
+pub taken-given : (t : Tariff) (b : List ℕ) (from : ℕ) (r : Record)
+    → raised (lowered b (from + r .sender) (debitBy (t .rate) (r .kind) (r .amount))) (from + payeeBy (t .account) (r .kind) (r .receiver))
+    (creditBy (t .rate) (r .kind) (r .amount))
+    ≡ movedAt t b from r
 unfolding movedAt
-taken-given b from r = go (r .kind)
+taken-given t b from r = go (r .kind)
   where
-    go : (k : Kind) → raised (lowered b (from + r .sender) (takenBy k (r .amount))) (from + r .receiver) (givenBy k (r .amount))
-        ≡ moved b (placed from r) k
-    go (Local l) = refl
-    go (Sending l) = raised-none (lowered b (from + r .sender) (r .amount)) (from + r .receiver)
-    go (Receiving l) = ap (λ (x : List ℕ). raised x (from + r .receiver) (r .amount)) (lowered-none b (from + r .sender))
+    go : (k : Kind)
+        → raised (lowered b (from + r .sender) (debitBy (t .rate) k (r .amount))) (from + payeeBy (t .account) k (r .receiver))
+        (creditBy (t .rate) k (r .amount))
+        ≡ moved (placedTariff from t) b (placed from r) k
+    go (Local l) = rw add-zero
+    go (Sending l) = rw zero-add
+    go (Receiving l) =
+        ap (λ (y : ℕ). raised (lowered b (from + r .sender) 0) (from + r .receiver) y) (add-zero (r .amount))
+        ∙ ap (λ (x : List ℕ). raised x (from + r .receiver) (r .amount)) (lowered-none b (from + r .sender))
 
 -- balances of places that did not change
 pub zeros-kept : (old new : List ℕ) (from n : ℕ) → ((i : ℕ) → from ≤ i → i < from + n → getD new i 0 ≡ getD old i 0)
@@ -126,11 +142,11 @@ balance-part b from n i = go (ltb i n) refl
     go false q =
         rw q (sym (List·getD-eq-default (take n (drop from b)) 0 (omega (arith, length-take n (drop from b), ltb-false i n q))))
 
--- what is given is at most the amount
-pub given-most : (k : Kind) (a : ℕ) → givenBy k a ≤ a
-given-most (Local l) a = omega arith
-given-most (Sending l) a = omega arith
-given-most (Receiving l) a = omega arith
+-- what is given is at most the amount, where the rate is one
+pub credit-most : (rate : ℕ) → rate ≤ parts → (k : Kind) (a : ℕ) → creditBy rate k a ≤ a
+credit-most rate h (Local l) a = omega arith
+credit-most rate h (Sending l) a = omega (arith, charge-most rate a h)
+credit-most rate h (Receiving l) a = omega arith
 
 -- a small balance stored among small ones
 pub stored-fits : (b : List ℕ) (i j v most : ℕ) → i < length b → v ≤ most → getD b j 0 ≤ most → getD (set b i v) j 0 ≤ most

@@ -7,9 +7,11 @@ use lib.Dec.{eqb, leb, ltb}
 use lib.ListN.{getD, length, replicate}
 use Rattle.answers.specs.Answers.{refuse}
 use Rattle.ledgers.specs.Limits.{accountLimit}
+use Rattle.places.specs.Amounts.{chargeBy, takenBy}
 use Rattle.places.specs.OverPlaces.{allAt}
 use Rattle.records.specs.declared.Record.{Record}
 use Rattle.rules.specs.Rules.{moved}
+use Rattle.tariffs.specs.declared.Tariff.{Tariff}
 
 -- ## Balances
 
@@ -33,9 +35,13 @@ placed from r =
       verified = r .verified;
     }
 
--- the balances once a record has passed on the ledger whose accounts stand from a place on
-unfoldable pub movedAt : List ℕ → ℕ → Record → List ℕ
-movedAt balances from r = moved balances (placed from r) (r .kind)
+-- the tariff with its account counted from a place on
+abbrev pub placedTariff : ℕ → Tariff → Tariff
+placedTariff from t = record { rate = t .rate; account = from + t .account }
+
+-- the balances once a record has passed on the ledger with this tariff whose accounts stand from a place on
+unfoldable pub movedAt : Tariff → List ℕ → ℕ → Record → List ℕ
+movedAt t balances from r = moved (placedTariff from t) balances (placed from r) (r .kind)
 
 -- ## Judging a record, for inner functions only: proved to be what the rules say (Judging of crates/home_core and crates/pair_core)
 
@@ -48,9 +54,10 @@ firstBy senders receivers r isUsed later =
     (refuse isUsed 24
     later)))
 
--- 25, of the n accounts from a place on
-unfoldable pub fundsAt : List ℕ → ℕ → ℕ → Record → ℕ
-fundsAt balances from n r = refuse (ltb (balanceAt balances from n (r .sender)) (r .amount)) 25 0
+-- 25, of the n accounts from a place on, with the rate of their ledger
+unfoldable pub fundsAt : List ℕ → ℕ → ℕ → ℕ → Record → ℕ
+fundsAt balances from n rate r =
+    refuse (ltb (balanceAt balances from n (r .sender)) (takenBy (r .kind) (r .amount) + chargeBy rate (r .kind) (r .amount))) 25 0
 
 -- ## Openings
 

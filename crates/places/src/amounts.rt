@@ -1,8 +1,11 @@
-// What a record of a kind takes from a balance and gives to one.
+// What a record of a kind takes from the balances of its ledger and gives to them.
+ghost use Prim.Native.Nat.{_≤_};
 ghost use mathlib.Core.Path.{_≡_};
-ghost use Rattle.places.specs.Amounts.{givenBy, takenBy};
+ghost use Rattle.places.specs.Amounts.{chargeBy, givenBy, payeeBy, takenBy};
 ghost use Rattle.rules.specs.Rules.{isReceiving};
+ghost use Rattle.tariffs.specs.Tariffs.{parts};
 use ledgers::Kind;
+use tariffs::charge;
 
 // Whether a record comes from the other ledger.
 pub fn is_receiving(k: Kind) -> bool
@@ -15,7 +18,7 @@ pub fn is_receiving(k: Kind) -> bool
     }
 }
 
-// What a record of a kind takes from its sender's balance.
+// What a record of a kind takes from its ledger, all accounts together.
 pub fn taken_by(k: Kind, amount: u64) -> u64
     ensures { λ r. ⌜ r ≡ takenBy k amount ⌝ }
 {
@@ -26,7 +29,7 @@ pub fn taken_by(k: Kind, amount: u64) -> u64
     }
 }
 
-// What it gives to its receiver's.
+// What it gives to it.
 pub fn given_by(k: Kind, amount: u64) -> u64
     ensures { λ r. ⌜ r ≡ givenBy k amount ⌝ }
 {
@@ -34,5 +37,28 @@ pub fn given_by(k: Kind, amount: u64) -> u64
         Kind::Local(_) => amount, // to its receiver
         Kind::Sending(_) => 0,
         Kind::Receiving(_) => amount,
+    }
+}
+
+// The charge that it takes from its sender beside that, and gives to the charge account.
+pub fn charge_by(rate: u64, k: Kind, amount: u64) -> u64
+    requires { ⌜ rate ≤ parts ⌝ }
+    ensures { λ r. ⌜ r ≡ chargeBy rate k amount ⌝ }
+{
+    match k {
+        Kind::Local(_) => 0,
+        Kind::Sending(_) => charge(rate, amount),
+        Kind::Receiving(_) => 0,
+    }
+}
+
+// The account that it gives to: its receiver, or of a sending the charge account.
+pub fn payee_by(account: u64, k: Kind, receiver: u16) -> usize
+    ensures { λ r. ⌜ r ≡ payeeBy account k receiver ⌝ }
+{
+    match k {
+        Kind::Local(_) => receiver as usize,
+        Kind::Sending(_) => account as usize,
+        Kind::Receiving(_) => receiver as usize,
     }
 }

@@ -5,8 +5,10 @@ pub mod balances; // balances.rt: how many accounts a ledger may have, balances 
 pub mod number_index; // number_index.rt: the chain of a number, and a place as an index keeps it
 pub mod exact_sums; // exact_sums.rt: sums that may pass 64 bits
 
+pub use amounts::charge_by;
 pub use amounts::given_by;
 pub use amounts::is_receiving;
+pub use amounts::payee_by;
 pub use amounts::taken_by;
 pub use balances::are_zero;
 pub use balances::as_index;

@@ -1,4 +1,4 @@
-// Judging an opening: 1 and 2, or the supply.
+// Judging an opening: 1, 2 and 52, or the supply.
 ghost use Prim.Native.Nat.{_+_};
 ghost use mathlib.Core.Path.{_≡_};
 ghost use Rattle.rules.specs.HomeValidator.{homeOpeningRefusal};
@@ -7,6 +7,7 @@ ghost use Rattle.rules.specs.PairValidator.{pairOpeningRefusal};
 use places::Wide;
 use places::add_balances;
 use places::is_count_allowed;
+use tariffs::Tariff;
 
 // The refusal of an opening, or 0 and the supply.
 pub struct Opening {
@@ -14,9 +15,9 @@ pub struct Opening {
     pub supply: u64,
 }
 
-// Of the pair validator: the balances of each ledger.
-pub fn pair_opening<'a>(homes: &'a [u64], fars: &'a [u64]) -> Opening
-    ensures refuses { λ o. ⌜ o .refusal ≡ pairOpeningRefusal (now (homes .entry)) (now (fars .entry)) ⌝ }
+// Of the pair validator: the balances of each ledger and home's tariff.
+pub fn pair_opening<'a>(homes: &'a [u64], fars: &'a [u64], tariff: Tariff) -> Opening
+    ensures refuses { λ o. ⌜ o .refusal ≡ pairOpeningRefusal tariff (now (homes .entry)) (now (fars .entry)) ⌝ }
     ensures supplies { λ o. ⌜ (o .refusal ≡ 0 → o .supply ≡ total (now (homes .entry)) + total (now (fars .entry))) ⌝ }
 {
     if !is_count_allowed(homes.len()) {
@@ -44,15 +45,21 @@ pub fn pair_opening<'a>(homes: &'a [u64], fars: &'a [u64]) -> Opening
             supply: 0,
         };
     }
+    if !tariff.is_allowed(homes.len() as u64) {
+        return Opening {
+            refusal: 52,
+            supply: 0,
+        };
+    }
     Opening {
         refusal: 0,
         supply: supply.low,
     }
 }
 
-// Of the home validator: the home balances, the number of far accounts and the far total.
-pub fn home_opening(balances: &[u64], fars: usize, far_total: u64) -> Opening
-    ensures refuses { λ o. ⌜ o .refusal ≡ homeOpeningRefusal (now (balances .entry)) fars «far_total» ⌝ }
+// Of the home validator: the home balances, the number of far accounts, the far total and the tariff.
+pub fn home_opening(balances: &[u64], fars: usize, far_total: u64, tariff: Tariff) -> Opening
+    ensures refuses { λ o. ⌜ o .refusal ≡ homeOpeningRefusal tariff (now (balances .entry)) fars «far_total» ⌝ }
     ensures supplies { λ o. ⌜ (o .refusal ≡ 0 → o .supply ≡ total (now (balances .entry)) + «far_total») ⌝ }
 {
     if !is_count_allowed(balances.len()) {
@@ -72,6 +79,12 @@ pub fn home_opening(balances: &[u64], fars: usize, far_total: u64) -> Opening
     if supply.high != 0 {
         return Opening {
             refusal: 2, // the home validator's
+            supply: 0,
+        };
+    }
+    if !tariff.is_allowed(balances.len() as u64) {
+        return Opening {
+            refusal: 52,
             supply: 0,
         };
     }

@@ -4,9 +4,12 @@ ghost use Prim.Native.Nat.{_+_, _≤_};
 ghost use mathlib.Core.Path.{_≡_};
 ghost use lib.ListN.{length};
 ghost use Rattle.places.specs.LedgerBalances.{balanceAt, firstBy, fundsAt};
+ghost use Rattle.tariffs.specs.Tariffs.{parts};
 use answers::first_refusal;
 use answers::refusal_if;
 use places::as_index;
+use places::charge_by;
+use places::taken_by;
 use records::Record;
 
 // 22 by the accounts of the sender's ledger, 51 by those of the receiver's, 23, 24 where the number is used in its class, then the later
@@ -39,10 +42,16 @@ fn balance_at(balances: &[u64], from: usize, n: usize, i: u16) -> u64
     0
 }
 
-// 25, or 0.
-pub fn funds_refusal(balances: &[u64], from: usize, n: usize, r: Record) -> u32
-    requires { ⌜ from + n ≤ length (now balances) ⌝ }
-    ensures { λ k. ⌜ k ≡ fundsAt (now (balances .entry)) from n r ⌝ }
+// 25, or 0, with the rate of the ledger: a sending's charge is needed beside its amount.
+pub fn funds_refusal(balances: &[u64], from: usize, n: usize, rate: u64, r: Record) -> u32
+    requires { ⌜ (from + n ≤ length (now balances)) × (rate ≤ parts) ⌝ }
+    ensures { λ k. ⌜ k ≡ fundsAt (now (balances .entry)) from n rate r ⌝ }
 {
-    refusal_if(balance_at(balances, from, n, r.sender) < r.amount, 25)
+    let kind = r.kind;
+    let balance = balance_at(balances, from, n, r.sender);
+    let taken = taken_by(kind, r.amount);
+    if balance < taken {
+        return 25;
+    }
+    refusal_if(balance - taken < charge_by(rate, kind, r.amount), 25)
 }

@@ -203,7 +203,7 @@ adds-up opening s records e b =
     rw (← e, ← b .same-tariff) (b .each) in
     record {
       charge-account = omega (arith, each (t .account), its-part (t .account) (t .account) (charges (t .rate) records) refl);
-      others = λ i o n. omega (arith, each i, other-part i (t .account) (charges (t .rate) records) n);
+      others = λ i n. omega (arith, each i, other-part i (t .account) (charges (t .rate) records) n);
     }
 
 -- a record that passes on one ledger keeps either so

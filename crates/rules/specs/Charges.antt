@@ -1,11 +1,11 @@
 -- What the charge does to accounts (document 02, U3): what a sending costs its sender, and what the balance of every account is, worked out
 -- from the passed records of its ledger, so that the charge account has grown by exactly the charges. Assumes nothing.
-use Prim.Native.Nat.{ℕ, _+_, _-_, _<_, _≤_}
+use Prim.Native.Nat.{ℕ, _+_, _-_, _≤_}
 use mathlib.Core.Bool.{cond, not, true, _&&_}
 use mathlib.Core.List.{List}
 use mathlib.Core.Path.{_≡_}
 use lib.Dec.{eqb}
-use lib.ListN.{getD, length}
+use lib.ListN.{getD}
 use Rattle.rules.specs.Calls.{Call, passedRecords, recordsOn, run}
 use Rattle.rules.specs.HomeValidator.{HomeView, homeAccepts, homeAfter, homeJudgeRecord, homeOpened, homeOpeningRefusal, homeValidator}
 use Rattle.rules.specs.Lists.{sum}
@@ -67,10 +67,10 @@ pub record AccountsAddUp (opening now : LedgerState) (records : List Record) : T
   pub charge-account : balanceOf now (opening .tariff .account) + spent (opening .tariff) (opening .tariff .account) records
       ≡ balanceOf opening (opening .tariff .account) + gained (opening .tariff .account) records + charges (opening .tariff .rate) records
   -- every other account has what it opened with and what its own records moved
-  pub others : (i : ℕ) → i < length (opening .balances) → (i ≡ opening .tariff .account → ⊥)
+  pub others : (i : ℕ) → (i ≡ opening .tariff .account → ⊥)
       → balanceOf now i + spent (opening .tariff) i records ≡ balanceOf opening i + gained i records
 
--- at every accepted opening of the pair validator and after every list of calls, on either ledger
+-- at every accepted opening of the pair validator and after every list of calls, on either ledger; far's rate is 0, and so are its charges
 unfoldable pub PairAccountsAddUp : Type 0
 PairAccountsAddUp =
     (capacity : ℕ) (tariff : Tariff) (homes fars : List ℕ) → pairOpeningRefusal tariff homes fars ≡ 0 → (ds : List Call) (l : Ledger)
