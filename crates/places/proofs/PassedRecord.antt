@@ -6,7 +6,7 @@ use Rattle.wire.proofs.Prelude.{length, length-set, length-take, ltb, ltb-false
 use Rattle.wire.proofs.Prelude.{true, zero, zero-add, ℕ, ⊎-elim}
 use Rattle.ledgers.specs.Ledgers.{counterpart, ledgerByte}
 use Rattle.places.proofs.OverPlaces.{all-ext, list-ext}
-use Rattle.places.specs.Amounts.{chargeBy, givenBy, payeeBy, takenBy}
+use Rattle.places.specs.Amounts.{creditBy, debitBy, payeeBy}
 use Rattle.places.specs.LedgerBalances.{balanceAt, movedAt, placed, placedTariff, zerosAt}
 use Rattle.places.specs.OverPlaces.{listAt}
 use Rattle.rules.specs.Lists.{lowered, raised}
@@ -91,14 +91,6 @@ lowered-none : (b : List ℕ) (i : ℕ) → lowered b i 0 ≡ b
 unfolding lowered
 lowered-none b i = ap (λ (v : ℕ). set b i v) (let q : getD b i 0 - 0 ≡ getD b i 0 = omega arith in q) ∙ set-getD b i 0
 
--- what a record of a kind takes from its sender's balance
-abbrev pub debitBy : ℕ → Kind → ℕ → ℕ
-debitBy rate k amount = takenBy k amount + chargeBy rate k amount
-
--- what it gives to its payee's
-abbrev pub creditBy : ℕ → Kind → ℕ → ℕ
-creditBy rate k amount = givenBy k amount + chargeBy rate k amount
-
 -- what is taken and then given, of any kind, is what the record moves
 pub taken-given : (t : Tariff) (b : List ℕ) (from : ℕ) (r : Record)
     → raised (lowered b (from + r .sender) (debitBy (t .rate) (r .kind) (r .amount))) (from + payeeBy (t .account) (r .kind) (r .receiver))
@@ -147,6 +139,12 @@ pub credit-most : (rate : ℕ) → rate ≤ parts → (k : Kind) (a : ℕ) → c
 credit-most rate h (Local l) a = omega arith
 credit-most rate h (Sending l) a = omega (arith, charge-most rate a h)
 credit-most rate h (Receiving l) a = omega arith
+
+-- what is taken is at most twice the amount
+pub debit-most : (rate : ℕ) → rate ≤ parts → (k : Kind) (a : ℕ) → debitBy rate k a ≤ a + a
+debit-most rate h (Local l) a = omega arith
+debit-most rate h (Sending l) a = omega (arith, charge-most rate a h)
+debit-most rate h (Receiving l) a = omega arith
 
 -- a small balance stored among small ones
 pub stored-fits : (b : List ℕ) (i j v most : ℕ) → i < length b → v ≤ most → getD b j 0 ≤ most → getD (set b i v) j 0 ≤ most

@@ -3,7 +3,8 @@ use Rattle.wire.proofs.Prelude.{Bool, List, _∙_, _≡_, arith, drop, sym, tak
 use Rattle.answers.specs.Answers.{orElse}
 use Rattle.ledgers.specs.Ledgers.{receiverLedger, senderLedger}
 use Rattle.ledgers.specs.Limits.{capacity}
-use Rattle.places.proofs.PassedRecord.{balance-part, debitBy}
+use Rattle.places.proofs.PassedRecord.{balance-part}
+use Rattle.places.specs.Amounts.{debitBy}
 use Rattle.places.specs.LedgerBalances.{firstBy, fundsAt}
 use Rattle.rules.proofs.Refusals.{first-else}
 use Rattle.rules.specs.Lists.{any}

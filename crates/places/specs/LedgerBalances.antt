@@ -7,7 +7,7 @@ use lib.Dec.{eqb, leb, ltb}
 use lib.ListN.{getD, length, replicate}
 use Rattle.answers.specs.Answers.{refuse}
 use Rattle.ledgers.specs.Limits.{accountLimit}
-use Rattle.places.specs.Amounts.{chargeBy, takenBy}
+use Rattle.places.specs.Amounts.{debitBy}
 use Rattle.places.specs.OverPlaces.{allAt}
 use Rattle.records.specs.declared.Record.{Record}
 use Rattle.rules.specs.Rules.{moved}
@@ -57,7 +57,7 @@ firstBy senders receivers r isUsed later =
 -- 25, of the n accounts from a place on, with the rate of their ledger
 unfoldable pub fundsAt : List ℕ → ℕ → ℕ → ℕ → Record → ℕ
 fundsAt balances from n rate r =
-    refuse (ltb (balanceAt balances from n (r .sender)) (takenBy (r .kind) (r .amount) + chargeBy rate (r .kind) (r .amount))) 25 0
+    refuse (ltb (balanceAt balances from n (r .sender)) (debitBy rate (r .kind) (r .amount))) 25 0
 
 -- ## Openings
 

@@ -7,7 +7,7 @@ use Rattle.places.specs.LedgerBalances.{movedAt}
 use Rattle.places.specs.OverPlaces.{allAt}
 use Rattle.records.specs.Records.{formed, recordIn}
 use Rattle.records.specs.declared.Words.{Words}
-use Rattle.rules.specs.Rules.{Record, held, moved}
+use Rattle.rules.specs.Rules.{LedgerState, Record, Tariff, held, moved}
 use Rattle.table.specs.Table.{ledgerIn, numberAt, recordAt, recordsFrom, stored, withWords, wordsAt}
 
 -- ## A record's words
@@ -68,23 +68,24 @@ module _ (m : List ℕ) (at : ℕ) (w : Words) where
 -- ## What a stored record leaves
 
 -- the words after a store from word `at` on, beside those before it
-pub record Stored (s : List ℕ) (balances accounts at : ℕ) (w : Words) (r : Record) : Type 0 where
-  pub long : length (stored s balances at w r) ≡ length s
-  pub moves : take accounts (drop balances (stored s balances at w r)) ≡ moved (take accounts (drop balances s)) r (r .kind)
-  pub head : getD (stored s balances at w r) at 0 ≡ w .head
-  pub number : getD (stored s balances at w r) (at + 1) 0 ≡ w .number
-  pub amount : getD (stored s balances at w r) (at + 2) 0 ≡ w .amount
-  pub tail : getD (stored s balances at w r) (at + 3) 0 ≡ w .tail
+pub record Stored (t : Tariff) (s : List ℕ) (balances accounts at : ℕ) (w : Words) (r : Record) : Type 0 where
+  pub long : length (stored t s balances at w r) ≡ length s
+  pub moves : take accounts (drop balances (stored t s balances at w r)) ≡ moved t (take accounts (drop balances s)) r (r .kind)
+  pub head : getD (stored t s balances at w r) at 0 ≡ w .head
+  pub number : getD (stored t s balances at w r) (at + 1) 0 ≡ w .number
+  pub amount : getD (stored t s balances at w r) (at + 2) 0 ≡ w .amount
+  pub tail : getD (stored t s balances at w r) (at + 3) 0 ≡ w .tail
   pub others : (i : ℕ) → (i < balances) ⊎ (balances + accounts ≤ i) → (i < at) ⊎ (at + 4 ≤ i)
-      → getD (stored s balances at w r) i 0 ≡ getD s i 0
+      → getD (stored t s balances at w r) i 0 ≡ getD s i 0
 
-module _ (s : List ℕ) (balances accounts at : ℕ) (w : Words) (r : Record) where
-  -- so it is where the record's words stand before the balances and its accounts are open
-  pub stored-of : Changes accounts r (r .kind) → at + 4 ≤ balances → balances + accounts ≤ length s → Stored s balances accounts at w r
+module _ (t : Tariff) (s : List ℕ) (balances accounts at : ℕ) (w : Words) (r : Record) where
+  -- so it is where the record's words stand before the balances, and its accounts and the charge account are open
+  pub stored-of : Changes accounts (t .account) r (r .kind) → at + 4 ≤ balances → balances + accounts ≤ length s
+      → Stored t s balances accounts at w r
   unfolding stored
   stored-of changes room within =
-      let m = movedAt s balances r in
-      let p : Part s m balances accounts _ = part-moved s balances accounts r changes in
+      let m = movedAt t s balances r in
+      let p : Part s m balances accounts _ = part-moved t s balances accounts r changes in
       let f : at + 4 ≤ length m = omega (arith, p .long) in
       record {
         long = words-long m at w ∙ p .long;
@@ -130,17 +131,17 @@ module _ (s t : List ℕ) (records n : ℕ) (same : SameWords s t records (4 * n
   number-same i h = same (records + 4 * i + 1) (omega arith) (omega arith)
 
   -- the ledger
-  pub ledger-same : (balances accounts : ℕ) → length t ≡ length s → balances + accounts ≤ length s → SameWords s t balances accounts
-      → ledgerIn t balances accounts records n ≡ ledgerIn s balances accounts records n
+  pub ledger-same : (x : Tariff) (balances accounts : ℕ) → length t ≡ length s → balances + accounts ≤ length s
+      → SameWords s t balances accounts → ledgerIn x t balances accounts records n ≡ ledgerIn x s balances accounts records n
   unfolding ledgerIn
-  ledger-same balances accounts long within e =
-      ap₂ (λ (b : List ℕ) (p : List Record). record { balances = b; passed = p })
+  ledger-same x balances accounts long within e =
+      ap₂ {C = LedgerState} (λ (b : List ℕ) (p : List Record). record { balances = b; passed = p; tariff = x })
       (part-kept s t balances accounts long within e) records-same
 
 -- ## The ledger after a store
 
 -- what words t hold that are those after a store below word `top`, beside the words before it
-pub record LedgerStored (s t : List ℕ) (balances accounts records count top : ℕ) (w : Words) (r : Record) : Type 0 where
+pub record LedgerStored (x : Tariff) (s t : List ℕ) (balances accounts records count top : ℕ) (w : Words) (r : Record) : Type 0 where
   -- other words stay
   pub others : (i : ℕ) → i < top → (i < balances) ⊎ (balances + accounts ≤ i)
       → (i < records + 4 * count) ⊎ (records + 4 * count + 4 ≤ i) → getD t i 0 ≡ getD s i 0
@@ -153,15 +154,16 @@ pub record LedgerStored (s t : List ℕ) (balances accounts records count top : 
       → allAt (λ (i : ℕ). formed (wordsAt t records i)) 0 (count + 1) ≡ true
   -- the ledger is the rules' ledger on which the record has passed
   pub ledger : recordIn w ≡ r
-      → ledgerIn t balances accounts records (count + 1) ≡ held (ledgerIn s balances accounts records count) r
+      → ledgerIn x t balances accounts records (count + 1) ≡ held (ledgerIn x s balances accounts records count) r
 
-module _ (s t : List ℕ) (balances accounts records count top : ℕ) (w : Words) (r : Record) (changes : Changes accounts r (r .kind))
+module _ (x : Tariff) (s t : List ℕ) (balances accounts records count top : ℕ) (w : Words) (r : Record)
+    (changes : Changes accounts (x .account) r (r .kind))
     (room : records + 4 * (count + 1) ≤ balances) (below : balances + accounts ≤ top) (within : top ≤ length s)
     (long : length t ≡ length s)
-    (agree : (i : ℕ) → i < top → getD t i 0 ≡ getD (stored s balances (records + 4 * count) w r) i 0) where
+    (agree : (i : ℕ) → i < top → getD t i 0 ≡ getD (stored x s balances (records + 4 * count) w r) i 0) where
   -- the store
-  is-stored : Stored s balances accounts (records + 4 * count) w r
-  is-stored = stored-of s balances accounts (records + 4 * count) w r changes (omega arith) (omega arith)
+  is-stored : Stored x s balances accounts (records + 4 * count) w r
+  is-stored = stored-of x s balances accounts (records + 4 * count) w r changes (omega arith) (omega arith)
 
   -- other words stay
   stored-other : (i : ℕ) → i < top → (i < balances) ⊎ (balances + accounts ≤ i)
@@ -212,21 +214,21 @@ module _ (s t : List ℕ) (balances accounts records count top : ℕ) (w : Words
       (ap (recordAt t records) z ∙ ap recordIn stored-words ∙ e))
 
   -- the balances are those that the record leaves
-  balances-stored : take accounts (drop balances t) ≡ moved (take accounts (drop balances s)) r (r .kind)
+  balances-stored : take accounts (drop balances t) ≡ moved x (take accounts (drop balances s)) r (r .kind)
   balances-stored =
-      part-kept (stored s balances (records + 4 * count) w r) t balances accounts (long ∙ sym (is-stored .long))
+      part-kept (stored x s balances (records + 4 * count) w r) t balances accounts (long ∙ sym (is-stored .long))
       (omega (arith, is-stored .long)) (λ i a b. agree i (omega arith))
       ∙ is-stored .moves
 
   -- the ledger is the rules' ledger on which the record has passed
   ledger-stored : recordIn w ≡ r
-      → ledgerIn t balances accounts records (count + 1) ≡ held (ledgerIn s balances accounts records count) r
+      → ledgerIn x t balances accounts records (count + 1) ≡ held (ledgerIn x s balances accounts records count) r
   unfolding ledgerIn
   ledger-stored e =
-      ap₂ (λ (b : List ℕ) (p : List Record). record { balances = b; passed = p }) balances-stored (records-stored e)
+      ap₂ {C = LedgerState} (λ (b : List ℕ) (p : List Record). record { balances = b; passed = p; tariff = x }) balances-stored (records-stored e)
 
   -- so it is where the records stand before the balances, there is room, and what stands from `top` on is not the ledger's
-  pub ledger-stored-of : LedgerStored s t balances accounts records count top w r
+  pub ledger-stored-of : LedgerStored x s t balances accounts records count top w r
   ledger-stored-of =
       record {
         others = stored-other;

@@ -22,7 +22,7 @@ use Rattle.records.specs.declared.Record.{Record}
 use Rattle.records.specs.declared.Words.{Words}
 use Rattle.rules.specs.Lists.{sameTruth}
 use Rattle.rules.specs.PairValidator.{heldAllowed, standsUnder}
-use Rattle.rules.specs.Rules.{LedgerState, isReceiving}
+use Rattle.rules.specs.Rules.{LedgerState, Tariff, isReceiving}
 use Rattle.wire.specs.BigEndian.{every}
 
 -- ## The records
@@ -47,19 +47,24 @@ recordsFrom s from n = listAt (recordAt s from) 0 n
 
 -- ## A ledger
 
--- the ledger whose balances and whose held records stand from two words on, with as many of each as it has
-unfoldable pub ledgerIn : List ℕ → ℕ → ℕ → ℕ → ℕ → LedgerState
-ledgerIn s balances accounts records count =
-    record { balances = take accounts (drop balances s); passed = recordsFrom s records count }
+-- the ledger with this tariff whose balances and whose held records stand from two words on, with as many of each as it has
+unfoldable pub ledgerIn : Tariff → List ℕ → ℕ → ℕ → ℕ → ℕ → LedgerState
+ledgerIn t s balances accounts records count =
+    record { balances = take accounts (drop balances s); passed = recordsFrom s records count; tariff = t }
+
+-- the tariff in two words: the rate, then the charge account
+abbrev pub tariffAt : List ℕ → ℕ → Tariff
+tariffAt s at = record { rate = getD s at 0; account = getD s (at + 1) 0 }
 
 -- the words with a record's own from a word on
 abbrev pub withWords : List ℕ → ℕ → Words → List ℕ
 withWords s at w =
     set (set (set (set s at (w .head)) (at + 1) (w .number)) (at + 2) (w .amount)) (at + 3) (w .tail)
 
--- the words once a record has passed on the ledger whose balances stand from a word on, with the record's own from word `at` on
-unfoldable pub stored : List ℕ → ℕ → ℕ → Words → Record → List ℕ
-stored s balances at w r = withWords (movedAt s balances r) at w
+-- the words once a record has passed on the ledger with this tariff whose balances stand from a word on, with the record's own from word
+-- `at` on
+unfoldable pub stored : Tariff → List ℕ → ℕ → ℕ → Words → Record → List ℕ
+stored t s balances at w r = withWords (movedAt t s balances r) at w
 
 -- ## For inner functions: refusal 3 of one record
 

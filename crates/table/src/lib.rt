@@ -4,8 +4,8 @@ ghost use mathlib.Core.Bool.{cond, not, true, _&&_};
 ghost use mathlib.Core.Path.{_≡_};
 ghost use lib.ListN.{getD, length};
 ghost use Rattle.ledgers.specs.Ledgers.{ledgerAt};
-ghost use Rattle.ledgers.specs.Limits.{accountLimit, capacity};
-ghost use Rattle.places.specs.Amounts.{givenBy, takenBy};
+ghost use Rattle.ledgers.specs.Limits.{accountLimit, capacity, maxAmount};
+ghost use Rattle.places.specs.Amounts.{creditBy, debitBy, payeeBy};
 ghost use Rattle.places.specs.NumberIndex.{Kept, chainCount};
 ghost use Rattle.places.specs.OverPlaces.{allAt, anyAt, apartAt};
 ghost use Rattle.records.specs.Records.{readingWords};
@@ -13,21 +13,25 @@ ghost use Rattle.rules.specs.Lists.{lowered, raised};
 ghost use Rattle.table.specs.Table.{accountsBy, headBases, mayHold, mayHoldAt, receiverLimits, senderLimits, wordsAt};
 ghost use Rattle.table.specs.Table.{EmptyIndex, FlowsAt, IndexOf, arrivalIn, backedAt, backedBy, flowBy, numberedAt};
 ghost use Rattle.table.specs.Table.{sendingHead, sentAt, sharedAt, stored, usedAt, withNumber, withWords};
+ghost use Rattle.tariffs.specs.Tariffs.{parts};
 use ledgers::Ledger;
 use places::CHAINS;
 use places::Flows;
 use places::HALF;
 use places::Halved;
 use places::as_index;
+use places::charge_by;
 use places::given_by;
 use places::low_bits;
 use places::next_place;
+use places::payee_by;
 use places::taken_by;
 use records::FIRST_BYTE;
 use records::FIRST_TWO_BYTES;
 use records::Record;
 use records::Words;
 use std::num::wrapping_sub_u64;
+use tariffs::Tariff;
 
 // ## Refusal 3 of one record
 
@@ -590,23 +594,23 @@ fn put_words(words: &mut [u64], at: usize, w: Words)
     words[at + 3] = w.tail;
 }
 
-// All that a passed record writes to its ledger: what it takes and gives in the balances, and its own words from word `at` on.
-pub fn store(words: &mut [u64], balances: usize, at: usize, w: Words, r: Record)
-    requires { ⌜ (balances + r .sender < length (now words)) × (balances + r .receiver < length (now words)) × (at + 4 ≤ length (now words))
-        × (takenBy (r .kind) (r .amount) ≤ getD (now words) (balances + r .sender) 0)
-        × (getD (lowered (now words) (balances + r .sender) (takenBy (r .kind) (r .amount))) (balances + r .receiver) 0
-        + givenBy (r .kind) (r .amount) < 2 ^ 64) ⌝ }
-    ensures { λ _. ⌜ now (words .exit) ≡ stored (now (words .entry)) balances at w r ⌝ }
+// All that a passed record writes to its ledger: what it takes and gives in the balances, a sending's charge too, and its own words from word
+// `at` on.
+pub fn store(words: &mut [u64], balances: usize, at: usize, tariff: Tariff, w: Words, r: Record)
+    requires { ⌜ (balances + r .sender < length (now words))
+        × (balances + payeeBy (tariff .account) (r .kind) (r .receiver) < length (now words)) × (at + 4 ≤ length (now words))
+        × (debitBy (tariff .rate) (r .kind) (r .amount) ≤ getD (now words) (balances + r .sender) 0)
+        × (getD (lowered (now words) (balances + r .sender) (debitBy (tariff .rate) (r .kind) (r .amount)))
+        (balances + payeeBy (tariff .account) (r .kind) (r .receiver)) 0 + creditBy (tariff .rate) (r .kind) (r .amount) < 2 ^ 64)
+        × (tariff .rate ≤ parts) × (r .amount ≤ maxAmount) ⌝ }
+    ensures { λ _. ⌜ now (words .exit) ≡ stored tariff (now (words .entry)) balances at w r ⌝ }
 {
     let kind = r.kind;
+    let charge = charge_by(tariff.rate, kind, r.amount);
     let from = balances + as_index(r.sender);
-    let to = balances + as_index(r.receiver);
-    move_amounts(
-        words,
-        from,
-        to,
-        taken_by(kind, r.amount),
-        given_by(kind, r.amount),
-    );
+    let to = balances + payee_by(tariff.account, kind, r.receiver);
+    let taken = taken_by(kind, r.amount) + charge;
+    let given = given_by(kind, r.amount) + charge;
+    move_amounts(words, from, to, taken, given);
     put_words(words, at, w);
 }
