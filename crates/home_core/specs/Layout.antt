@@ -1,6 +1,6 @@
 -- The state of the home validator (document 01: guard) is one array of words: the held records, four words each, as many as the
--- capacity; the balances, as many as a ledger can have; then the supply, the far pool, the numbers of home and of far accounts and
--- the number of held records. Here stands what it is as the rules' state, what refusal 3 asks of it, and what a passed record makes of
+-- capacity; the balances, as many as a ledger can have; then the supply, the far pool, the numbers of home and of far accounts, the
+-- number of held records, and the tariff (document 02, U3): its rate and its account. Here stands what it is as the rules' state, what refusal 3 asks of it, and what a passed record makes of
 -- it. Assumes nothing.
 use Prim.Native.Nat.{_*_, _+_, _-_, ℕ}
 use mathlib.Core.Bool.{Bool, true}
@@ -20,7 +20,9 @@ use Rattle.rules.specs.Calls.{Checker}
 use Rattle.rules.specs.HomeValidator.{HomeView, homeAccepts, homeJudge, poolAfter}
 use Rattle.rules.specs.Lists.{total}
 use Rattle.rules.specs.PairValidator.{countAllowed, supplyAllowed}
-use Rattle.table.specs.Table.{IndexOf, indexLength, ledgerIn, stored, wordsAt}
+use Rattle.rules.specs.Rules.{Tariff}
+use Rattle.table.specs.Table.{IndexOf, indexLength, ledgerIn, stored, tariffAt, wordsAt}
+use Rattle.tariffs.specs.Tariffs.{tariffAllowed}
 use Rattle.wire.specs.BigEndian.{every}
 
 -- ## The layout
@@ -29,7 +31,7 @@ use Rattle.wire.specs.BigEndian.{every}
 abbrev pub homeBalancesWord : ℕ
 homeBalancesWord = 4 * capacity
 
--- the words of the supply, the far pool, the numbers of accounts and of held records
+-- the words of the supply, the far pool, the numbers of accounts and of held records, and the first of the tariff
 abbrev pub homeSupplyWord : ℕ
 homeSupplyWord = homeBalancesWord + accountLimit
 
@@ -45,9 +47,12 @@ farAccountsWord = homeSupplyWord + 3
 abbrev pub homeCountWord : ℕ
 homeCountWord = homeSupplyWord + 4
 
+abbrev pub homeTariffWord : ℕ
+homeTariffWord = homeSupplyWord + 5
+
 -- all words
 abbrev pub homeWords : ℕ
-homeWords = homeSupplyWord + 5
+homeWords = homeSupplyWord + 7
 
 -- ## What the words say
 
@@ -71,11 +76,15 @@ farAccountsOf s = getD s farAccountsWord 0
 abbrev pub homeCountOf : List ℕ → ℕ
 homeCountOf s = getD s homeCountWord 0
 
+-- the tariff
+abbrev pub homeTariffOf : List ℕ → Tariff
+homeTariffOf s = tariffAt s homeTariffWord
+
 -- the state, seen as the rules' state
 abbrev pub homeViewOf : List ℕ → HomeView
 homeViewOf s =
     record {
-      home = ledgerIn s homeBalancesWord (homeAccountsOf s) 0 (homeCountOf s);
+      home = ledgerIn (homeTariffOf s) s homeBalancesWord (homeAccountsOf s) 0 (homeCountOf s);
       farAccounts = farAccountsOf s;
       farPool = poolOf s;
       supply = homeSupplyOf s;
@@ -83,7 +92,8 @@ homeViewOf s =
 
 -- ## 3
 
--- the counts of accounts and of held records, and the supply, are in bounds (Refusals: 3, counts out of bounds, stake)
+-- the counts of accounts and of held records, the supply and the tariff are in bounds (Refusals: 3, counts out of bounds, stake; document
+-- 02, U3)
 unfoldable pub homeBounds : List ℕ → Bool
 homeBounds s =
     every
@@ -91,6 +101,7 @@ homeBounds s =
     ∷ countAllowed (farAccountsOf s)
     ∷ leb (homeCountOf s) capacity
     ∷ supplyAllowed (homeSupplyOf s)
+    ∷ tariffAllowed (homeTariffOf s) (homeAccountsOf s)
     ∷ []
     )
 
@@ -112,7 +123,8 @@ acceptsHome s =
 -- the words once a record has passed: its balances and its own words, the pool, the number of held records
 unfoldable pub homeWith : List ℕ → Words → Record → List ℕ
 homeWith s w r =
-    set (set (stored s homeBalancesWord (4 * homeCountOf s) w r) poolWord (poolAfter (poolOf s) r (r .kind))) homeCountWord (homeCountOf s + 1)
+    set (set (stored (homeTariffOf s) s homeBalancesWord (4 * homeCountOf s) w r) poolWord (poolAfter (poolOf s) r (r .kind))) homeCountWord
+    (homeCountOf s + 1)
 
 -- the words once what was read has passed
 abbrev pub homeAfterRead : List ℕ → Words → Reading → List ℕ
@@ -131,10 +143,11 @@ homeWordsChecker =
 -- ## The opening
 
 -- the words of an accepted opening
-unfoldable pub homeOpenedWords : List ℕ → ℕ → ℕ → List ℕ
-homeOpenedWords homes fars farTotal =
+unfoldable pub homeOpenedWords : Tariff → List ℕ → ℕ → ℕ → List ℕ
+homeOpenedWords tariff homes fars farTotal =
     replicate (4 * capacity) 0
-    ++ (zeroFilled homes ++ (total homes + farTotal) ∷ farTotal ∷ length homes ∷ fars ∷ 0 ∷ [])
+    ++ (zeroFilled homes
+    ++ (total homes + farTotal) ∷ farTotal ∷ length homes ∷ fars ∷ 0 ∷ tariff .rate ∷ tariff .account ∷ [])
 
 -- all zero, which 3 refuses: what stands beside a refused opening
 unfoldable pub homeZeroWords : List ℕ

@@ -8,7 +8,7 @@ ghost use lib.ListN.{getD, length};
 ghost use Rattle.answers.specs.Answers.{unlessRefused};
 ghost use Rattle.home_core.specs.Layout.{HomeReady, acceptsHome, homeBalancesWord, homeBounds, homeViewOf, homeWith, homeWords};
 ghost use Rattle.home_core.specs.Layout.{homeOpenedWords, homeWordsChecker, homeZeroWords, homeAccountsOf, poolOf};
-ghost use Rattle.home_core.specs.Layout.{homeSupplyOf};
+ghost use Rattle.home_core.specs.Layout.{homeSupplyOf, homeTariffOf};
 ghost use Rattle.ledgers.specs.Limits.{capacity};
 ghost use Rattle.places.specs.OverPlaces.{sumAt};
 ghost use Rattle.records.specs.Records.{formed, recordIn};
@@ -39,6 +39,7 @@ use table::add_number;
 use table::hold_indexed;
 use table::is_used;
 use table::store;
+use tariffs::Tariff;
 use wire::part_end;
 
 // ## The layout
@@ -46,7 +47,8 @@ use wire::part_end;
 // The first word of the balances; the records stand before them.
 pub const BALANCES_WORD: usize = 4 * Ledger::CAPACITY;
 
-// The words of the supply, the far pool, the numbers of home and of far accounts, the number of held records.
+// The words of the supply, the far pool, the numbers of home and of far accounts, the number of held records, the rate and the charge
+// account.
 pub const SUPPLY_WORD: usize = BALANCES_WORD + Ledger::ACCOUNTS;
 
 pub const POOL_WORD: usize = SUPPLY_WORD + 1;
@@ -57,12 +59,27 @@ pub const FAR_ACCOUNTS_WORD: usize = SUPPLY_WORD + 3;
 
 pub const COUNT_WORD: usize = SUPPLY_WORD + 4;
 
+pub const RATE_WORD: usize = SUPPLY_WORD + 5;
+
+pub const CHARGE_ACCOUNT_WORD: usize = SUPPLY_WORD + 6;
+
 // All words of a state.
-pub const WORDS: usize = SUPPLY_WORD + 5;
+pub const WORDS: usize = SUPPLY_WORD + 7;
+
+// The tariff.
+fn tariff_of(s: &[u64]) -> Tariff
+    requires { ⌜ length (now s) ≡ homeWords ⌝ }
+    ensures { λ t. ⌜ t ≡ homeTariffOf (now (s .entry)) ⌝ }
+{
+    Tariff {
+        rate: s[RATE_WORD],
+        account: s[CHARGE_ACCOUNT_WORD],
+    }
+}
 
 // ## 3
 
-// Counts of accounts and of held records, and the supply.
+// Counts of accounts and of held records, the supply and the tariff.
 fn is_bounded(s: &[u64]) -> bool
     requires { ⌜ length (now s) ≡ homeWords ⌝ }
     ensures { λ b. ⌜ b ≡ homeBounds (now (s .entry)) ⌝ }
@@ -76,7 +93,10 @@ fn is_bounded(s: &[u64]) -> bool
     if Ledger::CAPACITY < s[COUNT_WORD] as usize {
         return false;
     }
-    s[SUPPLY_WORD] <= Record::MAX_AMOUNT
+    if Record::MAX_AMOUNT < s[SUPPLY_WORD] {
+        return false;
+    }
+    tariff_of(s).is_allowed(s[HOME_ACCOUNTS_WORD])
 }
 
 // Balances and the far pool, against the supply.
@@ -166,7 +186,13 @@ fn last_refusal(s: &[u64], r: Record) -> u32
     if is_receiving(kind) {
         return pool_refusal(s[POOL_WORD], r);
     }
-    funds_refusal(s, BALANCES_WORD, s[HOME_ACCOUNTS_WORD] as usize, r)
+    funds_refusal(
+        s,
+        BALANCES_WORD,
+        s[HOME_ACCOUNTS_WORD] as usize,
+        s[RATE_WORD],
+        r,
+    )
 }
 
 // The refusals of a record that was read, 33, 22, 51 and 23 to 41 in order, or 0.
@@ -197,26 +223,35 @@ fn pass(state: &mut [u64; WORDS], w: Words, r: Record)
     let kind = r.kind;
     let count = state[COUNT_WORD];
     let pool = state[POOL_WORD];
-    store(state, BALANCES_WORD, 4 * count as usize, w, r);
+    store(
+        state,
+        BALANCES_WORD,
+        4 * count as usize,
+        tariff_of(state),
+        w,
+        r,
+    );
     state[POOL_WORD] = pool + taken_by(kind, r.amount) - given_by(kind, r.amount); // a sending enters it, an arrival leaves it
     state[COUNT_WORD] = count + 1;
 }
 
 // ## The opening
 
-// An opening with the home balances, the number of far accounts and the far total, in words of zeros: 1 or 2, and no word is stored, or 0.
+// An opening with the home balances, the number of far accounts, the far total and the tariff, in words of zeros: 1, 2 or 52, and no word is
+// stored, or 0.
 pub fn open<'a, 'b>(
     balances: &'a [u64],
     far_accounts: usize,
     far_total: u64,
+    tariff: Tariff,
     state: &'b mut [u64; WORDS],
 ) -> u32
     requires { ⌜ now state ≡ homeZeroWords ⌝ }
-    ensures answers { λ n. ⌜ n ≡ homeOpeningRefusal (now (balances .entry)) «far_accounts» «far_total» ⌝ }
-    ensures leaves { λ n. ⌜ now (state .exit) ≡ unlessRefused (homeOpeningRefusal (now (balances .entry)) «far_accounts» «far_total»)
-        (homeOpenedWords (now (balances .entry)) «far_accounts» «far_total») homeZeroWords ⌝ }
+    ensures answers { λ n. ⌜ n ≡ homeOpeningRefusal tariff (now (balances .entry)) «far_accounts» «far_total» ⌝ }
+    ensures leaves { λ n. ⌜ now (state .exit) ≡ unlessRefused (homeOpeningRefusal tariff (now (balances .entry)) «far_accounts» «far_total»)
+        (homeOpenedWords tariff (now (balances .entry)) «far_accounts» «far_total») homeZeroWords ⌝ }
 {
-    let opening = home_opening(balances, far_accounts, far_total);
+    let opening = home_opening(balances, far_accounts, far_total, tariff);
     if opening.refusal != 0 {
         return opening.refusal;
     }
@@ -225,6 +260,8 @@ pub fn open<'a, 'b>(
     state[POOL_WORD] = far_total;
     state[HOME_ACCOUNTS_WORD] = balances.len() as u64;
     state[FAR_ACCOUNTS_WORD] = far_accounts as u64;
+    state[RATE_WORD] = tariff.rate;
+    state[CHARGE_ACCOUNT_WORD] = tariff.account;
     0
 }
 

@@ -4,7 +4,7 @@ use Rattle.wire.proofs.Prelude.{sym, true, ℕ}
 use Rattle.ledgers.specs.Ledgers.{counterpart, ledgerByte}
 use Rattle.ledgers.specs.Limits.{capacity}
 use Rattle.pair_core.proofs.Ledgers.{PairBounds, accounts-same, balances-within, bounds-of, by-byte, by-ledger, byte-below}
-use Rattle.pair_core.proofs.Ledgers.{length-balances, length-held, of-bounds, state-on}
+use Rattle.pair_core.proofs.Ledgers.{length-balances, length-held, of-bounds, state-on, tariff-fits}
 use Rattle.pair_core.specs.Layout.{PairReady, acceptsPair, accountsOn, balancesStart, countOn, formedOn, indexOn}
 use Rattle.pair_core.specs.Layout.{ledgerOn}
 use Rattle.pair_core.specs.Layout.{pairBounds, pairSupplyOf, pairViewOf, pairWords, recordsStart, zeroBeyond}
@@ -26,6 +26,7 @@ use Rattle.table.proofs.Growing.{index-beside}
 use Rattle.table.proofs.Numbers.{apart-records}
 use Rattle.table.proofs.Records.{AllHeld, all-held, held-all}
 use Rattle.table.specs.Table.{EmptyIndex, IndexOf, accountsBy, indexLength, ledgerIn, mayHoldAt, recordAt, recordsFrom, sharedAt, wordsAt}
+use Rattle.tariffs.proofs.Allowing.{free-nothing}
 use Rattle.wire.proofs.Lists.{and-both, every-both, every-first, every-none, same-tests}
 use Rattle.wire.specs.BigEndian.{every}
 
@@ -215,6 +216,7 @@ module _ (s : List ℕ) (z : length s ≡ pairWords) (b : PairBounds s) (small :
           record {
             count = rw (length-balances s z b (ledgerByte L) (byte-below L)) (b .count (ledgerByte L) (byte-below L));
             room = rw (length-held s (ledgerByte L)) (b .room (ledgerByte L) (byte-below L));
+            pays = rw (length-balances s z b (ledgerByte L) (byte-below L)) (tariff-fits s b (ledgerByte L) (byte-below L));
             allowed = right L .records .allowed;
             clean = clean L;
             stand = under L;
@@ -225,6 +227,7 @@ module _ (s : List ℕ) (z : length s ≡ pairWords) (b : PairBounds s) (small :
           record {
             ledgers = by-ledger _ (own Home) (own Far);
             supply-fits = b .supply-fits;
+            far-free = free-nothing;
             sums = omega (arith, t .adds, figures formed-on under clean);
           }
 

@@ -1,11 +1,11 @@
 -- What the functions on words say of a record is what the rules say. Assumes nothing.
-use Rattle.wire.proofs.Prelude.{Bool, List, _-_, _<_, _^_, _∙_, _≡_, ap, false, getD, leb, not, sym, true, ℕ}
+use Rattle.wire.proofs.Prelude.{Bool, List, _-_, _<_, _^_, _∙_, _≡_, ap, false, getD, leb, not, refl, sym, true, ℕ}
 use Rattle.answers.specs.Answers.{orElse, refuse}
 use Rattle.ledgers.specs.Ledgers.{counterpart, ledgerByte, ledgerOf, receiverLedger, senderLedger}
 use Rattle.ledgers.specs.Limits.{capacity}
 use Rattle.pair_core.proofs.Accept.{PairSound, standing-on}
 use Rattle.pair_core.proofs.Ledgers.{length-held, other-byte, state-on}
-use Rattle.pair_core.specs.Layout.{accountsOn, balancesStart, countOn, ledgerOn, pairViewOf, recordsStart}
+use Rattle.pair_core.specs.Layout.{accountsOn, balancesStart, countOn, ledgerOn, pairViewOf, recordsStart, tariffOn}
 use Rattle.places.proofs.Refusals.{funds-at, judged-by}
 use Rattle.places.specs.LedgerBalances.{firstBy, fundsAt}
 use Rattle.places.specs.OverPlaces.{anyAt}
@@ -15,26 +15,27 @@ use Rattle.rules.proofs.Lists.{never-both-tests}
 use Rattle.rules.specs.Lists.{any}
 use Rattle.rules.specs.PairValidator.{matched, pairJudge, roomRefusal}
 use Rattle.rules.specs.Rules.{Kind, LedgerState, Local, Read, Receiving, Record, Sending, accountsOf, fundsRefusal, isReceiving, judge}
-use Rattle.rules.specs.Rules.{lastRefusal, matchRefusal, matches}
+use Rattle.rules.specs.Rules.{Ledger, lastRefusal, matchRefusal, matches, stateOf}
 use Rattle.table.proofs.Crossings.{asked, backed-is}
 use Rattle.table.proofs.Numbers.{clash-records}
 use Rattle.table.specs.Table.{backedBy, ledgerIn, usedAt}
 
 module _ (s : List ℕ) (r : Record) where
   -- a local or sending is paid
-  pub last-paid : (k : Kind) → isReceiving k ≡ false
-      → fundsAt s (balancesStart (ledgerByte (ledgerOf k))) (accountsOn s (ledgerByte (ledgerOf k))) r ≡ lastRefusal (pairViewOf s .pair) r
-      k
+  paid-by : (l : Ledger) → fundsRefusal (stateOf l (pairViewOf s .pair)) r (r .kind)
+      ≡ fundsAt s (balancesStart (ledgerByte l)) (accountsOn s (ledgerByte l)) (tariffOn s (ledgerByte l) .rate) r
   unfolding ledgerIn
-  last-paid (Local l) h =
-      sym
-      (ap (λ (x : LedgerState). fundsRefusal (x .balances) r) (state-on s l)
-      ∙ funds-at s (balancesStart (ledgerByte l)) (accountsOn s (ledgerByte l)) r)
-  last-paid (Sending l) h =
-      sym
-      (ap (λ (x : LedgerState). fundsRefusal (x .balances) r) (state-on s l)
-      ∙ funds-at s (balancesStart (ledgerByte l)) (accountsOn s (ledgerByte l)) r)
-  last-paid (Receiving l) h = absurd (never-both-tests h)
+  paid-by l =
+      ap (λ (x : LedgerState). fundsRefusal x r (r .kind)) (state-on s l)
+      ∙ funds-at (ledgerOn s (ledgerByte l)) s (balancesStart (ledgerByte l)) (accountsOn s (ledgerByte l)) r refl
+
+  -- as the refusals have it by its kind
+  pub last-paid : (k : Kind) → r .kind ≡ k → isReceiving k ≡ false
+      → fundsAt s (balancesStart (ledgerByte (ledgerOf k))) (accountsOn s (ledgerByte (ledgerOf k))) (tariffOn s (ledgerByte (ledgerOf k)) .rate) r
+      ≡ lastRefusal (pairViewOf s .pair) r k
+  last-paid (Local l) q h = rw (← q) (sym (paid-by l))
+  last-paid (Sending l) q h = rw (← q) (sym (paid-by l))
+  last-paid (Receiving l) q h = absurd (never-both-tests h)
 
   -- an arrival is matched
   pub last-matched : PairSound s → ((i : ℕ) → getD s i 0 < 2 ^ 64) → (w : Words) → formed w ≡ true → recordIn w ≡ r

@@ -5,13 +5,15 @@ use Rattle.ledgers.specs.Ledgers.{counterpart, ledgerByte}
 use Rattle.ledgers.specs.Limits.{accountLimit, capacity}
 use Rattle.pair_core.specs.Layout.{accountsOn, balancesStart, countOn, indexOn, ledgerOn, pairBounds, pairViewOf}
 use Rattle.pair_core.specs.Layout.{pairWords}
-use Rattle.pair_core.specs.Layout.{pairSupplyOf, recordsStart}
+use Rattle.pair_core.specs.Layout.{pairSupplyOf, pairTariffOf, recordsStart, tariffOn}
 use Rattle.places.proofs.Openings.{count-facts}
 use Rattle.places.specs.NumberIndex.{chainCount}
 use Rattle.rules.specs.PairValidator.{countAllowed, supplyAllowed}
 use Rattle.rules.specs.Rules.{Far, Home, Ledger, accountsOf, stateOf}
 use Rattle.table.proofs.Records.{length-held-records}
 use Rattle.table.specs.Table.{accountsBy, indexLength, ledgerIn}
+use Rattle.tariffs.proofs.Allowing.{free-allowed}
+use Rattle.tariffs.specs.Tariffs.{tariffAllowed}
 use Rattle.wire.proofs.Lists.{every-both, every-first, every-none}
 
 -- ## Ledger by ledger
@@ -39,11 +41,12 @@ other-byte Far = refl
 
 -- ## Bounds
 
--- the bounds of both ledgers and of the supply
+-- the bounds of both ledgers, of the supply and of home's tariff
 pub record PairBounds (s : List ℕ) : Type 0 where
   pub count : (l : ℕ) → l < 2 → countAllowed (accountsOn s l) ≡ true
   pub room : (l : ℕ) → l < 2 → countOn s l ≤ capacity
   pub supply-fits : supplyAllowed (pairSupplyOf s) ≡ true
+  pub pays : tariffAllowed (pairTariffOf s) (accountsOn s 0) ≡ true
 
 -- the test gives the bounds
 pub bounds-of : (s : List ℕ) → pairBounds s ≡ true → PairBounds s
@@ -54,10 +57,12 @@ bounds-of s h =
     let c = every-first _ _ (b .1) in
     let d = every-first _ _ (c .1) in
     let e = every-first _ _ (d .1) in
+    let f = every-first _ _ (e .1) in
     record {
       count = by-byte (λ (l : ℕ). countAllowed (accountsOn s l) ≡ true) (a .0) (b .0);
       room = by-byte (λ (l : ℕ). countOn s l ≤ capacity) (leb-true _ _ (c .0)) (leb-true _ _ (d .0));
       supply-fits = e .0;
+      pays = f .0;
     }
 
 -- and back
@@ -69,11 +74,18 @@ of-bounds s b =
     (every-both _ _ (le-leb _ _ (b .room 0 (omega arith)))
     (every-both _ _ (le-leb _ _ (b .room 1 (omega arith)))
     (every-both _ _ (b .supply-fits)
-    every-none))))
+    (every-both _ _ (b .pays)
+    every-none)))))
 
 -- a ledger has an account and at most as many as it can have
 pub accounts-fit : (s : List ℕ) → PairBounds s → (l : ℕ) → l < 2 → (1 ≤ accountsOn s l) × (accountsOn s l ≤ accountLimit)
 accounts-fit s b l h = count-facts (accountsOn s l) (b .count l h)
+
+-- a ledger's tariff is one that 52 has nothing against
+pub tariff-fits : (s : List ℕ) → PairBounds s → (l : ℕ) → l < 2 → tariffAllowed (tariffOn s l) (accountsOn s l) ≡ true
+tariff-fits s b =
+    by-byte (λ (l : ℕ). tariffAllowed (tariffOn s l) (accountsOn s l) ≡ true) (b .pays)
+    (free-allowed (accountsOn s 1) (omega (arith, accounts-fit s b 1 (omega arith) .0)))
 
 -- ## As the rules see them
 

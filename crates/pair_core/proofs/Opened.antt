@@ -6,7 +6,7 @@ use Rattle.ledgers.specs.Limits.{accountLimit, capacity}
 use Rattle.pair_core.proofs.Accept.{PairSound, sound-accepts}
 use Rattle.pair_core.proofs.Ledgers.{by-byte}
 use Rattle.pair_core.specs.Layout.{PairReady, acceptsPair, accountsOn, accountsWord, balancesStart, countOn, formedOn}
-use Rattle.pair_core.specs.Layout.{indexOn}
+use Rattle.pair_core.specs.Layout.{indexOn, pairTariffWord}
 use Rattle.pair_core.specs.Layout.{pairBounds, pairOpenedWords, pairSupplyWord, pairViewOf, pairZeroWords, recordsStart, zeroBeyond}
 use Rattle.places.proofs.Openings.{Stands, copied, count-facts, front-long, stands, stored-behind}
 use Rattle.places.specs.LedgerBalances.{zeroFilled}
@@ -14,6 +14,7 @@ use Rattle.places.specs.OverPlaces.{allAt, listAt}
 use Rattle.rules.proofs.PairConserved.{opening-none, pair-opened-accepted}
 use Rattle.rules.specs.Lists.{total}
 use Rattle.rules.specs.PairValidator.{countAllowed, pairAccepts, pairOpened, pairOpeningRefusal}
+use Rattle.rules.specs.Rules.{Tariff}
 use Rattle.table.proofs.Numbers.{index-none}
 use Rattle.table.specs.Table.{IndexOf, indexLength, ledgerIn, recordsFrom}
 use Rattle.wire.proofs.Lists.{every-not}
@@ -38,57 +39,66 @@ module _ (homes fars : List ℕ) (h : length homes ≤ accountLimit) (f : length
     )
 
     -- what the stores leave behind them
-    stores-leave : (s first second : List ℕ) (supply n m : ℕ)
-        → s ≡ z ++ (replicate accountLimit 0 ++ (replicate accountLimit 0 ++ replicate 5 0))
+    stores-leave : (s first second : List ℕ) (supply n m rate account : ℕ)
+        → s ≡ z ++ (replicate accountLimit 0 ++ (replicate accountLimit 0 ++ replicate 7 0))
         → first ≡ take p s ++ (homes ++ drop (p + length homes) s)
         → second ≡ take (p + accountLimit) first ++ (fars ++ drop (p + accountLimit + length fars) first)
-        → set (set (set second (p + accountLimit + accountLimit + 0) supply) (p + accountLimit + accountLimit + 1) n)
-        (p + accountLimit + accountLimit + 2) m
-        ≡ z ++ (zeroFilled homes ++ (zeroFilled fars ++ supply ∷ n ∷ m ∷ 0 ∷ 0 ∷ []))
-    stores-leave s first second supply n m q a b =
+        → set
+        (set
+        (set (set (set second (p + accountLimit + accountLimit + 0) supply) (p + accountLimit + accountLimit + 1) n)
+        (p + accountLimit + accountLimit + 2) m)
+        (p + accountLimit + accountLimit + 5) rate)
+        (p + accountLimit + accountLimit + 6) account
+        ≡ z ++ (zeroFilled homes ++ (zeroFilled fars ++ supply ∷ n ∷ m ∷ 0 ∷ 0 ∷ rate ∷ account ∷ []))
+    stores-leave s first second supply n m rate account q a b =
         let l = front-long z p e homes h in
         rw (
           b,
           a,
           q,
-          copied z p e homes h (replicate accountLimit 0 ++ replicate 5 0),
-          ← append-assoc z (zeroFilled homes) (replicate accountLimit 0 ++ replicate 5 0),
-          copied (z ++ zeroFilled homes) (p + accountLimit) l fars f (replicate 5 0),
-          stored-behind (z ++ zeroFilled homes) (p + accountLimit) l fars f (0 ∷ 0 ∷ 0 ∷ 0 ∷ 0 ∷ []) 0 supply,
-          stored-behind (z ++ zeroFilled homes) (p + accountLimit) l fars f (supply ∷ 0 ∷ 0 ∷ 0 ∷ 0 ∷ []) 1 n,
-          stored-behind (z ++ zeroFilled homes) (p + accountLimit) l fars f (supply ∷ n ∷ 0 ∷ 0 ∷ 0 ∷ []) 2 m,
+          copied z p e homes h (replicate accountLimit 0 ++ replicate 7 0),
+          ← append-assoc z (zeroFilled homes) (replicate accountLimit 0 ++ replicate 7 0),
+          copied (z ++ zeroFilled homes) (p + accountLimit) l fars f (replicate 7 0),
+          stored-behind (z ++ zeroFilled homes) (p + accountLimit) l fars f (0 ∷ 0 ∷ 0 ∷ 0 ∷ 0 ∷ 0 ∷ 0 ∷ []) 0 supply,
+          stored-behind (z ++ zeroFilled homes) (p + accountLimit) l fars f (supply ∷ 0 ∷ 0 ∷ 0 ∷ 0 ∷ 0 ∷ 0 ∷ []) 1 n,
+          stored-behind (z ++ zeroFilled homes) (p + accountLimit) l fars f (supply ∷ n ∷ 0 ∷ 0 ∷ 0 ∷ 0 ∷ 0 ∷ []) 2 m,
+          stored-behind (z ++ zeroFilled homes) (p + accountLimit) l fars f (supply ∷ n ∷ m ∷ 0 ∷ 0 ∷ 0 ∷ 0 ∷ []) 5 rate,
+          stored-behind (z ++ zeroFilled homes) (p + accountLimit) l fars f (supply ∷ n ∷ m ∷ 0 ∷ 0 ∷ rate ∷ 0 ∷ []) 6 account,
         )
-        (append-assoc z (zeroFilled homes) (zeroFilled fars ++ supply ∷ n ∷ m ∷ 0 ∷ 0 ∷ []))
+        (append-assoc z (zeroFilled homes) (zeroFilled fars ++ supply ∷ n ∷ m ∷ 0 ∷ 0 ∷ rate ∷ account ∷ []))
 
   -- the words of an opening are what the stores leave in words of zeros
-  pub opened-by : (s first second : List ℕ) (supply : ℕ) → s ≡ pairZeroWords → supply ≡ total homes + total fars
+  pub opened-by : (tariff : Tariff) (s first second : List ℕ) (supply : ℕ) → s ≡ pairZeroWords → supply ≡ total homes + total fars
       → first ≡ take (balancesStart 0) s ++ (homes ++ drop (balancesStart 0 + length homes) s)
       → second ≡ take (balancesStart 1) first ++ (fars ++ drop (balancesStart 1 + length fars) first)
-      → set (set (set second pairSupplyWord supply) (accountsWord 0) (length homes)) (accountsWord 1) (length fars)
-      ≡ pairOpenedWords homes fars
+      → set
+      (set (set (set (set second pairSupplyWord supply) (accountsWord 0) (length homes)) (accountsWord 1) (length fars)) pairTariffWord
+      (tariff .rate))
+      (pairTariffWord + 1) (tariff .account)
+      ≡ pairOpenedWords tariff homes fars
   unfolding pairOpenedWords pairZeroWords
-  opened-by s first second supply q u a b =
+  opened-by tariff s first second supply q u a b =
       stores-leave (replicate (8 * capacity) 0) (8 * capacity) (length-replicate {A = ℕ} (8 * capacity) 0) s first second supply (length homes)
-      (length fars) (q ∙ zeros-split (8 * capacity) accountLimit 5) a b
+      (length fars) (tariff .rate) (tariff .account) (q ∙ zeros-split (8 * capacity) accountLimit 7) a b
       ∙ ap (λ (n : ℕ). replicate (8 * capacity) 0 ++ (zeroFilled homes ++ (zeroFilled fars ++ n ∷ length homes ∷ length fars ∷ 0 ∷ 0 ∷
-      []))) u
+      tariff .rate ∷ tariff .account ∷ []))) u
 
 -- ## An accepted opening
 
-module _ (homes fars : List ℕ) (n : pairOpeningRefusal homes fars ≡ 0) where
+module _ (tariff : Tariff) (homes fars : List ℕ) (n : pairOpeningRefusal tariff homes fars ≡ 0) where
   -- its numbers of accounts are within the limit
   pub opened-counts : (length homes ≤ accountLimit) × (length fars ≤ accountLimit)
   opened-counts =
-      let o = opening-none (length homes) (length fars) (total homes + total fars) n in
+      let o = opening-none tariff (length homes) (length fars) (total homes + total fars) n in
       (count-facts (length homes) (o .home-count) .1, count-facts (length fars) (o .far-count) .1)
 
   -- its words
   abbrev openedWords : List ℕ
-  openedWords = pairOpenedWords homes fars
+  openedWords = pairOpenedWords tariff homes fars
 
-  -- the last five
+  -- the last seven
   abbrev scalars : List ℕ
-  scalars = (total homes + total fars) ∷ length homes ∷ length fars ∷ 0 ∷ 0 ∷ []
+  scalars = (total homes + total fars) ∷ length homes ∷ length fars ∷ 0 ∷ 0 ∷ tariff .rate ∷ tariff .account ∷ []
 
   -- both ledgers' balances stand there
   opened-stand : Stands openedWords (balancesStart 0) homes (zeroFilled fars ++ scalars) × Stands openedWords (balancesStart 1) fars scalars
@@ -97,14 +107,14 @@ module _ (homes fars : List ℕ) (n : pairOpeningRefusal homes fars ≡ 0) where
       both-stand homes fars (opened-counts .0) (opened-counts .1) (replicate (8 * capacity) 0) (8 * capacity)
       (length-replicate {A = ℕ} (8 * capacity) 0) scalars
 
-  -- each of the last five
+  -- each of the last seven
   last : (k : ℕ) → getD openedWords (pairSupplyWord + k) 0 ≡ getD scalars k 0
   last = opened-stand .1 .behind
 
   -- they are, seen as the rules' state, the rules' opened state
-  pub opened-view : pairViewOf openedWords ≡ pairOpened homes fars
+  pub opened-view : pairViewOf openedWords ≡ pairOpened tariff homes fars
   unfolding ledgerIn recordsFrom listAt
-  opened-view = rw (last 0, last 1, last 2, last 3, last 4, opened-stand .0 .balances, opened-stand .1 .balances)
+  opened-view = rw (last 0, last 1, last 2, last 3, last 4, last 5, last 6, opened-stand .0 .balances, opened-stand .1 .balances)
 
   -- no record is held
   count-none : (l : ℕ) → l < 2 → countOn openedWords l ≡ 0
@@ -114,7 +124,7 @@ module _ (homes fars : List ℕ) (n : pairOpeningRefusal homes fars ≡ 0) where
   pub opened-sound : PairSound openedWords
   unfolding zeroBeyond formedOn allAt
   opened-sound =
-      let o = opening-none (length homes) (length fars) (total homes + total fars) n in
+      let o = opening-none tariff (length homes) (length fars) (total homes + total fars) n in
       record {
         long = opened-stand .1 .long;
         bounds =
@@ -123,11 +133,12 @@ module _ (homes fars : List ℕ) (n : pairOpeningRefusal homes fars ≡ 0) where
                   (rw (last 2) (o .far-count));
               room = λ l h. omega (arith, count-none l h);
               supply-fits = rw (last 0) (o .supply-fits);
+              pays = rw (last 5, last 6, last 1) (o .pays);
             };
         zeros = by-byte (λ (l : ℕ). zeroBeyond openedWords l ≡ true) (rw (last 1) (opened-stand .0 .zeros)) (rw (last 2) (opened-stand .1
             .zeros));
         reads = λ l h. rw (count-none l h);
-        accepted = ap (pairAccepts capacity) opened-view ∙ pair-opened-accepted capacity homes fars n;
+        accepted = ap (pairAccepts capacity) opened-view ∙ pair-opened-accepted capacity tariff homes fars n;
       }
 
   -- with indexes of zeros they are ready for a record

@@ -7,11 +7,12 @@ use Rattle.ledgers.specs.Ledgers.{counterpart, ledgerByte, ledgerOf}
 use Rattle.ledgers.specs.Limits.{accountLimit, capacity, maxAmount}
 use Rattle.pair_core.proofs.Accept.{PairSound, sound-accepts, sound-of}
 use Rattle.pair_core.proofs.Ledgers.{PairBounds, accounts-fit, balances-within, by-byte, byte-below, length-balances, length-held}
-use Rattle.pair_core.proofs.Ledgers.{state-on}
+use Rattle.pair_core.proofs.Ledgers.{state-on, tariff-fits}
 use Rattle.pair_core.specs.Layout.{PairReady, acceptsPair, accountsOn, accountsWord, balancesStart, countOn, formedOn, pairCountWord}
+use Rattle.pair_core.specs.Layout.{pairTariffOf, pairTariffWord, tariffOn}
 use Rattle.pair_core.specs.Layout.{indexOn, ledgerOn, pairSupplyOf, pairSupplyWord, pairViewOf, pairWith, recordsStart, zeroBeyond}
 use Rattle.places.proofs.PassedRecord.{Changes, ledger-other, zeros-kept}
-use Rattle.places.specs.Amounts.{givenBy, takenBy}
+use Rattle.places.specs.Amounts.{creditBy, debitBy, payeeBy}
 use Rattle.places.specs.NumberIndex.{chainCount}
 use Rattle.records.proofs.Formed.{read-formed}
 use Rattle.records.specs.Records.{formed, reading, recordIn, wordsOf}
@@ -24,7 +25,8 @@ use Rattle.rules.specs.Rules.{Far, Home, Kind, Ledger, Local, Read, Receiving, 
 use Rattle.table.proofs.Balances.{balance-fits, balance-in, given-fits}
 use Rattle.table.proofs.Growing.{grown-kept, index-beside, index-grown}
 use Rattle.table.proofs.Storing.{SameWords, LedgerStored, Stored, formed-same, ledger-same, ledger-stored-of, number-same, stored-of}
-use Rattle.table.specs.Table.{IndexOf, stored, withNumber}
+use Rattle.table.specs.Table.{IndexOf, ledgerIn, stored, withNumber}
+use Rattle.tariffs.proofs.Allowing.{allowed-open, allowed-rate}
 
 -- ## A ledger and the other one
 
@@ -52,10 +54,10 @@ index-apart Far n h = inl (omega arith)
 -- what a pass says of a record of a kind on the ledger with byte l
 pub record PairPasses (s : List ℕ) (r : Record) (k : Kind) (l : ℕ) : Type 0 where
   pub room : countOn s l < capacity
-  pub changes : Changes (accountsOn s l) r k
+  pub changes : Changes (accountsOn s l) (tariffOn s l .account) r k
   pub sender : r .sender < accountLimit
-  pub receiver : r .receiver < accountLimit
-  pub pays : takenBy k (r .amount) ≤ getD s (balancesStart l + r .sender) 0
+  pub payee : payeeBy (tariffOn s l .account) k (r .receiver) < accountLimit
+  pub pays : debitBy (tariffOn s l .rate) k (r .amount) ≤ getD s (balancesStart l + r .sender) 0
 
 module _ (s : List ℕ) (d : PairSound s) where
   -- the balances of both ledgers are at most the greatest amount
@@ -72,16 +74,17 @@ module _ (s : List ℕ) (d : PairSound s) where
   balance-most : (l : ℕ) → l < 2 → (i : ℕ) → i < accountLimit → getD s (balancesStart l + i) 0 ≤ maxAmount
   unfolding zeroBeyond
   balance-most l h i p =
-      balance-fits s (balancesStart l) (accountsOn s l) (recordsStart l) (countOn s l) accountLimit (d .zeros l h) maxAmount
+      balance-fits (tariffOn s l) s (balancesStart l) (accountsOn s l) (recordsStart l) (countOn s l) accountLimit (d .zeros l h) maxAmount
       (by-byte (λ (m : ℕ). total (ledgerOn s m .balances) ≤ maxAmount) (omega (arith, totals-fit)) (omega (arith, totals-fit)) l h) i p
 
   -- what is given to an account stays in 64 bits
   pub paid-fits : (r : Record) (l : ℕ) → l < 2 → PairPasses s r (r .kind) l → r .amount ≤ maxAmount
-      → getD (lowered s (balancesStart l + r .sender) (takenBy (r .kind) (r .amount))) (balancesStart l + r .receiver) 0
-      + givenBy (r .kind) (r .amount) < 2 ^ 64
+      → getD (lowered s (balancesStart l + r .sender) (debitBy (tariffOn s l .rate) (r .kind) (r .amount)))
+      (balancesStart l + payeeBy (tariffOn s l .account) (r .kind) (r .receiver)) 0
+      + creditBy (tariffOn s l .rate) (r .kind) (r .amount) < 2 ^ 64
   paid-fits r l h p m =
-      given-fits s (balancesStart l) r (omega (arith, d .long, p .sender)) (balance-most l h (r .sender) (p .sender))
-      (balance-most l h (r .receiver) (p .receiver)) m
+      given-fits (tariffOn s l) s (balancesStart l) r (allowed-rate _ _ (tariff-fits s (d .bounds) l h)) (omega (arith, d .long, p .sender))
+      (balance-most l h (r .sender) (p .sender)) (balance-most l h _ (p .payee)) m
 
 module _ (s : List ℕ) (d : PairSound s) (r : Record) (l o : ℕ) (hl : l < 2) (ho : o < 2) (space : countOn s l < capacity) where
   -- the rules count as many accounts
@@ -98,17 +101,21 @@ module _ (s : List ℕ) (d : PairSound s) (r : Record) (l o : ℕ) (hl : l < 2) 
 
   -- the sender's balance, as the rules have it
   pays-by : r .sender < accountsOn s l → getD s (balancesStart l + r .sender) 0 ≡ getD (ledgerOn s l .balances) (r .sender) 0
-  pays-by x = balance-in s (balancesStart l) (accountsOn s l) (recordsStart l) (countOn s l) (r .sender) x
+  pays-by x = balance-in (tariffOn s l) s (balancesStart l) (accountsOn s l) (recordsStart l) (countOn s l) (r .sender) x
+
+  -- the charge account is open
+  account-open : tariffOn s l .account < accountsOn s l
+  account-open = allowed-open _ _ (tariff-fits s (d .bounds) l hl)
 
   -- from what the rules ask
   passes-by : (k : Kind) → Passable (ledgerOn s l) (ledgerOn s o) r k → PairPasses s r k l
-  unfolding Passable Changes
+  unfolding Passable Changes ledgerIn
   passes-by (Local m) h =
       let x : r .sender < accountsOn s l = rw own at (h .0 .sender-open) in
       omega (arith, h .0 .receiver-open, own, fits l hl, h .1, pays-by x)
   passes-by (Sending m) h =
       let x : r .sender < accountsOn s l = rw own at (h .0 .sender-open) in
-      omega (arith, h .0 .receiver-open, other, fits l hl, fits o ho, h .1, pays-by x)
+      omega (arith, h .0 .receiver-open, other, fits l hl, fits o ho, h .1, pays-by x, account-open)
   passes-by (Receiving m) h = omega (arith, h .0 .sender-open, h .0 .receiver-open, own, other, fits l hl, fits o ho)
 
 -- a record without a refusal passes
@@ -129,8 +136,9 @@ passes-of s d r j =
 pub record PairWritten (s t : List ℕ) (w : Words) (r : Record) (L : Ledger) : Type 0 where
   pub long : length t ≡ length s
   pub below : (i : ℕ) → i < pairSupplyWord
-      → getD t i 0 ≡ getD (stored s (balancesStart (ledgerByte L)) (recordsStart (ledgerByte L) + 4 * countOn s (ledgerByte L)) w r) i 0
+      → getD t i 0 ≡ getD (stored (tariffOn s (ledgerByte L)) s (balancesStart (ledgerByte L)) (recordsStart (ledgerByte L) + 4 * countOn s (ledgerByte L)) w r) i 0
   pub supply : pairSupplyOf t ≡ pairSupplyOf s
+  pub tariff : pairTariffOf t ≡ pairTariffOf s
   pub accounts : (m : ℕ) → m < 2 → accountsOn t m ≡ accountsOn s m
   pub count : countOn t (ledgerByte L) ≡ countOn s (ledgerByte L) + 1
   pub others : countOn t (ledgerByte (counterpart L)) ≡ countOn s (ledgerByte (counterpart L))
@@ -146,16 +154,16 @@ module _ (s : List ℕ) (w : Words) (r : Record) (d : PairSound s) (L : Ledger) 
 
   -- the words after the store
   abbrev stores : List ℕ
-  stores = stored s (balancesStart l) (recordsStart l + 4 * countOn s l) w r
+  stores = stored (tariffOn s l) s (balancesStart l) (recordsStart l + 4 * countOn s l) w r
 
   -- the ledger's accounts
   own-fits : accountsOn s l ≤ accountLimit
   own-fits = accounts-fit s (d .bounds) l (byte-below L) .1
 
   -- the store
-  is-stored : Stored s (balancesStart l) (accountsOn s l) (recordsStart l + 4 * countOn s l) w r
+  is-stored : Stored (tariffOn s l) s (balancesStart l) (accountsOn s l) (recordsStart l + 4 * countOn s l) w r
   is-stored =
-      stored-of s (balancesStart l) (accountsOn s l) (recordsStart l + 4 * countOn s l) w r (p .changes)
+      stored-of (tariffOn s l) s (balancesStart l) (accountsOn s l) (recordsStart l + 4 * countOn s l) w r (p .changes)
       (omega (arith, p .room, byte-below L)) (balances-within s (d .long) (d .bounds) l (byte-below L))
 
   -- a word above the balances that is not the ledger's count
@@ -173,6 +181,10 @@ module _ (s : List ℕ) (w : Words) (r : Record) (d : PairSound s) (L : Ledger) 
         long = length-set stores (pairCountWord l) (countOn s l + 1) ∙ is-stored .long;
         below = λ i h. getD-set-other stores (pairCountWord l) i (countOn s l + 1) 0 (λ q. omega arith);
         supply = above pairSupplyWord (omega arith) (λ q. omega arith);
+        tariff = rw (
+          above pairTariffWord (omega arith) (λ q. omega (arith, byte-below L)),
+          above (pairTariffWord + 1) (omega arith) (λ q. omega (arith, byte-below L)),
+        );
         accounts = λ m h. above (accountsWord m) (omega arith) (λ q. omega arith);
         count = getD-set-same stores (pairCountWord l) (countOn s l + 1) 0 (omega (arith, is-stored .long, d .long, byte-below L));
         others = above (pairCountWord o) (omega arith) (λ q. omega (arith, q, ledger-other L));
@@ -180,9 +192,9 @@ module _ (s : List ℕ) (w : Words) (r : Record) (d : PairSound s) (L : Ledger) 
 
   module _ (t : List ℕ) (c : PairWritten s t w r L) where
     -- the ledger
-    ledger-after : LedgerStored s t (balancesStart l) (accountsOn s l) (recordsStart l) (countOn s l) pairSupplyWord w r
+    ledger-after : LedgerStored (tariffOn s l) s t (balancesStart l) (accountsOn s l) (recordsStart l) (countOn s l) pairSupplyWord w r
     ledger-after =
-        ledger-stored-of s t (balancesStart l) (accountsOn s l) (recordsStart l) (countOn s l) pairSupplyWord w r (p .changes)
+        ledger-stored-of (tariffOn s l) s t (balancesStart l) (accountsOn s l) (recordsStart l) (countOn s l) pairSupplyWord w r (p .changes)
         (omega (arith, p .room, byte-below L)) (omega (arith, own-fits, byte-below L)) (omega (arith, d .long)) (c .long) (c .below)
 
     -- the other one's records
@@ -202,16 +214,20 @@ module _ (s : List ℕ) (w : Words) (r : Record) (d : PairSound s) (L : Ledger) 
         (beside L (8 * capacity) accountLimit (accountsOn s l) i own-fits a b)
         (inr (omega (arith, p .room, byte-below L)))
 
+    -- both tariffs stay
+    tariffs-same : (m : ℕ) → m < 2 → tariffOn t m ≡ tariffOn s m
+    tariffs-same = by-byte (λ (m : ℕ). tariffOn t m ≡ tariffOn s m) (c .tariff) refl
+
     -- the ledger is the rules' ledger on which the record has passed
     own-after : recordIn w ≡ r → ledgerOn t l ≡ held (ledgerOn s l) r
-    own-after e = rw (c .accounts l (byte-below L), c .count) (ledger-after .ledger e)
+    own-after e = rw (tariffs-same l (byte-below L), c .accounts l (byte-below L), c .count) (ledger-after .ledger e)
 
     -- the other one stays
     other-after : ledgerOn t o ≡ ledgerOn s o
     other-after =
         let h = byte-below (counterpart L) in
-        rw (c .accounts o h, c .others)
-        (ledger-same s t (recordsStart o) (countOn s o) records-beside (balancesStart o) (accountsOn s o) (c .long)
+        rw (tariffs-same o h, c .accounts o h, c .others)
+        (ledger-same s t (recordsStart o) (countOn s o) records-beside (tariffOn s o) (balancesStart o) (accountsOn s o) (c .long)
         (balances-within s (d .long) (d .bounds) o h)
         (λ i a b. balances-beside i a (omega (arith, b, accounts-fit s (d .bounds) o h .1))))
 
@@ -224,6 +240,7 @@ module _ (s : List ℕ) (w : Words) (r : Record) (d : PairSound s) (L : Ledger) 
           room = either (λ (m : ℕ). countOn t m ≤ capacity) L (omega (arith, c .count, p .room))
               (omega (arith, c .others, b .room o (byte-below (counterpart L))));
           supply-fits = rw (c .supply) (b .supply-fits);
+          pays = rw (c .tariff, c .accounts 0 (omega arith)) (b .pays);
         }
 
     -- balances beyond the accounts stay zero

@@ -1,8 +1,8 @@
 -- The state of the pair validator (document 01: pair book) is one array of words: the held records of home, four words each, as many as
 -- the capacity, and those of far; the balances of home, as many as a ledger can have, and those of far; then the supply, the numbers
--- of home and of far accounts, and the numbers of held records of both. Here stands what it is as the rules' state, what refusal 3
+-- of home and of far accounts, the numbers of held records of both, and home's tariff (document 02, U3): its rate and its account. Here stands what it is as the rules' state, what refusal 3
 -- asks of it, and what a passed record makes of it. A ledger is named by its byte. Assumes nothing.
-use Prim.Native.Nat.{_*_, _+_, _-_, _<_, ℕ}
+use Prim.Native.Nat.{_*_, _+_, _-_, _<_, suc, zero, ℕ}
 use mathlib.Core.Bool.{Bool, true}
 use mathlib.Core.List.{List, [], _++_, _∷_}
 use mathlib.Core.Path.{_≡_}
@@ -20,8 +20,9 @@ use Rattle.records.specs.declared.Words.{Words}
 use Rattle.rules.specs.Calls.{Checker}
 use Rattle.rules.specs.Lists.{total}
 use Rattle.rules.specs.PairValidator.{PairView, countAllowed, pairAccepts, pairJudge, supplyAllowed}
-use Rattle.rules.specs.Rules.{LedgerState}
-use Rattle.table.specs.Table.{IndexOf, indexLength, ledgerIn, stored, wordsAt}
+use Rattle.rules.specs.Rules.{LedgerState, Tariff}
+use Rattle.table.specs.Table.{IndexOf, indexLength, ledgerIn, stored, tariffAt, wordsAt}
+use Rattle.tariffs.specs.Tariffs.{free, tariffAllowed}
 use Rattle.wire.specs.BigEndian.{every}
 
 -- ## The layout
@@ -34,7 +35,7 @@ recordsStart l = l * (4 * capacity)
 abbrev pub balancesStart : ℕ → ℕ
 balancesStart l = 8 * capacity + l * accountLimit
 
--- the words of the supply, of a ledger's number of accounts and of its number of held records
+-- the words of the supply, of a ledger's number of accounts and of its number of held records, and the first of home's tariff
 abbrev pub pairSupplyWord : ℕ
 pairSupplyWord = 8 * capacity + 2 * accountLimit
 
@@ -44,9 +45,12 @@ accountsWord l = pairSupplyWord + 1 + l
 abbrev pub pairCountWord : ℕ → ℕ
 pairCountWord l = pairSupplyWord + 3 + l
 
+abbrev pub pairTariffWord : ℕ
+pairTariffWord = pairSupplyWord + 5
+
 -- all words
 abbrev pub pairWords : ℕ
-pairWords = pairSupplyWord + 5
+pairWords = pairSupplyWord + 7
 
 -- ## What the words say
 
@@ -62,9 +66,18 @@ accountsOn s l = getD s (accountsWord l) 0
 abbrev pub countOn : List ℕ → ℕ → ℕ
 countOn s l = getD s (pairCountWord l) 0
 
+-- home's tariff
+abbrev pub pairTariffOf : List ℕ → Tariff
+pairTariffOf s = tariffAt s pairTariffWord
+
+-- a ledger's tariff: nothing is taken on far's sendings
+abbrev pub tariffOn : List ℕ → ℕ → Tariff
+tariffOn s zero = pairTariffOf s
+tariffOn s (suc l) = free
+
 -- a ledger
 abbrev pub ledgerOn : List ℕ → ℕ → LedgerState
-ledgerOn s l = ledgerIn s (balancesStart l) (accountsOn s l) (recordsStart l) (countOn s l)
+ledgerOn s l = ledgerIn (tariffOn s l) s (balancesStart l) (accountsOn s l) (recordsStart l) (countOn s l)
 
 -- the state, seen as the rules' state
 abbrev pub pairViewOf : List ℕ → PairView
@@ -72,7 +85,8 @@ pairViewOf s = record { pair = record { home = ledgerOn s 0; far = ledgerOn s 1 
 
 -- ## 3
 
--- the counts of accounts and of held records, and the supply, are in bounds (Refusals: 3, counts out of bounds, stake)
+-- the counts of accounts and of held records, the supply and the tariff are in bounds (Refusals: 3, counts out of bounds, stake; document
+-- 02, U3)
 unfoldable pub pairBounds : List ℕ → Bool
 pairBounds s =
     every
@@ -81,6 +95,7 @@ pairBounds s =
     ∷ leb (countOn s 0) capacity
     ∷ leb (countOn s 1) capacity
     ∷ supplyAllowed (pairSupplyOf s)
+    ∷ tariffAllowed (pairTariffOf s) (accountsOn s 0)
     ∷ []
     )
 
@@ -110,7 +125,8 @@ acceptsPair s =
 
 -- the words once a record has passed on the ledger with byte l: its balances and its own words, the number of held records
 unfoldable pub pairWith : List ℕ → Words → Record → ℕ → List ℕ
-pairWith s w r l = set (stored s (balancesStart l) (recordsStart l + 4 * countOn s l) w r) (pairCountWord l) (countOn s l + 1)
+pairWith s w r l =
+    set (stored (tariffOn s l) s (balancesStart l) (recordsStart l + 4 * countOn s l) w r) (pairCountWord l) (countOn s l + 1)
 
 -- the words once what was read has passed
 abbrev pub pairAfterRead : List ℕ → Words → Reading → List ℕ
@@ -129,11 +145,12 @@ pairWordsChecker =
 -- ## The opening
 
 -- the words of an accepted opening
-unfoldable pub pairOpenedWords : List ℕ → List ℕ → List ℕ
-pairOpenedWords homes fars =
+unfoldable pub pairOpenedWords : Tariff → List ℕ → List ℕ → List ℕ
+pairOpenedWords tariff homes fars =
     replicate (8 * capacity) 0
     ++ (zeroFilled homes
-    ++ (zeroFilled fars ++ (total homes + total fars) ∷ length homes ∷ length fars ∷ 0 ∷ 0 ∷ []))
+    ++ (zeroFilled fars
+    ++ (total homes + total fars) ∷ length homes ∷ length fars ∷ 0 ∷ 0 ∷ tariff .rate ∷ tariff .account ∷ []))
 
 -- all zero, which 3 refuses: what stands beside a refused opening
 unfoldable pub pairZeroWords : List ℕ

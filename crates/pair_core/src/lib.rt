@@ -9,7 +9,7 @@ ghost use Rattle.ledgers.specs.Ledgers.{ledgerByte, ledgerOf};
 ghost use Rattle.ledgers.specs.Limits.{capacity};
 ghost use Rattle.pair_core.specs.Layout.{PairReady, acceptsPair, countOn, indexOn, pairBounds, pairViewOf};
 ghost use Rattle.pair_core.specs.Layout.{pairOpenedWords, pairWith, pairWords, pairWordsChecker, pairZeroWords, recordsStart};
-ghost use Rattle.pair_core.specs.Layout.{zeroBeyond};
+ghost use Rattle.pair_core.specs.Layout.{tariffOn, zeroBeyond};
 ghost use Rattle.pair_core.specs.Testing.{backedOn, heldOn, sumsAgree};
 ghost use Rattle.places.specs.NumberIndex.{Kept};
 ghost use Rattle.records.specs.Records.{formed, recordIn};
@@ -43,6 +43,7 @@ use table::hold_indexed;
 use table::is_backed;
 use table::is_used;
 use table::store;
+use tariffs::Tariff;
 use wire::part_end;
 
 // ## The layout
@@ -53,15 +54,19 @@ pub const RECORD_WORDS: usize = 4 * Ledger::CAPACITY;
 // The first word of the balances, home's before far's.
 pub const BALANCES_WORD: usize = 2 * RECORD_WORDS;
 
-// The words of the supply, of the numbers of accounts and of the numbers of held records.
+// The words of the supply, of the numbers of accounts and of the numbers of held records, and of home's rate and charge account.
 pub const SUPPLY_WORD: usize = BALANCES_WORD + 2 * Ledger::ACCOUNTS;
 
 pub const ACCOUNTS_WORD: usize = SUPPLY_WORD + 1;
 
 pub const COUNTS_WORD: usize = SUPPLY_WORD + 3;
 
+pub const RATE_WORD: usize = SUPPLY_WORD + 5;
+
+pub const CHARGE_ACCOUNT_WORD: usize = SUPPLY_WORD + 6;
+
 // All words of a state.
-pub const WORDS: usize = SUPPLY_WORD + 5;
+pub const WORDS: usize = SUPPLY_WORD + 7;
 
 // The elements of the indexes of both ledgers' numbers.
 pub const INDEXES: usize = 2 * INDEX;
@@ -76,9 +81,26 @@ pub fn ledger_index(l: Ledger) -> usize
     }
 }
 
+// A ledger's tariff: nothing is taken on far's sendings.
+fn tariff_on(s: &[u64], l: usize) -> Tariff
+    requires { ⌜ length (now s) ≡ pairWords ⌝ }
+    ensures { λ t. ⌜ t ≡ tariffOn (now (s .entry)) l ⌝ }
+{
+    if l == 0 {
+        return Tariff {
+            rate: s[RATE_WORD],
+            account: s[CHARGE_ACCOUNT_WORD],
+        };
+    }
+    Tariff {
+        rate: 0,
+        account: 0,
+    }
+}
+
 // ## 3
 
-// Counts of accounts and of held records, and the supply.
+// Counts of accounts and of held records, the supply and home's tariff.
 fn is_bounded(s: &[u64]) -> bool
     requires { ⌜ length (now s) ≡ pairWords ⌝ }
     ensures { λ b. ⌜ b ≡ pairBounds (now (s .entry)) ⌝ }
@@ -95,7 +117,10 @@ fn is_bounded(s: &[u64]) -> bool
     if Ledger::CAPACITY < s[COUNTS_WORD + 1] as usize {
         return false;
     }
-    s[SUPPLY_WORD] <= Record::MAX_AMOUNT
+    if Record::MAX_AMOUNT < s[SUPPLY_WORD] {
+        return false;
+    }
+    tariff_on(s, 0).is_allowed(s[ACCOUNTS_WORD])
 }
 
 // Balances of a ledger beyond its accounts.
@@ -237,10 +262,12 @@ fn last_refusal<'a>(s: &'a [u64], index: &'a [u16], w: Words, r: Record) -> u32
         let backed = is_backed(s, index, o as u64, o * RECORD_WORDS, o * INDEX, count, w);
         return refusal_if(!backed, 31);
     }
+    let tariff = tariff_on(s, l);
     funds_refusal(
         s,
         BALANCES_WORD + l * Ledger::ACCOUNTS,
         s[ACCOUNTS_WORD + l] as usize,
+        tariff.rate,
         r,
     )
 }
@@ -281,10 +308,12 @@ fn pass(state: &mut [u64; WORDS], w: Words, r: Record)
     let kind = r.kind;
     let l = ledger_index(kind.ledger());
     let count = state[COUNTS_WORD + l];
+    let tariff = tariff_on(state, l);
     store(
         state,
         BALANCES_WORD + l * Ledger::ACCOUNTS,
         l * RECORD_WORDS + 4 * count as usize,
+        tariff,
         w,
         r,
     );
@@ -293,14 +322,19 @@ fn pass(state: &mut [u64; WORDS], w: Words, r: Record)
 
 // ## The opening
 
-// An opening with the balances of each ledger, in words of zeros: 1 or 2, and no word is stored, or 0.
-pub fn open<'a, 'b>(homes: &'a [u64], fars: &'a [u64], state: &'b mut [u64; WORDS]) -> u32
+// An opening with the balances of each ledger and home's tariff, in words of zeros: 1, 2 or 52, and no word is stored, or 0.
+pub fn open<'a, 'b>(
+    homes: &'a [u64],
+    fars: &'a [u64],
+    tariff: Tariff,
+    state: &'b mut [u64; WORDS],
+) -> u32
     requires { ⌜ now state ≡ pairZeroWords ⌝ }
-    ensures answers { λ n. ⌜ n ≡ pairOpeningRefusal (now (homes .entry)) (now (fars .entry)) ⌝ }
-    ensures leaves { λ n. ⌜ now (state .exit) ≡ unlessRefused (pairOpeningRefusal (now (homes .entry)) (now (fars .entry)))
-        (pairOpenedWords (now (homes .entry)) (now (fars .entry))) pairZeroWords ⌝ }
+    ensures answers { λ n. ⌜ n ≡ pairOpeningRefusal tariff (now (homes .entry)) (now (fars .entry)) ⌝ }
+    ensures leaves { λ n. ⌜ now (state .exit) ≡ unlessRefused (pairOpeningRefusal tariff (now (homes .entry)) (now (fars .entry)))
+        (pairOpenedWords tariff (now (homes .entry)) (now (fars .entry))) pairZeroWords ⌝ }
 {
-    let opening = pair_opening(homes, fars);
+    let opening = pair_opening(homes, fars, tariff);
     if opening.refusal != 0 {
         return opening.refusal;
     }
@@ -309,6 +343,8 @@ pub fn open<'a, 'b>(homes: &'a [u64], fars: &'a [u64], state: &'b mut [u64; WORD
     state[SUPPLY_WORD] = opening.supply;
     state[ACCOUNTS_WORD] = homes.len() as u64;
     state[ACCOUNTS_WORD + 1] = fars.len() as u64;
+    state[RATE_WORD] = tariff.rate;
+    state[CHARGE_ACCOUNT_WORD] = tariff.account;
     0
 }
 

@@ -4,9 +4,11 @@ use Rattle.answers.specs.Answers.{refuse}
 use Rattle.ledgers.specs.Ledgers.{ledgerByte, ledgerOf}
 use Rattle.pair_core.proofs.Accept.{PairSound, sound-of}
 use Rattle.pair_core.proofs.Judging.{last-matched, last-paid}
-use Rattle.pair_core.proofs.Ledgers.{accounts-fit, index-within, records-within}
-use Rattle.pair_core.specs.Layout.{accountsOn, balancesStart}
+use Rattle.pair_core.proofs.Ledgers.{accounts-fit, index-within, records-within, tariff-fits}
+use Rattle.pair_core.specs.Layout.{accountsOn, balancesStart, tariffOn}
 use Rattle.places.specs.LedgerBalances.{fundsAt}
+use Rattle.rules.specs.Rules.{Tariff}
+use Rattle.tariffs.proofs.Allowing.{allowed-rate}
 use Rattle.pair_core.proofs.last_refusal.Statement.{statement}
 use Rattle.pair_core.proofs.last_refusal.Tie as tie
 
@@ -50,34 +52,35 @@ returns c =
 shared-slice-read-funds-refusal : tie.Need-shared-slice-read-funds-refusal
 shared-slice-read-funds-refusal c = omega (
   arith,
-  sound-at (c .before .before .before .before .before .before .before) .long,
-  c .before
-      .before .before .ledger-index .ensures .1,
+  sound-at (c .before .before .before .before .before .before .before .before) .long,
+  c .before .before .before .before .ledger-index .ensures .1,
 )
 
 funds-refusal-requires : tie.Need-funds-refusal-requires
 funds-refusal-requires c κs =
-    let h = sound-at (c .before .before .before .before .before .before .before) in
-    let l = c .before .before .before .ledger-index in
-    omega (
-      arith,
-      h .long,
-      accounts-fit (c .before .before .before .before .before .before .before .args .s .now) (h .bounds) (l
-          .result) (l .ensures .1) .1,
-      l .ensures .1,
+    let o = c .before .before .before .before .before .before .before .before in
+    let s = o .args .s .now in
+    let h = sound-at o in
+    let l = c .before .before .before .before .ledger-index in (
+      omega (arith, h .long, accounts-fit s (h .bounds) (l .result) (l .ensures .1) .1, l .ensures .1),
+      rw (c .before .tariff-on .ensures) (allowed-rate _ _ (tariff-fits s (h .bounds) (l .result) (l .ensures .1))),
     )
 
 returns-2 : tie.Need-returns-2
 returns-2 c =
-    let a = c .before .before .before .before .before .before .before .before .args in
+    let d = c .before .before .before .before in
+    let a = d .before .before .before .before .before .args in
     let s = a .s .now in
+    let l : ℕ = d .before .ledger-index .result in
     c .funds-refusal .ensures
-    ∙ ap (λ (l : ℕ). fundsAt s (balancesStart l) (accountsOn s l) (a .r)) (ledger-at (c .before .before .before .before))
-    ∙ last-paid s (a .r) (a .r .kind) (sym (c .before .before .before .is-receiving .ensures) ∙ c .before .before .if1 .left)
+    ∙ ap (λ (t : Tariff). fundsAt s (balancesStart l) (accountsOn s l) (t .rate) (a .r)) (c .before .before .tariff-on .ensures)
+    ∙ ap (λ (m : ℕ). fundsAt s (balancesStart m) (accountsOn s m) (tariffOn s m .rate) (a .r)) (ledger-at (d .before))
+    ∙ last-paid s (a .r) (a .r .kind) refl (sym (d .is-receiving .ensures) ∙ c .before .before .before .if1 .left)
 
 pub last-refusal-spec : {M : Type 1} → statement M
 last-refusal-spec = tie.close (tie.spec (λ c κs. search needs) (λ c κs. search needs) (λ c κs. search needs) (λ c. search needs)
     (λ c. search needs) (λ c. search needs)
     (λ c. omega (arith, sound-at (c .before .before .before .before .before .before .before) .long)) (λ c. search needs)
-    (λ c. search needs) is-backed-requires (λ c κs. search needs) returns (λ c. search needs) (λ c. search needs) (λ c. search needs)
+    (λ c. search needs) is-backed-requires (λ c κs. search needs) returns
+    (λ c κs. sound-at (c .before .before .before .before .before .before) .long) (λ c. search needs) (λ c. search needs) (λ c. search needs)
     (λ c. search needs) shared-slice-read-funds-refusal funds-refusal-requires returns-2)

@@ -1,10 +1,14 @@
 -- `pair_core::pass` meets its contract. Assumes nothing.
-use Rattle.wire.proofs.Prelude.{List, _+_, _∙_, _≡_, ap, arith, needs, set, subst, sym, ℕ}
+use Rattle.wire.proofs.Prelude.{List, _*_, _+_, _∙_, _≡_, ap, arith, needs, set, subst, sym, ℕ}
 use Rattle.ledgers.specs.Ledgers.{ledgerByte, ledgerOf}
 use Rattle.pair_core.proofs.Accept.{PairSound, sound-of}
 use Rattle.pair_core.proofs.Passing.{PairPasses, paid-fits, passes-of}
-use Rattle.pair_core.specs.Layout.{countOn, pairCountWord, pairWith}
+use Rattle.pair_core.proofs.Ledgers.{tariff-fits}
+use Rattle.pair_core.specs.Layout.{balancesStart, countOn, pairCountWord, pairWith, recordsStart}
+use Rattle.rules.specs.Rules.{Tariff}
 use Rattle.table.proofs.Records.{amount-fits}
+use Rattle.table.specs.Table.{stored}
+use Rattle.tariffs.proofs.Allowing.{allowed-rate}
 use Rattle.pair_core.proofs.pass.Statement.{statement}
 use Rattle.pair_core.proofs.pass.Tie as tie
 
@@ -27,27 +31,35 @@ passes-at c =
 
 store-requires : tie.Need-store-requires
 store-requires c κs =
-    let o = c .before .before .before .before in
+    let d = c .before .before .before .before .before in
+    let o = d .before .before in
     let a = o .args in
     let h = sound-at o in
-    let p = passes-at (c .before .before) in
-    let l = c .before .before .ledger-index in
-    let f = paid-fits (a .state .now) h (a .r) (l .result) (l .ensures .1) p (amount-fits (a .w) (a .r) (o .pre .1) (o .pre .2)) in
-    omega (arith, h .long, p .room, p .sender, p .receiver, p .pays, l .ensures .1, f)
+    let p = passes-at d in
+    let l = d .ledger-index in
+    let m = amount-fits (a .w) (a .r) (o .pre .1) (o .pre .2) in
+    let f = paid-fits (a .state .now) h (a .r) (l .result) (l .ensures .1) p m in
+    let y = allowed-rate _ _ (tariff-fits (a .state .now) (h .bounds) (l .result) (l .ensures .1)) in
+    rw (c .before .tariff-on .ensures) (omega (arith, h .long, p .room, p .sender, p .payee, p .pays, l .ensures .1, f, y, m))
 
 returns : tie.Need-returns
 unfolding pairWith
 returns c =
-    let a = c .before .before .before .before .before .args in
+    let d = c .before .before .before .before .before .before in
+    let a = d .before .before .args in
     let s = a .state .now in
-    let l = c .before .before .before .ledger-index .result in
-    ap (λ (x : List ℕ). set x (pairCountWord l) (countOn s l + 1)) (c .store .ensures) ∙ ap (pairWith s (a .w) (a .r)) (ledger-at (c
-    .before .before .before))
+    let l = d .ledger-index .result in
+    ap (λ (x : List ℕ). set x (pairCountWord l) (countOn s l + 1)) (c .store .ensures
+    ∙ ap (λ (t : Tariff). stored t s (balancesStart l) (recordsStart l + 4 * countOn s l) (a .w) (a .r)) (c .before .before .tariff-on
+    .ensures))
+    ∙ ap (pairWith s (a .w) (a .r)) (ledger-at d)
 
 pub pass-spec : {M : Type 1} → statement M
 pass-spec = tie.close (tie.spec (λ c κs. search needs) (λ c κs. search needs) (λ c. search needs) (λ c. search needs)
-    (λ c. search needs) (λ c. search needs) (λ c. search needs) (λ c. search needs)
-    (λ c. omega (arith, passes-at (c .before .before) .room))
-    (λ c. omega (arith, passes-at (c .before .before) .room, c .before .before .ledger-index .ensures .1)) store-requires
-    (λ c. omega (arith, passes-at (c .before .before .before) .room)) (λ c. search needs) (λ c. search needs) (λ c. search needs)
-    returns)
+    (λ c. search needs) (λ c κs. search needs) (λ c. search needs) (λ c. search needs) (λ c. search needs)
+    (λ c. omega (arith, passes-at (c .before .before .before .before .before) .room))
+    (λ c.
+    let d = c .before .before .before .before .before in
+    omega (arith, passes-at d .room, d .ledger-index .ensures .1))
+    store-requires (λ c. omega (arith, passes-at (c .before .before .before .before .before .before) .room)) (λ c. search needs)
+    (λ c. search needs) (λ c. search needs) returns)
