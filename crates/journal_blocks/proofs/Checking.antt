@@ -1,10 +1,16 @@
 -- What a block that is not refused shows, fact by fact. Assumes nothing.
-use Rattle.wire.proofs.Prelude.{Bool, List, _∙_, _≡_, _≤_, ap, arith, eq-eqb, eqb, eqb-true, le-ltb, length, ltb, ltb-false, not, not-false}
-use Rattle.wire.proofs.Prelude.{true, ℕ}
+use Rattle.wire.proofs.Prelude.{Bool, List, _<_, _∙_, _≡_, _≤_, ap, arith, eq-eqb, eqb, eqb-true, le-ltb, length, ltb, ltb-false, not}
+use Rattle.wire.proofs.Prelude.{not-false, refl, suc, true, zero, ℕ}
 use Rattle.answers.proofs.Answers.{refuse-else, refuse-zero}
 use Rattle.answers.specs.Answers.{orElse, refuse}
 use Rattle.journal_blocks.specs.Blocks.{blockFormed, blockNumber, maxBlock}
-use Rattle.journal_blocks.specs.Checked.{blockRefusal, checked}
+use Rattle.journal_blocks.specs.Checked.{blockRefusal, checked, tariffRefusal}
+
+-- no block but block 0 is refused for rate and charge account
+pub later-free : (b : List ℕ) (k : ℕ) → 0 < k → tariffRefusal b k ≡ 0
+unfolding tariffRefusal
+later-free b zero h = absurd (omega arith)
+later-free b (suc k) h = refl
 
 -- the facts, one for each test
 pub record Right (b : List ℕ) (k before : ℕ) : Type 0 where
@@ -13,6 +19,7 @@ pub record Right (b : List ℕ) (k before : ℕ) : Type 0 where
   pub sealed : checked b ≡ true
   pub numbered : blockNumber b ≡ k
   pub formed : blockFormed b k before ≡ true
+  pub tariff : tariffRefusal b k ≡ 0
 
 -- from the refusal to the facts
 pub right-facts : (b : List ℕ) (k before : ℕ) → blockRefusal b k before ≡ 0 → Right b k before
@@ -29,18 +36,21 @@ right-facts b k before h =
       sealed = not-false _ (h3 .0);
       numbered = eqb-true _ _ (not-false _ (h4 .0));
       formed = not-false _ (h5 .0);
+      tariff = h5 .1;
     }
 
 -- and back
 pub not-refused : (b : List ℕ) (k before : ℕ) → Right b k before → blockRefusal b k before ≡ 0
 unfolding blockRefusal
 not-refused b k before r =
-    rw (eq-eqb _ _ (r .long), le-ltb _ _ (r .low), r .sealed, eq-eqb _ _ (r .numbered), r .formed)
+    rw (eq-eqb _ _ (r .long), le-ltb _ _ (r .low), r .sealed, eq-eqb _ _ (r .numbered), r .formed) (r .tariff)
 
 -- the refusals after the length, one by one and in their order
-pub in-order : (t u v w : Bool)
-    → orElse (refuse t 11 0) (orElse (refuse u 12 0) (orElse (refuse v 13 0) (refuse w 14 0)))
-    ≡ refuse t 11 (refuse u 12 (refuse v 13 (refuse w 14 0)))
-in-order t u v w =
+pub in-order : (t u v w : Bool) (n : ℕ)
+    → orElse (refuse t 11 0) (orElse (refuse u 12 0) (orElse (refuse v 13 0) (orElse (refuse w 14 0) n)))
+    ≡ refuse t 11 (refuse u 12 (refuse v 13 (refuse w 14 n)))
+in-order t u v w n =
     refuse-else t 11 _ (omega arith)
-    ∙ ap (refuse t 11) (refuse-else u 12 _ (omega arith) ∙ ap (refuse u 12) (refuse-else v 13 _ (omega arith)))
+    ∙ ap (refuse t 11)
+    (refuse-else u 12 _ (omega arith)
+    ∙ ap (refuse u 12) (refuse-else v 13 _ (omega arith) ∙ ap (refuse v 13) (refuse-else w 14 n (omega arith))))

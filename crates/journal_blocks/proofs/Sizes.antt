@@ -1,6 +1,6 @@
 -- Kinds, sizes and limits by a block's number. Assumes nothing.
 use Rattle.wire.proofs.Prelude.{_*_, _/_, _<_, _≡_, _≤_, arith, mul-div-cancel, refl, suc, zero, ℕ}
-use Rattle.journal_blocks.specs.Blocks.{itemLimit, itemSize, kindOfBlock}
+use Rattle.journal_blocks.specs.Blocks.{headEnd, itemLimit, itemSize, kindOfBlock}
 use Rattle.ledgers.specs.Limits.{accountLimit}
 
 -- blocks 0 and 1 hold opening balances: the size of one, and as many as a ledger has accounts
@@ -14,6 +14,11 @@ pub records-block : (k : ℕ) → 2 ≤ k → (itemSize k ≡ 32) × (itemLimit 
 records-block zero h = absurd (omega arith)
 records-block (suc zero) h = absurd (omega arith)
 records-block (suc (suc k)) h = (refl, refl, refl)
+
+-- the zero bytes of the header begin at byte 6 in every block but block 0
+pub head-end-later : (k : ℕ) → 0 < k → headEnd k ≡ 6
+head-end-later zero h = absurd (omega arith)
+head-end-later (suc k) h = refl
 
 -- as many as a block has records
 pub records-limit : (k : ℕ) → 2 ≤ k → itemLimit k ≡ 14

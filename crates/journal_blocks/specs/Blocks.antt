@@ -5,6 +5,7 @@ use mathlib.Core.List.{List, [], _∷_, _++_}
 use lib.Dec.{eqb, ltb, leb}
 use lib.ListN.{take, drop, replicate}
 use Rattle.ledgers.specs.Limits.{accountLimit}
+use Rattle.tariffs.specs.declared.Tariff.{Tariff}
 use Rattle.wire.specs.BigEndian.{every, field, zeros}
 
 -- ## Limits
@@ -31,6 +32,10 @@ blockKind b = field 4 1 b
 abbrev pub statedCount : List ℕ → ℕ
 statedCount b = field 5 1 b
 
+-- bytes 6-7 and 8-9 of block 0: the rate and the charge account (document 02, U3)
+abbrev pub tariffIn : List ℕ → Tariff
+tariffIn b = record { rate = field 6 2 b; account = field 8 2 b }
+
 -- ## Kinds
 
 -- block 0 is of kind 1, home opening balances (document 01: home stakes), block 1 of kind 2, far ones, all others of
@@ -51,6 +56,12 @@ abbrev pub itemLimit : ℕ → ℕ
 itemLimit zero = accountLimit
 itemLimit (suc zero) = accountLimit
 itemLimit (suc (suc k)) = recordsPerBlock
+
+-- where the zero bytes of the header of the block with a number begin: after rate and charge account in block 0, at byte 6 in
+-- all others
+abbrev pub headEnd : ℕ → ℕ
+headEnd zero = 10
+headEnd (suc k) = 6
 
 -- ## Items, from byte 32 on
 
@@ -90,7 +101,7 @@ blockFormed b k before =
     (eqb (blockKind b) (kindOfBlock k)
     ∷ ltb 0 (statedCount b)
     ∷ leb (statedCount b) (itemLimit k)
-    ∷ zeros (take 26 (drop 6 b))
+    ∷ zeros (take (32 - headEnd k) (drop (headEnd k) b))
     ∷ zeros (take (448 - statedCount b * itemSize k) (drop (32 + statedCount b * itemSize k) b))
     ∷ (leb k 2 || leb recordsPerBlock before)
     ∷ []

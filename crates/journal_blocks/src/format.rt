@@ -1,13 +1,16 @@
 // The journal's block of 512 bytes (document 01, "The journal"): kinds, sizes and limits by a block's number, the count that
-// a block states, and the form that refusal 14 asks for.
+// a block states, the rate and the charge account, and the form that refusal 14 asks for.
 ghost use mathlib.Core.Path.{_≡_};
 ghost use mathlib.Core.Bool.{_||_};
 ghost use Prim.Native.Nat.{_+_, _*_, _<_, _≤_};
 ghost use lib.Dec.{leb};
 ghost use lib.ListN.{length};
-ghost use Rattle.journal_blocks.specs.Blocks.{statedCount, kindOfBlock, itemSize, itemLimit, recordsPerBlock, blockFormed};
+ghost use Rattle.journal_blocks.specs.Blocks.{statedCount, tariffIn, kindOfBlock, itemSize, itemLimit, headEnd};
+ghost use Rattle.journal_blocks.specs.Blocks.{recordsPerBlock, blockFormed};
 use ledgers::Ledger;
+use tariffs::Tariff;
 use wire::all_zero;
+use wire::u16_at;
 
 // The bytes of a block.
 pub const BLOCK_SIZE: usize = 512;
@@ -64,6 +67,23 @@ pub fn stated_count(block: &[u8]) -> u64
     byte_as_number(block[5]) as u64
 }
 
+// The rate and the charge account, which block 0 carries.
+pub fn tariff_in(block: &[u8]) -> Tariff
+    requires { ⌜ length (now block) ≡ 512 ⌝ }
+    ensures { λ t. ⌜ t ≡ tariffIn (now (block .entry)) ⌝ }
+{
+    let rate = u16_at(block, 6) as u64;
+    let account = u16_at(block, 8) as u64;
+    Tariff { rate, account }
+}
+
+// The start of the zero bytes in the header of the block with number k.
+fn head_end(k: u64) -> usize
+    ensures { λ r. ⌜ (r ≡ headEnd k) × (r ≤ 32) ⌝ }
+{
+    if k == 0 { 10 } else { 6 }
+}
+
 // The end of the items in the block with number k and a count that it can have.
 fn items_end(k: u64, count: usize) -> usize
     requires { ⌜ count ≤ itemLimit k ⌝ }
@@ -101,7 +121,7 @@ pub fn is_block_formed(block: &[u8], k: u64, before: u64) -> bool
     if item_limit(k) < count {
         return false;
     }
-    if !all_zero(block, 6, 32) {
+    if !all_zero(block, head_end(k), 32) {
         return false;
     }
     if !all_zero(block, items_end(k, count), 480) {
