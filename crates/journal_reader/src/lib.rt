@@ -13,7 +13,9 @@ use answers::first_refusal;
 use answers::refusal_if;
 use journal_blocks::block_refusal;
 use journal_blocks::stated_count;
+use journal_blocks::tariff_in;
 use ledgers::Ledger;
+use tariffs::Tariff;
 use wire::u64_at;
 
 // A block's answer, and the count of its items; 0 where it is refused.
@@ -22,10 +24,12 @@ pub struct Counted {
     pub count: u64,
 }
 
-// A block's answer, the count of its opening balances and the balances, zeros after them; all 0 where it is refused.
+// A block's answer, the count of its opening balances, of block 0 the rate and the charge account beside the balances (of block 1
+// both are 0), and the balances, zeros after them; all 0 where it is refused.
 pub struct Balances {
     pub answer: Answer,
     pub count: u64,
+    pub tariff: Tariff,
     pub balances: [u64; Ledger::ACCOUNTS],
 }
 
@@ -115,13 +119,19 @@ pub fn opening_balances(block: &[u8], k: u64, before: u64) -> Balances
         return Balances {
             answer: Answer::new(n, k),
             count: 0,
+            tariff: Tariff {
+                rate: 0,
+                account: 0,
+            },
             balances,
         };
     }
     let count = stated_count(block);
+    let tariff = tariff_in(block);
     Balances {
         answer: Answer::Passed,
         count,
+        tariff,
         balances: judged_balances(block),
     }
 }

@@ -3,10 +3,11 @@ use Rattle.wire.proofs.Prelude.{_∙_, _≡_, ap, ap₂, needs, replicate, sym,
 use Rattle.answers.proofs.Answers.{instead-refused}
 use Rattle.answers.specs.Answers.{answer, orElse}
 use Rattle.answers.specs.declared.Answer.the-variants.{Passed}
-use Rattle.journal_blocks.specs.Blocks.{balanceTable, statedCount}
+use Rattle.journal_blocks.specs.Blocks.{balanceTable, statedCount, tariffIn}
 use Rattle.journal_reader.proofs.Judging.{balances-facts}
 use Rattle.journal_reader.specs.Judged.{balancesRefusal, openingOf}
 use Rattle.ledgers.specs.Limits.{accountLimit}
+use Rattle.tariffs.specs.Tariffs.{free}
 use Rattle.journal_reader.proofs.opening_balances.Statement.{statement}
 use Rattle.journal_reader.proofs.opening_balances.Tie as tie
 
@@ -25,8 +26,14 @@ opening-balances-spec = tie.close (tie.spec (λ c κs. search needs) (λ c κs. 
     let r = rw e at (c .before .if1 .taken) in
     let told = c .new .ensures ∙ ap (λ (m : ℕ). answer m (a .k)) e in
     let count = instead-refused _ (statedCount (a .block .now)) 0 r in
+    let tariff = instead-refused _ (tariffIn (a .block .now)) free r in
     let table = instead-refused _ (balanceTable (a .block .now)) (replicate accountLimit 0) r in
-    λ i. record { answer = told i; count = count i; balances = table i })
-    (λ c κs. search needs) (λ c κs. balances-facts _ _ _ (sym (refusal-at (c .before .before)) ∙ c .before .if1 .left)) (λ c.
-    rw (sym (refusal-at (c .before .before .before)) ∙ c .before .before .if1 .left)
-    (λ i. record { answer = Passed; count = c .before .stated-count .ensures i; balances = c .judged-balances .ensures i })))
+    λ i. record { answer = told i; count = count i; tariff = tariff i; balances = table i })
+    (λ c κs. search needs) (λ c κs. balances-facts _ _ _ (sym (refusal-at (c .before .before)) ∙ c .before .if1 .left) .0)
+    (λ c κs. balances-facts _ _ _ (sym (refusal-at (c .before .before .before)) ∙ c .before .before .if1 .left)) (λ c.
+    let c2 = c .before .before in
+    let count = c2 .stated-count .ensures in
+    let tariff = c .before .tariff-in .ensures in
+    let table = c .judged-balances .ensures in
+    rw (sym (refusal-at (c2 .before .before)) ∙ c2 .before .if1 .left)
+    (λ i. record { answer = Passed; count = count i; tariff = tariff i; balances = table i })))
