@@ -1,8 +1,23 @@
 -- What stands in the output after its parts have been written one by one. Assumes nothing.
-use Rattle.wire.proofs.Prelude.{List, [], _++_, _+_, _-_, _∙_, _≡_, _≤_, ap, append-assoc, append-nil, ap₂, arith, drop, drop-of-length-le}
-use Rattle.wire.proofs.Prelude.{length, length-append, length-drop, length-replicate, length-take, replicate, sym, take, take-at}
-use Rattle.wire.proofs.Prelude.{take-length, ℕ}
+use Rattle.wire.proofs.Prelude.{List, [], _++_, _+_, _-_, _<_, _∙_, _∷_, _≡_, _≤_, ap, append-assoc, append-nil, ap₂, arith, drop}
+use Rattle.wire.proofs.Prelude.{drop-of-length-le, getD, length, length-append, length-drop, length-replicate, length-take, refl, replicate}
+use Rattle.wire.proofs.Prelude.{suc, sym, take, take-at, take-length, zero, ℕ}
 use borrow.Rule.Slice.PartMut.{putMid}
+use Rattle.journal_writer.specs.Written.{tariffBytes}
+use Rattle.tariffs.specs.declared.Tariff.{Tariff}
+use Rattle.wire.specs.BigEndian.{bytesOf}
+
+-- every block but block 0 has zeros for rate and charge account
+pub bytes-later : (k : ℕ) (t : Tariff) → 0 < k → tariffBytes k t ≡ replicate 4 0
+bytes-later zero t h = absurd (omega arith)
+bytes-later (suc k) t h = refl
+
+-- the bytes of rate and charge account one by one, and what follows them
+pub tariff-then : (k : ℕ) (t : Tariff) (s : List ℕ) → let b = tariffBytes k t in
+    getD b 0 0 ∷ getD b 1 0 ∷ getD b 2 0 ∷ getD b 3 0 ∷ s ≡ b ++ s
+unfolding bytesOf
+tariff-then zero t s = refl
+tariff-then (suc k) t s = refl
 
 -- s copied over a list that is as long
 pub copied-over : (s d : List ℕ) → length d ≤ length s → take (length s) s ++ drop (length s) d ≡ s
