@@ -1,16 +1,20 @@
--- The journal as a whole (document 01, "The journal"; demand 2): what is written, what is read, and that these are the
+-- The journal as a whole (document 01, "The journal"; document 02, U3; demand 2): what is written, what is read, and that these are the
 -- same. A record is here a string of 32 bytes, which is not judged. Assumes nothing.
 use Prim.Native.Nat.{ℕ, zero, suc, _+_, _-_, _*_, _/_, _^_, _≤_, _<_}
+use mathlib.Core.Bool.{true}
 use mathlib.Core.List.{List, [], _∷_, _++_}
 use mathlib.Core.Logic.{_↔_}
 use mathlib.Core.Path.{_≡_}
-use lib.ListN.{length, take, drop, getD}
+use lib.ListN.{length, take, drop, getD, replicate}
 use Rattle.answers.specs.declared.Answer.the-variants.{Passed}
 use Rattle.journal_blocks.specs.Blocks.{balanceTable, balancesOf, kindOfBlock, maxBlock, recordsOf, recordsPerBlock, statedCount}
+use Rattle.journal_blocks.specs.Blocks.{tariffIn}
 use Rattle.journal_blocks.specs.Checked.{blockRefusal}
 use Rattle.journal_reader.specs.Judged.{countOf, openingOf, partOf}
-use Rattle.journal_writer.specs.Written.{journalBlock, writeRefusal, written}
+use Rattle.journal_writer.specs.Written.{header, journalBlock, writeRefusal, written}
 use Rattle.ledgers.specs.Limits.{accountLimit}
+use Rattle.tariffs.specs.Tariffs.{free, tariffAllowed}
+use Rattle.tariffs.specs.declared.Tariff.{Tariff}
 use Rattle.wire.specs.BigEndian.{All, Bytes, bytesOf}
 
 -- ## Document 01's limits
@@ -30,8 +34,9 @@ pub record RecordBytes (r : List ℕ) : Type 0 where
 abbrev pub recordLimit : ℕ
 recordLimit = recordsPerBlock * (maxBlock - 1)
 
--- two openings and records within the limit
-pub record WithinLimits (home far : List ℕ) (records : List (List ℕ)) : Type 0 where
+-- rate and charge account that 52 has nothing against, two openings and records within the limit
+pub record WithinLimits (tariff : Tariff) (home far : List ℕ) (records : List (List ℕ)) : Type 0 where
+  pub tariff-allowed : tariffAllowed tariff (length home) ≡ true
   pub home-opening : IsOpening home
   pub far-opening : IsOpening far
   pub whole : All RecordBytes records
@@ -62,14 +67,14 @@ groups (suc n) records = joined (take recordsPerBlock records) ∷ groups n (dro
 unfoldable pub itemsOf : List ℕ → List ℕ → List (List ℕ) → List (List ℕ)
 itemsOf home far records = balanceBytes home ∷ balanceBytes far ∷ groups (blockCount records) records
 
--- the blocks with these items, numbered from k on
-unfoldable pub numbered : ℕ → List (List ℕ) → List (List ℕ)
-numbered k [] = []
-numbered k (items ∷ others) = journalBlock k items ∷ numbered (suc k) others
+-- the blocks with these items, numbered from k on, with rate and charge account, which block 0 alone carries
+unfoldable pub numbered : Tariff → ℕ → List (List ℕ) → List (List ℕ)
+numbered tariff k [] = []
+numbered tariff k (items ∷ others) = journalBlock k tariff items ∷ numbered tariff (suc k) others
 
--- the journal written from two openings and records
-unfoldable pub journalOf : List ℕ → List ℕ → List (List ℕ) → List ℕ
-journalOf home far records = joined (numbered 0 (itemsOf home far records))
+-- the journal written from rate and charge account, two openings and records
+unfoldable pub journalOf : Tariff → List ℕ → List ℕ → List (List ℕ) → List ℕ
+journalOf tariff home far records = joined (numbered tariff 0 (itemsOf home far records))
 
 -- ## What is read
 
@@ -83,45 +88,55 @@ unfoldable pub allRecords : List (List ℕ) → List (List ℕ)
 allRecords [] = []
 allRecords (b ∷ bs) = recordsOf b ++ allRecords bs
 
--- a byte string reads as two openings and records: it is blocks, all right in turn, the first two with these opening
--- balances, the others with these records, and nothing after the last
-pub record Reads (j home far : List ℕ) (records : List (List ℕ)) : Type 0 where
+-- a byte string reads as rate and charge account, two openings and records: it is blocks, all right in turn, the first with this rate
+-- and this account, the first two with these opening balances, the others with these records, and nothing after the last
+pub record Reads (j : List ℕ) (tariff : Tariff) (home far : List ℕ) (records : List (List ℕ)) : Type 0 where
   pub first : List ℕ
   pub second : List ℕ
   pub others : List (List ℕ)
   pub whole : j ≡ joined (first ∷ second ∷ others)
   pub right : AllBlocksPass 0 0 (first ∷ second ∷ others)
+  pub tariff-is : tariffIn first ≡ tariff
   pub home-balances : balancesOf first ≡ home
   pub far-balances : balancesOf second ≡ far
   pub record-list : allRecords others ≡ records
 
 -- ## The theorem
 
--- a byte string reads as openings and records exactly when they are within the limits and it is the journal written
--- from them
+-- a byte string reads as rate and charge account, openings and records exactly when they are within the limits and it is the journal
+-- written from them
 unfoldable pub ReadsBack : Type 0
 ReadsBack =
-    (home far : List ℕ) (records : List (List ℕ)) (j : List ℕ) → Bytes j
-    → Reads j home far records ↔ (WithinLimits home far records × (j ≡ journalOf home far records))
+    (tariff : Tariff) (home far : List ℕ) (records : List (List ℕ)) (j : List ℕ) → Bytes j
+    → Reads j tariff home far records ↔ (WithinLimits tariff home far records × (j ≡ journalOf tariff home far records))
 
--- the journal written from openings and records within the limits reads as them
+-- the journal written from rate and charge account, openings and records within the limits reads as them
 unfoldable pub WrittenReads : Type 0
 WrittenReads =
-    (home far : List ℕ) (records : List (List ℕ)) → WithinLimits home far records → Reads (journalOf home far records) home far records
+    (tariff : Tariff) (home far : List ℕ) (records : List (List ℕ)) → WithinLimits tariff home far records
+    → Reads (journalOf tariff home far records) tariff home far records
 
 -- what reads does so in one way only
 unfoldable pub ReadsOnce : Type 0
 ReadsOnce =
-    (j home far : List ℕ) (records : List (List ℕ)) (home′ far′ : List ℕ) (records′ : List (List ℕ))
-    → Reads j home far records → Reads j home′ far′ records′ → (home ≡ home′) × (far ≡ far′) × (records ≡ records′)
+    (j : List ℕ) (tariff : Tariff) (home far : List ℕ) (records : List (List ℕ))
+    (tariff′ : Tariff) (home′ far′ : List ℕ) (records′ : List (List ℕ))
+    → Reads j tariff home far records → Reads j tariff′ home′ far′ records′
+    → (tariff ≡ tariff′) × (home ≡ home′) × (far ≡ far′) × (records ≡ records′)
+
+-- a header with rate 0 and account 0 is the one of document 01, with zeros from byte 6 on: the journals of before U3 are those with both 0
+unfoldable pub HeadersOfBefore : Type 0
+HeadersOfBefore = (k count : ℕ) → header k free count ≡ bytesOf 4 k ++ (kindOfBlock k ∷ count ∷ replicate 26 0)
 
 -- ## The theorem and the calls
 
--- what the calls hand out of a block that passes is what is read of it: the count, all opening balances of blocks 0 and 1,
--- and the record at each place of the others
+-- what the calls hand out of a block that passes is what is read of it: the count, all opening balances of blocks 0 and 1, of block 0
+-- rate and charge account, which are 0 in every later one, and the record at each place of the others
 pub record HandedOut (b : List ℕ) (k before : ℕ) : Type 0 where
   pub counts : countOf b k before ≡ record { answer = Passed; count = statedCount b }
-  pub opens : k < 2 → openingOf b k before ≡ record { answer = Passed; count = statedCount b; balances = balanceTable b }
+  pub opens : k < 2
+      → openingOf b k before ≡ record { answer = Passed; count = statedCount b; tariff = tariffIn b; balances = balanceTable b }
+  pub later : 0 < k → tariffIn b ≡ free
   pub lists : k < 2 → take (statedCount b) (balanceTable b) ≡ balancesOf b
   pub parts : 2 ≤ k → (place : ℕ) → place < statedCount b → partOf b k before place ≡ getD (recordsOf b) place []
 
@@ -130,16 +145,17 @@ unfoldable pub CallsRead : Type 0
 CallsRead = (b : List ℕ) (k before : ℕ) → blockRefusal b k before ≡ 0 → HandedOut b k before
 
 -- each write of items, the first as block k, is one that the writer's call allows, and leaves the block in the output
-unfoldable pub AllAllowed : ℕ → List (List ℕ) → Type 0
-AllAllowed k [] = Unit {0}
-AllAllowed k (items ∷ others) =
+unfoldable pub AllAllowed : Tariff → ℕ → List (List ℕ) → Type 0
+AllAllowed tariff k [] = Unit {0}
+AllAllowed tariff k (items ∷ others) =
     ((out : List ℕ) → length out ≡ 512
-    → (writeRefusal (length out) k (kindOfBlock k) (length items) ≡ 0) × (written out k (kindOfBlock k) items ≡ journalBlock k items))
-    × AllAllowed (suc k) others
+    → (writeRefusal (length out) k (kindOfBlock k) tariff (length items) ≡ 0)
+    × (written out k (kindOfBlock k) tariff items ≡ journalBlock k tariff items))
+    × AllAllowed tariff (suc k) others
 
 -- each block of a written journal is one that the writer's call allows and leaves in the output, and that the judging
 -- call passes
 unfoldable pub BlocksWritten : Type 0
 BlocksWritten =
-    (home far : List ℕ) (records : List (List ℕ)) → WithinLimits home far records
-    → AllAllowed 0 (itemsOf home far records) × AllBlocksPass 0 0 (numbered 0 (itemsOf home far records))
+    (tariff : Tariff) (home far : List ℕ) (records : List (List ℕ)) → WithinLimits tariff home far records
+    → AllAllowed tariff 0 (itemsOf home far records) × AllBlocksPass 0 0 (numbered tariff 0 (itemsOf home far records))
