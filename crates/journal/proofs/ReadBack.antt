@@ -2,9 +2,8 @@
 -- it is the journal written from them; and what each of its blocks is to the writer's and the judging call. Assumes nothing.
 use Rattle.wire.proofs.Prelude.{Bool, List, [], _*_, _++_, _+_, _-_, _/_, _<_, _||_, _∙_, _∷_, _≡_, _≤_, ap, append-nil, ap₂, arith, drop}
 use Rattle.wire.proofs.Prelude.{drop-at, drop-of-length-le, eq-or-lt-of-le, false, false≢true, le-leb, le-ltb, leb, leb-false, length}
-use Rattle.wire.proofs.Prelude.{length-append, length-drop, length-take, lt-leb, not-false, refl, replicate, subst, suc, sym, take}
+use Rattle.wire.proofs.Prelude.{length-append, length-drop, length-take, lt-leb, refl, replicate, subst, suc, sym, take}
 use Rattle.wire.proofs.Prelude.{take-all, take-append-drop, take-at, true, zero, ℕ, ⊎-elim}
-use Rattle.answers.proofs.Answers.{refuse-zero}
 use Rattle.journal.proofs.Blocks.{block-allowed, block-is, block-items, block-right, bytes-block, count-is, itemBytes}
 use Rattle.journal.proofs.Blocks.{later-tariff, tariff-back}
 use Rattle.journal.proofs.Items.{Wide, all-long, bytes-joined, joined-only, length-joined, records-joined, records-whole}
@@ -13,13 +12,13 @@ use Rattle.journal.specs.Journal.{IsOpening, RecordBytes, WithinLimits, 
 use Rattle.journal.specs.Journal.{itemsOf}
 use Rattle.journal.specs.Journal.{AllBlocksPass, Reads, ReadsBack, ReadsOnce, WrittenReads, allRecords, journalOf, numbered}
 use Rattle.journal.specs.Journal.{AllAllowed, BlocksWritten, CallsRead, HeadersOfBefore}
-use Rattle.journal_blocks.proofs.Checking.{right-facts}
+use Rattle.journal_blocks.proofs.Checking.{right-facts, tariff-allowed}
 use Rattle.journal_blocks.proofs.Forming.{formed-block-facts}
 use Rattle.journal_blocks.proofs.Items.{length-balances, length-records}
 use Rattle.journal_blocks.proofs.Sizes.{balances-block, block-bounds, count-back, records-block}
 use Rattle.journal_blocks.specs.Blocks.{balancesOf, itemLimit, itemSize, kindOfBlock, maxBlock, recordsOf, recordsPerBlock, statedCount}
 use Rattle.journal_blocks.specs.Blocks.{tariffIn}
-use Rattle.journal_blocks.specs.Checked.{blockRefusal, tariffRefusal}
+use Rattle.journal_blocks.specs.Checked.{blockRefusal}
 use Rattle.journal_reader.specs.Judged.{balancesRefusal, countOf, openingOf, partOf, placeRefusal, recordRefusal}
 use Rattle.journal_writer.proofs.Allowing.{fits-later}
 use Rattle.journal_writer.specs.Written.{body, journalBlock, tariffFits, writeRefusal, written}
@@ -262,11 +261,6 @@ written-reads t home far records w =
       record-list = r .read;
     }
 
--- 52 has nothing against rate and charge account of a block 0 that passes
-passed-allowed : (b : List ℕ) (before : ℕ) → blockRefusal b 0 before ≡ 0 → tariffAllowed (tariffIn b) (statedCount b) ≡ true
-unfolding tariffRefusal
-passed-allowed b before h = not-false _ (refuse-zero _ 52 0 (omega arith) (right-facts b 0 before h .tariff) .0)
-
 -- blocks in a row of bytes are bytes
 all-bytes : (bs : List (List ℕ)) → Bytes (joined bs) → All Bytes bs
 unfolding joined All
@@ -287,7 +281,7 @@ read-written t home far records j y r =
     let o = records-back t 2 (statedCount (r .second)) (r .others) (omega arith) (ys .1 .1) (r .right .1 .1) in
     let e = r .record-list in (
       record {
-        tariff-allowed = sym (ap₂ tariffAllowed (r .tariff-is) n) ∙ passed-allowed (r .first) 0 (r .right .0);
+        tariff-allowed = sym (ap₂ tariffAllowed (r .tariff-is) n) ∙ tariff-allowed (r .first) 0 (r .right .0);
         home-opening = subst IsOpening (r .home-balances) (h .opening);
         far-opening = subst IsOpening (r .far-balances) (f .opening);
         whole = subst (All RecordBytes) e (o .whole);
@@ -355,7 +349,7 @@ calls-read b k before h =
     record {
       counts = rw h;
       opens = λ l. rw (h, lt-leb 2 k l);
-      later = later-tariff b k before (right-facts b k before h);
+      free-later = later-tariff b k before (right-facts b k before h);
       lists = λ l. take-at (balancesOf b) (replicate (56 - statedCount b) 0) (statedCount b) (length-balances (statedCount b) b);
       parts = λ l place p. rw (h, le-ltb k 2 l, lt-leb (statedCount b) place p) (sym (record-at (statedCount b) b place p));
     }

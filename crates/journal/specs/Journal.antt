@@ -136,7 +136,7 @@ pub record HandedOut (b : List ℕ) (k before : ℕ) : Type 0 where
   pub counts : countOf b k before ≡ record { answer = Passed; count = statedCount b }
   pub opens : k < 2
       → openingOf b k before ≡ record { answer = Passed; count = statedCount b; tariff = tariffIn b; balances = balanceTable b }
-  pub later : 0 < k → tariffIn b ≡ free
+  pub free-later : 0 < k → tariffIn b ≡ free
   pub lists : k < 2 → take (statedCount b) (balanceTable b) ≡ balancesOf b
   pub parts : 2 ≤ k → (place : ℕ) → place < statedCount b → partOf b k before place ≡ getD (recordsOf b) place []
 

@@ -3,8 +3,9 @@ use Rattle.wire.proofs.Prelude.{Bool, List, _<_, _∙_, _≡_, _≤_, ap, arith
 use Rattle.wire.proofs.Prelude.{not-false, refl, suc, true, zero, ℕ}
 use Rattle.answers.proofs.Answers.{refuse-else, refuse-zero}
 use Rattle.answers.specs.Answers.{orElse, refuse}
-use Rattle.journal_blocks.specs.Blocks.{blockFormed, blockNumber, maxBlock}
+use Rattle.journal_blocks.specs.Blocks.{blockFormed, blockNumber, maxBlock, statedCount, tariffIn}
 use Rattle.journal_blocks.specs.Checked.{blockRefusal, checked, tariffRefusal}
+use Rattle.tariffs.specs.Tariffs.{tariffAllowed}
 
 -- no block but block 0 is refused for rate and charge account
 pub later-free : (b : List ℕ) (k : ℕ) → 0 < k → tariffRefusal b k ≡ 0
@@ -39,7 +40,12 @@ right-facts b k before h =
       tariff = h5 .1;
     }
 
--- and back
+-- 52 has nothing against rate and charge account of a block 0 that is not refused
+pub tariff-allowed : (b : List ℕ) (before : ℕ) → blockRefusal b 0 before ≡ 0 → tariffAllowed (tariffIn b) (statedCount b) ≡ true
+unfolding tariffRefusal
+tariff-allowed b before h = not-false _ (refuse-zero _ 52 0 (omega arith) (right-facts b 0 before h .tariff) .0)
+
+-- from the facts to no refusal
 pub not-refused : (b : List ℕ) (k before : ℕ) → Right b k before → blockRefusal b k before ≡ 0
 unfolding blockRefusal
 not-refused b k before r =

@@ -79,7 +79,7 @@ pub fn tariff_in(block: &[u8]) -> Tariff
 
 // The start of the zero bytes in the header of the block with number k.
 fn head_end(k: u64) -> usize
-    ensures { λ r. ⌜ (r ≡ headEnd k) × (r ≤ 32) ⌝ }
+    ensures { λ r. ⌜ (r ≡ headEnd k) × (r ≤ 10) ⌝ }
 {
     if k == 0 { 10 } else { 6 }
 }
