@@ -14,8 +14,8 @@ use Rattle.wire.specs.BigEndian.{same}
 unfoldable pub checked : List ℕ → Bool
 checked b = same (sha256 (take 480 b)) (drop 480 b)
 
--- the refusal of the rate and the charge account that a block carries, or 0: 52 of block 0 alone, where the rate is above 10,000
--- or home does not open the account (document 02, U3)
+-- the refusal of the rate and the charge account of block k, or 0: 52 of block 0 alone, where the rate is above 10,000 or the account
+-- is not open at home (document 02, U3)
 unfoldable pub tariffRefusal : List ℕ → ℕ → ℕ
 tariffRefusal b zero = refuse (not (tariffAllowed (tariffIn b) (statedCount b))) 52 0
 tariffRefusal b (suc k) = 0

@@ -24,7 +24,7 @@ header k t count = bytesOf 4 k ++ (kindOfBlock k ∷ count ∷ (tariffBytes k t 
 unfoldable pub body : ℕ → Tariff → List ℕ → List ℕ
 body k t items = header k t (length items / itemSize k) ++ (items ++ replicate (448 - length items) 0)
 
--- the block with number k and these items, its check last
+-- the block with number k, rate and charge account, and these items, its check last
 unfoldable pub journalBlock : ℕ → Tariff → List ℕ → List ℕ
 journalBlock k t items = body k t items ++ sha256 (body k t items)
 
