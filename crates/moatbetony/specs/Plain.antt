@@ -33,16 +33,17 @@ use Rattle.records.specs.Records.{readingRefusal}
 use Rattle.records.specs.declared.Reading.{Reading}
 use Rattle.records.specs.declared.Reading.the-variants.{Read, Unreadable}
 use Rattle.records.specs.declared.Record.{Record}
+use Rattle.tariffs.specs.declared.Tariff.{Tariff}
 
 -- ## Versions
 
--- 0.5.0: major times 10,000, minor times 100 and patch
+-- 0.6.0: major times 10,000, minor times 100 and patch
 abbrev pub libraryVersion : ℕ
-libraryVersion = 500
+libraryVersion = 600
 
 -- the layout of both states
 abbrev pub stateVersion : ℕ
-stateVersion = 2
+stateVersion = 3
 
 -- ## Answers
 
@@ -56,6 +57,10 @@ abbrev pub plainAnswer : Answer → PlainAnswer
 plainAnswer a = record { number = numberOf a; passed = passedOf a; place = placeOf a }
 
 -- ## The validators
+
+-- the tariff of an opening or of a block from its two numbers
+abbrev pub plainTariff : ℕ → ℕ → Tariff
+plainTariff rate account = record { rate = rate; account = account }
 
 -- an outcome of the pair validator
 abbrev pub plainPairOutcome : Answer → PairValidator → PlainPairOutcome
@@ -138,4 +143,11 @@ plainCount c = record { answer = plainAnswer (c .answer); count = c .count }
 
 -- opening balances
 abbrev pub plainBalances : Balances → PlainBalances
-plainBalances o = record { answer = plainAnswer (o .answer); count = o .count; balances = o .balances }
+plainBalances o =
+    record {
+      answer = plainAnswer (o .answer);
+      count = o .count;
+      rate = o .tariff .rate;
+      charge_account = o .tariff .account;
+      balances = o .balances;
+    }

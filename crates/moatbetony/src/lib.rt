@@ -13,7 +13,7 @@ ghost use Rattle.journal_reader.specs.Judged.{recordRefusal, partOf, countOf, o
 ghost use Rattle.journal_writer.specs.Written.{writeRefusal, written};
 ghost use Rattle.moatbetony.specs.Plain.{libraryVersion, stateVersion, plainAnswer, plainPairOutcome, plainPairFigures};
 ghost use Rattle.moatbetony.specs.Plain.{plainHomeOutcome, plainHomeFigures, plainBalance, plainRecord, plainEncoded, plainPart};
-ghost use Rattle.moatbetony.specs.Plain.{plainCount, plainBalances, plainPairPlaces, plainHomePlaces};
+ghost use Rattle.moatbetony.specs.Plain.{plainCount, plainBalances, plainPairPlaces, plainHomePlaces, plainTariff};
 ghost use Rattle.pair_core.specs.Layout.{acceptsPair, pairWordsChecker};
 ghost use Rattle.pair_validator.specs.Figures.{pairBalanceOf, pairFiguresOf, pairPlacesOf};
 ghost use Rattle.pair_validator.specs.State.{pairChecker, pairOpenedState, pairZeroState};
@@ -32,6 +32,7 @@ use records::Reading;
 use records::Record;
 use records::field_bytes;
 use records::verdict_byte;
+use tariffs::Tariff;
 
 // ## Versions
 
@@ -40,7 +41,7 @@ use records::verdict_byte;
 pub extern "C" fn moatbetony_version() -> u32
     ensures { λ r. ⌜ r ≡ libraryVersion ⌝ }
 {
-    500
+    600
 }
 
 // The version of the layout of both states. A stored state is taken up only under the version that it was stored with.
@@ -48,7 +49,7 @@ pub extern "C" fn moatbetony_version() -> u32
 pub extern "C" fn moatbetony_state_version() -> u32
     ensures { λ r. ⌜ r ≡ stateVersion ⌝ }
 {
-    2 // of the states
+    3 // of the states
 }
 
 // ## Answers
@@ -112,18 +113,25 @@ pub struct PlainBalance {
     pub balance: u64,
 }
 
-// An opening.
+// An opening, with the rate and the account of the charge on home's sendings.
 #[no_mangle]
 pub extern "C" fn moatbetony_pair_open<'a>(
     home_balances: &'a [u64],
     far_balances: &'a [u64],
+    rate: u64,
+    charge_account: u64,
 ) -> PlainPairOutcome
-    ensures { λ r. ⌜ r ≡ plainPairOutcome (answer (pairOpeningRefusal (now («home_balances» .entry)) (now («far_balances» .entry))) 0)
-        (unlessRefused (pairOpeningRefusal (now («home_balances» .entry)) (now («far_balances» .entry)))
-        (pairOpenedState (now («home_balances» .entry)) (now («far_balances» .entry)))
+    ensures { λ r. ⌜ r ≡ plainPairOutcome (answer (pairOpeningRefusal (plainTariff rate «charge_account»)
+        (now («home_balances» .entry)) (now («far_balances» .entry))) 0)
+        (unlessRefused (pairOpeningRefusal (plainTariff rate «charge_account») (now («home_balances» .entry)) (now («far_balances» .entry)))
+        (pairOpenedState (plainTariff rate «charge_account») (now («home_balances» .entry)) (now («far_balances» .entry)))
         pairZeroState) ⌝ }
 {
-    let o = PairValidator::open(home_balances, far_balances);
+    let tariff = Tariff {
+        rate,
+        account: charge_account,
+    };
+    let o = PairValidator::open(home_balances, far_balances, tariff);
     let a = o.answer;
     let state = o.state;
     PlainPairOutcome {
@@ -258,18 +266,25 @@ pub struct PlainHomePlaces {
     pub home: u64,
 }
 
-// An opening.
+// An opening, with the rate and the account of the charge on home's sendings.
 #[no_mangle]
 pub extern "C" fn moatbetony_home_open(
     home_balances: &[u64],
     far_accounts: usize,
     far_total: u64,
+    rate: u64,
+    charge_account: u64,
 ) -> PlainHomeOutcome
-    ensures { λ r. ⌜ r ≡ plainHomeOutcome (answer (homeOpeningRefusal (now («home_balances» .entry)) «far_accounts» «far_total») 0)
-        (unlessRefused (homeOpeningRefusal (now («home_balances» .entry)) «far_accounts» «far_total»)
-        (homeOpenedState (now («home_balances» .entry)) «far_accounts» «far_total») homeZeroState) ⌝ }
+    ensures { λ r. ⌜ r ≡ plainHomeOutcome (answer (homeOpeningRefusal (plainTariff rate «charge_account»)
+        (now («home_balances» .entry)) «far_accounts» «far_total») 0)
+        (unlessRefused (homeOpeningRefusal (plainTariff rate «charge_account») (now («home_balances» .entry)) «far_accounts» «far_total»)
+        (homeOpenedState (plainTariff rate «charge_account») (now («home_balances» .entry)) «far_accounts» «far_total») homeZeroState) ⌝ }
 {
-    let o = HomeValidator::open(home_balances, far_accounts, far_total);
+    let tariff = Tariff {
+        rate,
+        account: charge_account,
+    };
+    let o = HomeValidator::open(home_balances, far_accounts, far_total, tariff);
     let a = o.answer;
     let state = o.state;
     PlainHomeOutcome {
@@ -477,11 +492,13 @@ pub struct PlainCount {
     pub count: u64,
 }
 
-// The opening balances of a block, zeros after them.
+// The opening balances of a block, zeros after them, and beside those of block 0 the rate and the account of the charge.
 #[repr(C)]
 pub struct PlainBalances {
     pub answer: PlainAnswer,
     pub count: u64,
+    pub rate: u64,
+    pub charge_account: u64,
     pub balances: [u64; Ledger::ACCOUNTS],
 }
 
@@ -552,27 +569,37 @@ pub extern "C" fn moatbetony_block_balances(block: &[u8], number: u64, before: u
 {
     let o = journal_reader::opening_balances(block, number, before);
     let a = o.answer;
+    let tariff = o.tariff;
     let balances = o.balances;
     PlainBalances {
         answer: plain(a),
         count: o.count,
+        rate: tariff.rate,
+        charge_account: tariff.account,
         balances,
     }
 }
 
-// Writes a block.
+// Writes a block, block 0 with the rate and the account of the charge.
 #[no_mangle]
 pub extern "C" fn moatbetony_block_write(
     out: &mut [u8],
     number: u64,
     kind: u8,
+    rate: u64,
+    charge_account: u64,
     items: &[u8],
 ) -> PlainAnswer
-    ensures answers { λ r. ⌜ r ≡ plainAnswer (answer (writeRefusal (length (now (out .entry))) number kind
+    ensures answers { λ r. ⌜ r ≡ plainAnswer (answer (writeRefusal (length (now (out .entry))) number kind (plainTariff rate «charge_account»)
         (length (now (items .entry)))) number) ⌝ }
-    ensures leaves { λ _. ⌜ now (out .exit) ≡ written (now (out .entry)) number kind (now (items .entry)) ⌝ }
+    ensures leaves { λ _. ⌜ now (out .exit) ≡ written (now (out .entry)) number kind (plainTariff rate «charge_account»)
+        (now (items .entry)) ⌝ }
 {
-    plain(journal_writer::write(out, number, kind, items))
+    let tariff = Tariff {
+        rate,
+        account: charge_account,
+    };
+    plain(journal_writer::write(out, number, kind, tariff, items))
 }
 
 // ## SHA-256
