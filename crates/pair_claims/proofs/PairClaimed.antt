@@ -1,11 +1,11 @@
 -- The claims about the pair validator's calls: runs over the program's states are runs over the rules' states. Assumes nothing.
-use Rattle.wire.proofs.Prelude.{List, _+_, _-_, _∙_, _≡_, _≤_, ap, arith, dichotomy, inl, inr, leb, leb-false, leb-true, length, refl, sym}
-use Rattle.wire.proofs.Prelude.{true, ℕ}
+use Rattle.wire.proofs.Prelude.{List, _+_, _-_, _∙_, _≡_, _≤_, ap, arith, dichotomy, inl, inr, leb, leb-false, leb-true, length, refl, subst}
+use Rattle.wire.proofs.Prelude.{sym, true, ℕ}
 use Rattle.ledgers.specs.Ledgers.{counterpart, ledgerByte, ledgerOf}
 use Rattle.ledgers.specs.Limits.{capacity}
 use Rattle.pair_claims.specs.Claims.{PairCallsAsRules, PairFullWhenNoneLeft, PairHeldAccountsOpen, PairInPlaceAsByValue}
 use Rattle.pair_claims.specs.Claims.{PairListsAndRefusals, PairNothingStranded, PairOpenedAsRules, PairPlacesLeft}
-use Rattle.pair_claims.specs.Claims.{PairRunsInPlaceAsByValue, PairRunsStrandNothing}
+use Rattle.pair_claims.specs.Claims.{PairChargesPaid, PairRunsInPlaceAsByValue, PairRunsStrandNothing, PairSendingsCostExactly}
 use Rattle.pair_claims.specs.Claims.{PairStatesConserved, PairStatesFollowRules, PairStatesStayAccepted, PairTellsAccount}
 use Rattle.pair_claims.specs.Claims.{PairThreeExactly, PairZeroRefused, leftOn, pairPassedOfRun, pairPlacesLeft, pairStateOfRun}
 use Rattle.pair_core.proofs.Accept.{sound-accepts, sound-of}
@@ -27,12 +27,14 @@ use Rattle.rules.proofs.Parts.{call-unaccepted}
 use Rattle.rules.proofs.Refusals.{full-room, pair-read}
 use Rattle.rules.proofs.RunBytes.{among-readable, arrival-reads, passed-bytes}
 use Rattle.rules.proofs.Runs.{call-in-turn, never-both, one-passed, one-refused, refused-unaltered}
-use Rattle.rules.proofs.Simulation.{Agree, agree-call, simulation}
+use Rattle.rules.proofs.Simulation.{Agree, RunsAs, agree-call, simulation}
+use Rattle.rules.proofs.Charges.{pair-accounts-add-up, pair-sendings-cost}
 use Rattle.rules.specs.Arrivals.{Flying, NothingStranded, receivingOf}
-use Rattle.rules.specs.Calls.{Call, InTurn, call, callOne, one}
+use Rattle.rules.specs.Calls.{Call, InTurn, call, callOne, one, recordsOn, run}
+use Rattle.rules.specs.Charges.{AccountsAddUp, PairAccountsAddUp, PairSendingsCost, SendingCosts}
 use Rattle.rules.specs.Lists.{total}
-use Rattle.rules.specs.PairValidator.{AsTheRules, Conserved, PairView, inFlightOf, pairOpened, pairValidator}
-use Rattle.rules.specs.Rules.{Far, Home, Ledger, afterBytes, inFlight, judgeBytes, stateOf}
+use Rattle.rules.specs.PairValidator.{AsTheRules, Conserved, PairView, inFlightOf, pairOpened, pairOpeningRefusal, pairValidator}
+use Rattle.rules.specs.Rules.{Far, Home, Ledger, PairState, Tariff, after, afterBytes, afterReading, inFlight, judgeBytes, opened, stateOf}
 
 -- ## The program's states follow the rules' states
 
@@ -137,6 +139,18 @@ pair-nothing-stranded s a l r fits fly =
     let j = nothing-stranded capacity (pairViewOfState s) ok l r fly in
     record { reads = reads; passes = λ room. f .passes-when e reads .1 (j, room); full = λ full. f .refuses-full e reads j full }
 
+-- what a sending costs
+pub pair-sendings-cost-exactly : PairSendingsCostExactly
+unfolding PairSendingsCostExactly PairSendingsCost PairStatesFollowRules afterBytes
+pair-sendings-cost-exactly s a b l r q k h =
+    let f = pair-states-follow-rules s a b in
+    let ok = sound-of (s .words) a .accepted in
+    let p = pairViewOfState s .pair in
+    let e : pairViewOfState (call pairChecker s (one b) .state) .pair ≡ after p r =
+    ap (λ (v : PairView). v .pair) (f .gives h) ∙ ap (afterReading p) q in
+    subst (λ (x : PairState). SendingCosts (stateOf l p) (stateOf l x) r) (sym e)
+    (pair-sendings-cost capacity (pairViewOfState s) ok l r k (f .passes-when r q .0 h .0))
+
 -- lists in turn, and refusals
 pub pair-lists-and-refusals : PairListsAndRefusals
 unfolding PairListsAndRefusals
@@ -149,17 +163,23 @@ pair-states-stay-accepted s a d = agrees s d a .invariant
 
 -- ## Demand 3, first half
 
+-- a run over the program's states is one over the rules' states
+as-rules-run : (tariff : Tariff) (homes fars : List ℕ) → pairOpeningRefusal tariff homes fars ≡ 0 → (ds : List Call)
+    → RunsAs pairChecker (pairValidator capacity) pairViewOfState Accepted same-accepts same-judge same-after
+    (pairOpenedState tariff homes fars) (pairOpened tariff homes fars) ds
+as-rules-run tariff homes fars ok ds =
+    let opening = pairOpenedState tariff homes fars in
+    simulation pairChecker (pairValidator capacity) pairViewOfState Accepted same-accepts same-judge same-after ds opening
+    (pairOpened tariff homes fars) (opened-view tariff homes fars ok) (sound-accepts (opening .words) (opened-sound tariff homes fars ok))
+
 -- after every run
 pub pair-states-conserved : PairStatesConserved
 unfolding PairStatesConserved Conserved
-pair-states-conserved homes fars ok ds =
-    let opening = pairOpenedState homes fars in
-    let f =
-    simulation pairChecker (pairValidator capacity) pairViewOfState Accepted same-accepts same-judge same-after ds opening
-    (pairOpened homes fars) (opened-view homes fars ok) (sound-accepts (opening .words) (opened-sound homes fars ok)) in
-    let c = conserved capacity homes fars ok ds in
-    let t = pairStateOfRun homes fars ds in
-    let p = pairPassedOfRun homes fars ds in
+pair-states-conserved tariff homes fars ok ds =
+    let f = as-rules-run tariff homes fars ok ds in
+    let c = conserved capacity tariff homes fars ok ds in
+    let t = pairStateOfRun tariff homes fars ds in
+    let p = pairPassedOfRun tariff homes fars ds in
     let n : inFlight (pairViewOfState t .pair) ≡ inFlightOf p =
     ap (λ (x : PairView). inFlight (x .pair)) (f .states) ∙ rw (f .records) (c .figure) in
     record {
@@ -177,14 +197,24 @@ pair-states-conserved homes fars ok ds =
 -- no run strands a sending
 pub pair-runs-strand-nothing : PairRunsStrandNothing
 unfolding PairRunsStrandNothing PairStatesConserved PairNothingStranded
-pair-runs-strand-nothing homes fars ok ds by l r fly =
-    let s = pairStateOfRun homes fars ds in
-    let c = pair-states-conserved homes fars ok ds in
+pair-runs-strand-nothing tariff homes fars ok ds by l r fly =
+    let s = pairStateOfRun tariff homes fars ds in
+    let c = pair-states-conserved tariff homes fars ok ds in
     let other = c .tables (counterpart l) in
-    let fits = among-readable l r _ (passed-bytes pairChecker (pairOpenedState homes fars) ds by) (fly .passed) .fits .number-fits in
+    let fits = among-readable l r _ (passed-bytes pairChecker (pairOpenedState tariff homes fars) ds by) (fly .passed) .fits .number-fits in
     let here : Flying l (stateOf l (pairViewOfState s .pair) .passed) (stateOf (counterpart l) (pairViewOfState s .pair) .passed) r =
     record { sends = fly .sends; passed = rw (c .tables l) (fly .passed); not-arrived = rw other (fly .not-arrived) } in
     rw other at (pair-nothing-stranded s (c .accepted) l r fits here)
+
+-- every account adds up
+pub pair-charges-paid : PairChargesPaid
+unfolding PairChargesPaid PairAccountsAddUp
+pair-charges-paid tariff homes fars ok ds l =
+    let f = as-rules-run tariff homes fars ok ds in
+    let start = stateOf l (opened tariff homes fars) in
+    subst (λ (x : PairView). AccountsAddUp start (stateOf l (x .pair)) (recordsOn l (pairPassedOfRun tariff homes fars ds))) (sym (f .states))
+    (subst (λ (bs : List (List ℕ)). AccountsAddUp start (stateOf l (run (pairValidator capacity) (pairOpened tariff homes fars) ds .pair))
+    (recordsOn l bs)) (sym (f .records)) (pair-accounts-add-up capacity tariff homes fars ok ds l))
 
 -- a refused opening's state is refused by every call
 pub pair-zero-is-refused : PairZeroRefused
@@ -207,9 +237,9 @@ held-within s a l =
 -- after every run
 pub pair-places-left : PairPlacesLeft
 unfolding PairPlacesLeft PairStatesConserved
-pair-places-left homes fars ok ds =
-    let s = pairStateOfRun homes fars ds in
-    let c = pair-states-conserved homes fars ok ds in
+pair-places-left tariff homes fars ok ds =
+    let s = pairStateOfRun tariff homes fars ds in
+    let c = pair-states-conserved tariff homes fars ok ds in
     let a : Accepted s = c .accepted in
     record {
       told = rw a;

@@ -1,5 +1,6 @@
 -- What is claimed of the pair validator's calls over the state that the program holds: demand 2, the first half of demand 3, what 22 and
--- 51 say of a record's accounts, that no sending is stranded, and what the places left say of 41. Assumes nothing.
+-- 51 say of a record's accounts, that no sending is stranded, what a sending costs and what every account has, and what the places left say
+-- of 41. Assumes nothing.
 use Prim.Native.Nat.{_+_, _<_, _^_, _≤_, suc, ℕ}
 use mathlib.Core.Bool.{false, true}
 use mathlib.Core.List.{List}
@@ -22,10 +23,11 @@ use Rattle.records.specs.declared.Reading.the-variants.{Read, Unreadable}
 use Rattle.records.specs.declared.Record.{Record}
 use Rattle.rules.specs.Accounts.{AccountsOpen, TellsAccount}
 use Rattle.rules.specs.Arrivals.{Flying, receivingOf}
+use Rattle.rules.specs.Charges.{AccountsAddUp, SendingCosts}
 use Rattle.rules.specs.Calls.{Call, CallBytes, ListsInTurn, RefusedUnaltered, call, one, passedRecords, recordsOn, run}
 use Rattle.rules.specs.Lists.{total}
 use Rattle.rules.specs.PairValidator.{inFlightOf, pairOpened, pairOpeningRefusal, pairValidator}
-use Rattle.rules.specs.Rules.{accountsOf, afterBytes, judge, judgeBytes, stateOf}
+use Rattle.rules.specs.Rules.{Sending, Tariff, accountsOf, afterBytes, judge, judgeBytes, opened, stateOf}
 use Rattle.wire.specs.BigEndian.{All}
 
 -- ## The rules' calls
@@ -33,8 +35,8 @@ use Rattle.wire.specs.BigEndian.{All}
 -- an accepted opening gives, seen as the rules' state, the rules' opening
 unfoldable pub PairOpenedAsRules : Type 0
 PairOpenedAsRules =
-    (homes fars : List ℕ) → pairOpeningRefusal homes fars ≡ 0
-    → pairViewOfState (pairOpenedState homes fars) ≡ pairOpened homes fars
+    (tariff : Tariff) (homes fars : List ℕ) → pairOpeningRefusal tariff homes fars ≡ 0
+    → pairViewOfState (pairOpenedState tariff homes fars) ≡ pairOpened tariff homes fars
 
 -- any call in an accepted state has the answer of the rules' call and, seen as the rules' state, its state
 unfoldable pub PairCallsAsRules : Type 0
@@ -121,6 +123,14 @@ PairNothingStranded =
     → Flying l (stateOf l (pairViewOfState s .pair) .passed) (stateOf (counterpart l) (pairViewOfState s .pair) .passed) r
     → PairArrives s l (length (stateOf (counterpart l) (pairViewOfState s .pair) .passed)) r
 
+-- DOCUMENT 02, U3: in every state that the pair validator accepts, a sending of either ledger that passes, handed in alone, costs its sender
+-- exactly its amount and the charge, which the charge account gets; nothing is taken on far's
+unfoldable pub PairSendingsCostExactly : Type 0
+PairSendingsCostExactly =
+    (s : PairValidator) → acceptsPair (s .words) ≡ true → (b : List ℕ) (l : Ledger) (r : Record) → reading b ≡ Read r → r .kind ≡ Sending l
+    → call pairChecker s (one b) .answer ≡ Passed
+    → SendingCosts (stateOf l (pairViewOfState s .pair)) (stateOf l (pairViewOfState (call pairChecker s (one b) .state) .pair)) r
+
 -- a call with a list answers by its records in turn; a refusal of any call hands back the state handed in
 unfoldable pub PairListsAndRefusals : Type 0
 PairListsAndRefusals = ListsInTurn pairChecker × RefusedUnaltered pairChecker
@@ -132,52 +142,62 @@ PairStatesStayAccepted =
 
 -- ## Demand 3, first half
 
--- the state after calls from an opening
-abbrev pub pairStateOfRun : List ℕ → List ℕ → List Call → PairValidator
-pairStateOfRun homes fars ds = run pairChecker (pairOpenedState homes fars) ds
+-- the state after calls from an opening with a tariff
+abbrev pub pairStateOfRun : Tariff → List ℕ → List ℕ → List Call → PairValidator
+pairStateOfRun tariff homes fars ds = run pairChecker (pairOpenedState tariff homes fars) ds
 
 -- the records that passed in them
-abbrev pub pairPassedOfRun : List ℕ → List ℕ → List Call → List (List ℕ)
-pairPassedOfRun homes fars ds = passedRecords pairChecker (pairOpenedState homes fars) ds
+abbrev pub pairPassedOfRun : Tariff → List ℕ → List ℕ → List Call → List (List ℕ)
+pairPassedOfRun tariff homes fars ds = passedRecords pairChecker (pairOpenedState tariff homes fars) ds
 
 -- what holds after the calls of a run
-pub record PairStateConserved (homes fars : List ℕ) (ds : List Call) : Type 0 where
+pub record PairStateConserved (tariff : Tariff) (homes fars : List ℕ) (ds : List Call) : Type 0 where
   -- home balances plus far balances plus in flight, worked out from the passed records, equal the supply
-  pub conserved : total (pairViewOfState (pairStateOfRun homes fars ds) .pair .home .balances)
-      + total (pairViewOfState (pairStateOfRun homes fars ds) .pair .far .balances)
-      + inFlightOf (pairPassedOfRun homes fars ds)
+  pub conserved : total (pairViewOfState (pairStateOfRun tariff homes fars ds) .pair .home .balances)
+      + total (pairViewOfState (pairStateOfRun tariff homes fars ds) .pair .far .balances)
+      + inFlightOf (pairPassedOfRun tariff homes fars ds)
       ≡ total homes + total fars
   -- the figures that the validator gives are these totals and the in flight worked out
-  pub figures : pairFiguresOf (acceptsPair (pairStateOfRun homes fars ds .words)) (pairStateOfRun homes fars ds .words)
+  pub figures : pairFiguresOf (acceptsPair (pairStateOfRun tariff homes fars ds .words)) (pairStateOfRun tariff homes fars ds .words)
       ≡ record {
         answer = Passed;
-        home = total (pairViewOfState (pairStateOfRun homes fars ds) .pair .home .balances);
-        far = total (pairViewOfState (pairStateOfRun homes fars ds) .pair .far .balances);
-        flight = inFlightOf (pairPassedOfRun homes fars ds);
+        home = total (pairViewOfState (pairStateOfRun tariff homes fars ds) .pair .home .balances);
+        far = total (pairViewOfState (pairStateOfRun tariff homes fars ds) .pair .far .balances);
+        flight = inFlightOf (pairPassedOfRun tariff homes fars ds);
       }
   -- the state is, seen as the rules' state, the one that the rules' run reaches
-  pub as-rules : pairViewOfState (pairStateOfRun homes fars ds) ≡ run (pairValidator capacity) (pairOpened homes fars) ds
+  pub as-rules : pairViewOfState (pairStateOfRun tariff homes fars ds) ≡ run (pairValidator capacity) (pairOpened tariff homes fars) ds
   -- the state's supply is the opening's
-  pub supply-same : pairViewOfState (pairStateOfRun homes fars ds) .supply ≡ total homes + total fars
+  pub supply-same : pairViewOfState (pairStateOfRun tariff homes fars ds) .supply ≡ total homes + total fars
   -- each ledger's table holds its passed records, in order
   pub tables : (l : Ledger)
-      → stateOf l (pairViewOfState (pairStateOfRun homes fars ds) .pair) .passed ≡ recordsOn l (pairPassedOfRun homes fars ds)
+      → stateOf l (pairViewOfState (pairStateOfRun tariff homes fars ds) .pair) .passed ≡ recordsOn l (pairPassedOfRun tariff homes fars ds)
   -- the state is accepted
-  pub accepted : acceptsPair (pairStateOfRun homes fars ds .words) ≡ true
+  pub accepted : acceptsPair (pairStateOfRun tariff homes fars ds .words) ≡ true
   -- no call answers 3
-  pub never-3 : (d : Call) (place : ℕ) → call pairChecker (pairStateOfRun homes fars ds) d .answer ≡ Refused 3 place → ⊥
+  pub never-3 : (d : Call) (place : ℕ) → call pairChecker (pairStateOfRun tariff homes fars ds) d .answer ≡ Refused 3 place → ⊥
 
 -- DEMAND 3, FIRST HALF, of the program's states: at every accepted opening and after every list of calls
 unfoldable pub PairStatesConserved : Type 0
-PairStatesConserved = (homes fars : List ℕ) → pairOpeningRefusal homes fars ≡ 0 → (ds : List Call) → PairStateConserved homes fars ds
+PairStatesConserved =
+    (tariff : Tariff) (homes fars : List ℕ) → pairOpeningRefusal tariff homes fars ≡ 0 → (ds : List Call) → PairStateConserved tariff homes fars ds
 
 -- DOCUMENT 02, U2, of runs: at every accepted opening and after every list of calls, each of bytes, the arrival of each sending that is in
 -- flight by the passed records passes unless as many records as the capacity have passed on its ledger
 unfoldable pub PairRunsStrandNothing : Type 0
 PairRunsStrandNothing =
-    (homes fars : List ℕ) → pairOpeningRefusal homes fars ≡ 0 → (ds : List Call) → All CallBytes ds → (l : Ledger) (r : Record)
-    → Flying l (recordsOn l (pairPassedOfRun homes fars ds)) (recordsOn (counterpart l) (pairPassedOfRun homes fars ds)) r
-    → PairArrives (pairStateOfRun homes fars ds) l (length (recordsOn (counterpart l) (pairPassedOfRun homes fars ds))) r
+    (tariff : Tariff) (homes fars : List ℕ) → pairOpeningRefusal tariff homes fars ≡ 0 → (ds : List Call) → All CallBytes ds → (l : Ledger) (r : Record)
+    → Flying l (recordsOn l (pairPassedOfRun tariff homes fars ds)) (recordsOn (counterpart l) (pairPassedOfRun tariff homes fars ds)) r
+    → PairArrives (pairStateOfRun tariff homes fars ds) l (length (recordsOn (counterpart l) (pairPassedOfRun tariff homes fars ds))) r
+
+-- DOCUMENT 02, U3, of runs: at every accepted opening and after every list of calls, on either ledger, the charge account has what it opened
+-- with, what its own records moved and exactly the charges of the passed sendings, and every other account what it opened with and what
+-- its own records moved
+unfoldable pub PairChargesPaid : Type 0
+PairChargesPaid =
+    (tariff : Tariff) (homes fars : List ℕ) → pairOpeningRefusal tariff homes fars ≡ 0 → (ds : List Call) (l : Ledger)
+    → AccountsAddUp (stateOf l (opened tariff homes fars)) (stateOf l (pairViewOfState (pairStateOfRun tariff homes fars ds) .pair))
+    (recordsOn l (pairPassedOfRun tariff homes fars ds))
 
 -- beside a refused opening stands a state that every call refuses with 3
 unfoldable pub PairZeroRefused : Type 0
@@ -195,16 +215,17 @@ leftOn Home p = p .home
 leftOn Far p = p .far
 
 -- what holds of them after the calls of a run
-pub record PairPlacesLeftAfter (homes fars : List ℕ) (ds : List Call) : Type 0 where
+pub record PairPlacesLeftAfter (tariff : Tariff) (homes fars : List ℕ) (ds : List Call) : Type 0 where
   -- they are told
-  pub told : pairPlacesLeft (pairStateOfRun homes fars ds) .answer ≡ answer 0 0
+  pub told : pairPlacesLeft (pairStateOfRun tariff homes fars ds) .answer ≡ answer 0 0
   -- with the passed records of a ledger they make the capacity
   pub with-passed : (l : Ledger)
-      → leftOn l (pairPlacesLeft (pairStateOfRun homes fars ds)) + length (recordsOn l (pairPassedOfRun homes fars ds)) ≡ capacity
+      → leftOn l (pairPlacesLeft (pairStateOfRun tariff homes fars ds)) + length (recordsOn l (pairPassedOfRun tariff homes fars ds)) ≡ capacity
 
 -- at every accepted opening and after every list of calls, the places left on a ledger are the capacity less its passed records
 unfoldable pub PairPlacesLeft : Type 0
-PairPlacesLeft = (homes fars : List ℕ) → pairOpeningRefusal homes fars ≡ 0 → (ds : List Call) → PairPlacesLeftAfter homes fars ds
+PairPlacesLeft =
+    (tariff : Tariff) (homes fars : List ℕ) → pairOpeningRefusal tariff homes fars ≡ 0 → (ds : List Call) → PairPlacesLeftAfter tariff homes fars ds
 
 -- in every state that the pair validator accepts, a record handed in alone that the rules pass is refused 41 exactly when its ledger has
 -- no place left

@@ -8,6 +8,7 @@ use Rattle.pair_validator.specs.declared.PairValidator.{PairValidator}
 use Rattle.records.specs.Records.{reading, wordsOf}
 use Rattle.rules.specs.Calls.{Checker}
 use Rattle.rules.specs.PairValidator.{PairView, pairJudge}
+use Rattle.rules.specs.Rules.{Tariff}
 
 -- ## The state
 
@@ -29,8 +30,8 @@ pairChecker =
 -- ## The opening
 
 -- the state of an accepted opening
-abbrev pub pairOpenedState : List ℕ → List ℕ → PairValidator
-pairOpenedState homes fars = record { words = pairOpenedWords homes fars }
+abbrev pub pairOpenedState : Tariff → List ℕ → List ℕ → PairValidator
+pairOpenedState tariff homes fars = record { words = pairOpenedWords tariff homes fars }
 
 -- the state beside a refused opening: all zero, which 3 refuses
 abbrev pub pairZeroState : PairValidator

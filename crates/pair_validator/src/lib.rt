@@ -16,6 +16,7 @@ pub use asked::places_left;
 use pair_core::WORDS;
 use pair_core::take;
 use pair_core::take_list;
+use tariffs::Tariff;
 
 // The state, in the layout of pair_core. Words of records at or beyond a ledger's count are not looked at, and only a passed record
 // writes there.
@@ -31,14 +32,15 @@ pub struct PairOutcome {
 }
 
 impl PairValidator {
-    // An opening with the balances of each ledger: 1, 2. Beside a refusal stands the all-zero state, which every call refuses.
-    pub fn open<'a>(homes: &'a [u64], fars: &'a [u64]) -> PairOutcome
-        ensures answers { λ r. ⌜ r .answer ≡ answer (pairOpeningRefusal (now (homes .entry)) (now (fars .entry))) 0 ⌝ }
-        ensures hands_back { λ r. ⌜ r .state ≡ unlessRefused (pairOpeningRefusal (now (homes .entry)) (now (fars .entry)))
-            (pairOpenedState (now (homes .entry)) (now (fars .entry))) pairZeroState ⌝ }
+    // An opening with the balances of each ledger and home's tariff: 1, 2, 52. Beside a refusal stands the all-zero state, which every call
+    // refuses.
+    pub fn open<'a>(homes: &'a [u64], fars: &'a [u64], tariff: Tariff) -> PairOutcome
+        ensures answers { λ r. ⌜ r .answer ≡ answer (pairOpeningRefusal tariff (now (homes .entry)) (now (fars .entry))) 0 ⌝ }
+        ensures hands_back { λ r. ⌜ r .state ≡ unlessRefused (pairOpeningRefusal tariff (now (homes .entry)) (now (fars .entry)))
+            (pairOpenedState tariff (now (homes .entry)) (now (fars .entry))) pairZeroState ⌝ }
     {
         let mut words = [0u64; WORDS];
-        let number = pair_core::open(homes, fars, &mut words);
+        let number = pair_core::open(homes, fars, tariff, &mut words);
         PairOutcome {
             answer: Answer::new(number, 0),
             state: PairValidator { words },

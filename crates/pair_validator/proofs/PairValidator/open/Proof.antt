@@ -18,8 +18,8 @@ returns c =
     let e = c .before .open .ensures in (
       c .new .ensures ∙ ap (λ (n : ℕ). answer n 0) (e .0),
       ap {B = PairValidator} (λ (w : List ℕ). record { words = w }) (e .1)
-          ∙ opening-in {B = PairValidator} (λ (w : List ℕ). record { words = w }) (pairOpeningRefusal (a .homes .now) (a .fars .now))
-          (pairOpenedWords (a .homes .now) (a .fars .now)) pairZeroWords,
+          ∙ opening-in {B = PairValidator} (λ (w : List ℕ). record { words = w }) (pairOpeningRefusal (a .tariff) (a .homes .now) (a .fars .now))
+          (pairOpenedWords (a .tariff) (a .homes .now) (a .fars .now)) pairZeroWords,
     )
 
 pub open-spec : {M : Type 1} → statement M
