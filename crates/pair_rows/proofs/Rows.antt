@@ -1,5 +1,5 @@
 -- The next row: of a refused record with the figures as they were, of a passed one with the figures moved. Assumes nothing.
-use Rattle.wire.proofs.Prelude.{List, _+_, _∙_, _≡_, _≤_, ap, ap₂, arith, refl, subst, suc, sym, zero, ℕ}
+use Rattle.wire.proofs.Prelude.{List, _+_, _<_, _∙_, _≡_, _≤_, ap, ap₂, arith, length, refl, subst, suc, sym, zero, ℕ}
 use Rattle.answers.proofs.Answers.{or-else-zero}
 use Rattle.ledgers.specs.Ledgers.{ledgerByte, ledgerOf}
 use Rattle.ledgers.specs.Limits.{capacity}
@@ -17,7 +17,9 @@ use Rattle.rules.specs.Calls.{callOne}
 use Rattle.rules.specs.Lists.{lowered, total}
 use Rattle.rules.specs.PairValidator.{PairView, pairJudge}
 use Rattle.rules.specs.Rules.{Far, Home, Kind, Ledger, LedgerState, Local, PairState, Read, Receiving, Record, Sending, Unreadable, after}
-use Rattle.rules.specs.Rules.{inFlight, judge, moved, stateOf}
+use Rattle.rules.specs.Rules.{debit, inFlight, judge, moved, stateOf}
+use Rattle.tariffs.proofs.Allowing.{allowed-open}
+use Rattle.tariffs.specs.Tariffs.{charge}
 
 -- ## A ledger's total
 
@@ -27,18 +29,22 @@ record TotalMoves (before later taken given : ℕ) : Type 0 where
   pays : taken ≤ before
 
 -- by the record's kind
-total-moves : (own other : LedgerState) (r : Record) (k : Kind) → Passable own other r k
-    → TotalMoves (total (own .balances)) (total (moved (own .balances) r k)) (takenBy k (r .amount)) (givenBy k (r .amount))
+total-moves : (own other : LedgerState) (r : Record) (k : Kind) → own .tariff .account < length (own .balances) → Passable own other r k
+    → TotalMoves (total (own .balances)) (total (moved (own .tariff) (own .balances) r k)) (takenBy k (r .amount)) (givenBy k (r .amount))
 unfolding Passable
-total-moves own other r (Local l) h =
+total-moves own other r (Local l) o h =
     let a = total-lowered (own .balances) (r .sender) (r .amount) (h .0 .sender-open) (h .1) in
     let b = total-raised (lowered (own .balances) (r .sender) (r .amount)) (r .receiver) (r .amount)
     (rw (length-lowered (own .balances) (r .sender) (r .amount)) (h .0 .receiver-open)) in
     record { adds = omega (arith, a, b); pays = omega (arith, h .1, balance-total (own .balances) (r .sender)) }
-total-moves own other r (Sending l) h =
-    let a = total-lowered (own .balances) (r .sender) (r .amount) (h .0 .sender-open) (h .1) in
-    record { adds = omega (arith, a); pays = omega (arith, h .1, balance-total (own .balances) (r .sender)) }
-total-moves own other r (Receiving l) h =
+total-moves own other r (Sending l) o h =
+    let t = own .tariff in
+    let whole = debit t r (Sending l) in
+    let a = total-lowered (own .balances) (r .sender) whole (h .0 .sender-open) (h .1) in
+    let b = total-raised (lowered (own .balances) (r .sender) whole) (t .account) (charge (t .rate) (r .amount))
+    (rw (length-lowered (own .balances) (r .sender) whole) o) in
+    record { adds = omega (arith, a, b, h .1, balance-total (own .balances) (r .sender)); pays = omega (arith, h .1, balance-total (own .balances) (r .sender)) }
+total-moves own other r (Receiving l) o h =
     let b = total-raised (own .balances) (r .receiver) (r .amount) (h .0 .receiver-open) in
     record { adds = omega (arith, b); pays = omega arith }
 
@@ -78,17 +84,18 @@ far-moved supply n h f x h' f' x' taken given m e s =
     }
 
 -- of the rules' state, for a record that the rules pass, where the state after shares out the supply
-row-after : (p : PairState) (r : Record) (supply n : ℕ) → judge p r ≡ 0
+row-after : (p : PairState) (r : Record) (supply n : ℕ) → ((l : Ledger) → stateOf l p .tariff .account < length (stateOf l p .balances))
+    → judge p r ≡ 0
     → total (after p r .home .balances) + total (after p r .far .balances) + inFlight (after p r) ≡ supply
     → RowMoves supply (rowOf n (record { pair = p; supply = supply })) (ledgerOf (r .kind)) (takenBy (r .kind) (r .amount))
     (givenBy (r .kind) (r .amount)) (rowOf 0 (record { pair = after p r; supply = supply }))
 unfolding after
-row-after p r supply n j s = go (ledgerOf (r .kind)) refl s
+row-after p r supply n o j s = go (ledgerOf (r .kind)) refl s
   where
     moves : TotalMoves (total (stateOf (ledgerOf (r .kind)) p .balances))
-        (total (moved (stateOf (ledgerOf (r .kind)) p .balances) r (r .kind)))
+        (total (moved (stateOf (ledgerOf (r .kind)) p .tariff) (stateOf (ledgerOf (r .kind)) p .balances) r (r .kind)))
         (takenBy (r .kind) (r .amount)) (givenBy (r .kind) (r .amount))
-    moves = total-moves _ _ r (r .kind) (judge-none p r (r .kind) refl j)
+    moves = total-moves _ _ r (r .kind) (o (ledgerOf (r .kind))) (judge-none p r (r .kind) refl j)
 
     go : (m : Ledger) → ledgerOf (r .kind) ≡ m
         → total (after p r .home .balances) + total (after p r .far .balances) + inFlight (after p r) ≡ supply
@@ -131,7 +138,8 @@ module _ (s index b : List ℕ) (last : Row) (h : RowReady s index last) where
       let t : callOne pairWordsChecker s b .state ≡ pairWith s (wordsOf b) r (ledgerByte (ledgerOf (r .kind))) = rw (q, k) in
       let g = accepts-facts capacity _ (sound-of _ (x .accepted) .accepted) .sums in
       let v = x .view in
-      let m = row-after (pairViewOf s .pair) r (pairSupplyOf s) (last .refusal) (or-else-zero (judge (pairViewOf s .pair) r) _ k .0)
+      let f = accepts-facts capacity _ (sound-of s (h .ready .accepted) .accepted) in
+      let m = row-after (pairViewOf s .pair) r (pairSupplyOf s) (last .refusal) (λ l. allowed-open _ _ (f .ledgers l .pays)) (or-else-zero (judge (pairViewOf s .pair) r) _ k .0)
       (subst (λ (y : PairView). total (y .pair .home .balances) + total (y .pair .far .balances) + inFlight (y .pair) ≡ y .supply) v g) in
       let e : rowOf 0 (record { pair = after (pairViewOf s .pair) r; supply = pairSupplyOf s }) ≡ rowAfter s b =
       ap₂ rowOf j (sym v ∙ ap pairViewOf (sym t)) in

@@ -19,6 +19,7 @@ use places::given_by;
 use places::taken_by;
 use records::Reading;
 use records::Record;
+use tariffs::Tariff;
 
 // A refusal, or 0, with the totals of both ledgers and what is in flight after it.
 pub struct Row {
@@ -32,14 +33,19 @@ pub struct Row {
 
 // The row of an opening, in words of zeros: its refusal without figures, and the words stay zeros, or the totals with nothing in flight,
 // and the opened state in the words.
-pub fn first_row<'a, 'b>(homes: &'a [u64], fars: &'a [u64], state: &'b mut [u64; WORDS]) -> Row
+pub fn first_row<'a, 'b>(
+    homes: &'a [u64],
+    fars: &'a [u64],
+    tariff: Tariff,
+    state: &'b mut [u64; WORDS],
+) -> Row
     requires { ⌜ now state ≡ replicate pairWords 0 ⌝ }
-    ensures refuses { λ r. ⌜ r .refusal ≡ pairOpeningRefusal (now (homes .entry)) (now (fars .entry)) ⌝ }
-    ensures opens { λ r. ⌜ (r .refusal ≡ 0 → (r ≡ rowOf 0 (pairOpened (now (homes .entry)) (now (fars .entry))))
-        × (now (state .exit) ≡ pairOpenedWords (now (homes .entry)) (now (fars .entry)))) ⌝ }
+    ensures refuses { λ r. ⌜ r .refusal ≡ pairOpeningRefusal tariff (now (homes .entry)) (now (fars .entry)) ⌝ }
+    ensures opens { λ r. ⌜ (r .refusal ≡ 0 → (r ≡ rowOf 0 (pairOpened tariff (now (homes .entry)) (now (fars .entry))))
+        × (now (state .exit) ≡ pairOpenedWords tariff (now (homes .entry)) (now (fars .entry)))) ⌝ }
     ensures closes { λ r. ⌜ ((r .refusal ≡ 0 → ⊥) → (r ≡ refusedRow (r .refusal)) × (now (state .exit) ≡ pairZeroWords)) ⌝ }
 {
-    let refusal = open(homes, fars, state);
+    let refusal = open(homes, fars, tariff, state);
     if refusal != 0 {
         return Row {
             refusal,
@@ -59,7 +65,8 @@ pub fn first_row<'a, 'b>(homes: &'a [u64], fars: &'a [u64], state: &'b mut [u64;
 
 // ## A record
 
-// The row of a passed record of a ledger, by what it takes there and gives there. In flight is the supply less both totals.
+// The row of a passed record of a ledger, by what it takes from all its accounts together and gives to them, which leaves a charge out. In
+// flight is the supply less both totals.
 fn moved_row(supply: u64, last: Row, l: Ledger, taken: u64, given: u64) -> Row
     requires { ⌜ (taken ≤ totalIn last l) × (last .home + last .far + given ≤ supply + taken) ⌝ }
     ensures { λ r. ⌜ r ≡ movedRow supply last l taken given ⌝ }

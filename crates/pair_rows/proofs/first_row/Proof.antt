@@ -19,21 +19,22 @@ returns c =
     (o .0, (λ e. absurd (c .if1 .taken e), λ e. (refl, o .1 ∙ sym (instead-refused _ _ _ (λ z. c .if1 .taken (o .0 ∙ z))))))
 
 -- the opening is accepted
-none-at : (c : tie.Else1) → pairOpeningRefusal (c .before .before .before .before .before .args .homes .now) (c .before .before .before
-    .before .before .args .fars .now) ≡ 0
+none-at : (c : tie.Else1)
+    → let a = c .before .before .before .before .before .args in pairOpeningRefusal (a .tariff) (a .homes .now) (a .fars .now) ≡ 0
 none-at c = sym (c .before .open .ensures .0) ∙ c .if1 .left
 
 add-balances-requires : tie.Need-add-balances-requires
 add-balances-requires c κs =
     let a = c .before .before .before .before .before .args in
-    (omega arith, omega arith, omega (arith, opened-counts (a .homes .now) (a .fars .now) (none-at c) .0))
+    (omega arith, omega arith, omega (arith, opened-counts (a .tariff) (a .homes .now) (a .fars .now) (none-at c) .0))
 
 -- its row
-row-at : (c : tie.After-add-balances) → FirstRow (c .before .before .before .before .before .before .args .homes .now) (c .before .before
-    .before .before .before .before .args .fars .now) (c .before .before .open .last .1 .1 .0) (c .add-balances .result .low)
+row-at : (c : tie.After-add-balances)
+    → let a = c .before .before .before .before .before .before .args in
+    FirstRow (a .tariff) (a .homes .now) (a .fars .now) (c .before .before .open .last .1 .1 .1 .0) (c .add-balances .result .low)
 row-at c =
     let a = c .before .before .before .before .before .before .args in
-    first-row (a .homes .now) (a .fars .now) (none-at (c .before)) (c .before .before .open .ensures .1) (c .add-balances .ensures)
+    first-row (a .tariff) (a .homes .now) (a .fars .now) (none-at (c .before)) (c .before .before .open .ensures .1) (c .add-balances .ensures)
 
 returns-2 : tie.Need-returns-2
 returns-2 c =
