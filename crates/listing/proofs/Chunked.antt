@@ -3,7 +3,7 @@
 use Rattle.wire.proofs.Prelude.{Bool, List, [], _&&_, _*_, _++_, _+_, _<_, _∙_, _∷_, _≡_, _≤_, ap, ap₂, arith, drop, drop-drop, drop-nil}
 use Rattle.wire.proofs.Prelude.{drop-of-length-le, eqb, eqb-false, eqb-true, false, length, length-drop, length-take, refl, suc, suc-add}
 use Rattle.wire.proofs.Prelude.{sym, take, take-nil, take-take, true, zero, zero-add, ℕ}
-use Rattle.journal_blocks.specs.Blocks.{balancesOf, maxBlock, recordsOf, statedCount}
+use Rattle.journal_blocks.specs.Blocks.{balancesOf, maxBlock, recordsOf, statedCount, tariffIn}
 use Rattle.journal_blocks.specs.Checked.{blockRefusal}
 use Rattle.ledgers.specs.Limits.{capacity}
 use Rattle.listing.proofs.Blocks.{blocks-stopped, text-append, textOf, went-on}
@@ -99,24 +99,24 @@ text-carried p (b ∷ bs) z =
 -- ## The opening
 
 -- the text of an opening has what comes after it only where the opening is accepted
-opening-rest : (home far rest other : List ℕ) → (pairOpeningRefusal (balancesOf home) (balancesOf far) ≡ 0 → rest ≡ other)
+opening-rest : (home far rest other : List ℕ) → (pairOpeningRefusal (tariffIn home) (balancesOf home) (balancesOf far) ≡ 0 → rest ≡ other)
     → openingText home far rest ≡ openingText home far other
 unfolding openingText
 opening-rest home far rest other e =
     ap (λ (t : List ℕ). unlessFault (blockRefusal home 0 0) 0 (unlessFault (blockRefusal far 1 (statedCount home)) 1 t))
-    (go (openLine (figuresLine (pairOpened (balancesOf home) (balancesOf far)))) (pairOpeningRefusal (balancesOf home) (balancesOf far)) e)
+    (go (openLine (figuresLine (pairOpened (tariffIn home) (balancesOf home) (balancesOf far)))) (pairOpeningRefusal (tariffIn home) (balancesOf home) (balancesOf far)) e)
   where
     go : (line : List ℕ) (n : ℕ) → (n ≡ 0 → rest ≡ other) → unlessFault n 1 (line ++ rest) ≡ unlessFault n 1 (line ++ other)
     go line zero f = rw (f refl)
     go line (suc n) f = refl
 
 -- after an accepted opening the text of blocks over the rules' states is the one over the program's
-opened-carried : (home far : List ℕ) (bs : List (List ℕ)) → pairOpeningRefusal (balancesOf home) (balancesOf far) ≡ 0
-    → blocksText (pairValidator capacity) figuresLine (openedProgress (pairOpened (balancesOf home) (balancesOf far)) (statedCount far)) bs
+opened-carried : (home far : List ℕ) (bs : List (List ℕ)) → pairOpeningRefusal (tariffIn home) (balancesOf home) (balancesOf far) ≡ 0
+    → blocksText (pairValidator capacity) figuresLine (openedProgress (pairOpened (tariffIn home) (balancesOf home) (balancesOf far)) (statedCount far)) bs
     ≡ textOf (openedBy home far) bs
 opened-carried home far bs q =
-    rw (← (opened-view (balancesOf home) (balancesOf far) q))
-    (sym (text-carried (openedBy home far) bs (opened-ready (balancesOf home) (balancesOf far) q .accepted)))
+    rw (← (opened-view (tariffIn home) (balancesOf home) (balancesOf far) q))
+    (sym (text-carried (openedBy home far) bs (opened-ready (tariffIn home) (balancesOf home) (balancesOf far) q .accepted)))
 
 -- ## Bytes cut into parts
 

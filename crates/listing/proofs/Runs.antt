@@ -31,18 +31,18 @@ module _ {S : Type 0} (c : Checker S) where
 -- the claim: each line of a listing after an accepted opening has the answer and the figures of the run
 pub listed-as-run : ListedAsRun
 unfolding ListedAsRun Conserved PairKeepsAccepted
-listed-as-run homes fars h bs b =
+listed-as-run tariff homes fars h bs b =
     record {
-      answer-is = rw (same bs) (one-number (pairValidator capacity) _ b (conserved capacity homes fars h (oneByOne bs) .accepted));
+      answer-is = rw (same bs) (one-number (pairValidator capacity) _ b (conserved capacity tariff homes fars h (oneByOne bs) .accepted));
       state-is = same (bs ++ b ∷ []);
       flight-is = rw (same (bs ++ b ∷ [])) (kept .figure);
       conserved = rw (same (bs ++ b ∷ []), kept .figure) (kept .conserved);
     }
   where
-    same : (xs : List (List ℕ)) → listed homes fars xs ≡ run (pairValidator capacity) (pairOpened homes fars) (oneByOne xs)
+    same : (xs : List (List ℕ)) → listed tariff homes fars xs ≡ run (pairValidator capacity) (pairOpened tariff homes fars) (oneByOne xs)
     same =
-        listed-run (pairValidator capacity) (pair-keeps-accepted capacity) (pairOpened homes fars)
-        (pair-opened-accepted capacity homes fars h)
+        listed-run (pairValidator capacity) (pair-keeps-accepted capacity) (pairOpened tariff homes fars)
+        (pair-opened-accepted capacity tariff homes fars h)
 
-    kept : ConservedAfter capacity homes fars (oneByOne (bs ++ b ∷ []))
-    kept = conserved capacity homes fars h (oneByOne (bs ++ b ∷ []))
+    kept : ConservedAfter capacity tariff homes fars (oneByOne (bs ++ b ∷ []))
+    kept = conserved capacity tariff homes fars h (oneByOne (bs ++ b ∷ []))

@@ -6,7 +6,7 @@ use mathlib.Core.List.{List, [], _∷_, _++_}
 use mathlib.Core.Path.{_≡_}
 use lib.Dec.{eqb}
 use lib.ListN.{length, take, drop}
-use Rattle.journal_blocks.specs.Blocks.{balancesOf, recordsPerBlock, statedCount}
+use Rattle.journal_blocks.specs.Blocks.{balancesOf, recordsPerBlock, statedCount, tariffIn}
 use Rattle.listing.specs.Listing.{Progress, afterBlock, blocksIn, blocksText, figuresLine, listing, openedProgress, openingText}
 use Rattle.listing.specs.Listing.{whileGoing}
 use Rattle.listing_lines.specs.Lines.{headerLine, lineRoom}
@@ -67,7 +67,7 @@ chunksText (suc n) p j =
 
 -- where the program's listing stands after an accepted opening of blocks 0 and 1
 abbrev pub openedBy : List ℕ → List ℕ → Progress (List ℕ)
-openedBy home far = openedProgress (pairOpenedWords (balancesOf home) (balancesOf far)) (statedCount far)
+openedBy home far = openedProgress (pairOpenedWords (tariffIn home) (balancesOf home) (balancesOf far)) (statedCount far)
 
 -- the listing of every journal is the header, the opening of its first 1,024 bytes, and the text of the program's chunks of the rest
 unfoldable pub ListedInChunks : Type 0

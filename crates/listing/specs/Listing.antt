@@ -4,7 +4,7 @@ use Prim.Native.Nat.{ℕ, zero, suc, _+_}
 use mathlib.Core.Bool.{Bool, true, false}
 use mathlib.Core.List.{List, [], _∷_, _++_}
 use lib.ListN.{length, take, drop}
-use Rattle.journal_blocks.specs.Blocks.{balancesOf, recordsOf, statedCount}
+use Rattle.journal_blocks.specs.Blocks.{balancesOf, recordsOf, statedCount, tariffIn}
 use Rattle.journal_blocks.specs.Checked.{blockRefusal}
 use Rattle.ledgers.specs.Limits.{capacity}
 use Rattle.listing_lines.specs.Lines.{faultLine, figuresText, headerLine, openLine, recordLine}
@@ -87,13 +87,14 @@ blocksIn j = cut (length j) 512 j
 abbrev pub openedProgress : {S : Type 0} → S → ℕ → Progress S
 openedProgress s before = record { state = s; index = 0; block = 2; before = before; going = true }
 
--- the line of the opening, or the fault of block 0 or 1; the opening's own refusal is told at block 1 (Cases: refusal 2); then the rest
+-- the line of the opening, or the fault of block 0, 52 among them (document 02, U3), or of block 1; the opening's own refusal is told at
+-- block 1 (Cases: refusal 2); then the rest
 unfoldable pub openingText : List ℕ → List ℕ → List ℕ → List ℕ
 openingText home far rest =
     unlessFault (blockRefusal home 0 0) 0
     (unlessFault (blockRefusal far 1 (statedCount home)) 1
-    (unlessFault (pairOpeningRefusal (balancesOf home) (balancesOf far)) 1
-    (openLine (figuresLine (pairOpened (balancesOf home) (balancesOf far))) ++ rest)))
+    (unlessFault (pairOpeningRefusal (tariffIn home) (balancesOf home) (balancesOf far)) 1
+    (openLine (figuresLine (pairOpened (tariffIn home) (balancesOf home) (balancesOf far))) ++ rest)))
 
 -- WHAT `crosslist` PRINTS of a journal: the header line, the opening of blocks 0 and 1, and the other blocks
 unfoldable pub listing : List ℕ → List ℕ
@@ -101,5 +102,6 @@ listing j =
     headerLine
     ++ openingText (take 512 j) (take 512 (drop 512 j))
     (blocksText (pairValidator capacity) figuresLine
-    (openedProgress (pairOpened (balancesOf (take 512 j)) (balancesOf (take 512 (drop 512 j)))) (statedCount (take 512 (drop 512 j))))
+    (openedProgress (pairOpened (tariffIn (take 512 j)) (balancesOf (take 512 j)) (balancesOf (take 512 (drop 512 j))))
+    (statedCount (take 512 (drop 512 j))))
     (blocksIn (drop 1024 j)))

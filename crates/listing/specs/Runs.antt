@@ -10,7 +10,7 @@ use Rattle.listing.specs.Listing.{stateListed}
 use Rattle.rules.specs.Calls.{Call, call, one, passedRecords, run}
 use Rattle.rules.specs.Lists.{total}
 use Rattle.rules.specs.PairValidator.{PairView, inFlightOf, pairOpened, pairOpeningRefusal, pairValidator}
-use Rattle.rules.specs.Rules.{inFlight}
+use Rattle.rules.specs.Rules.{Tariff, inFlight}
 
 -- a call with each record
 unfoldable pub oneByOne : List (List ℕ) → List Call
@@ -18,27 +18,28 @@ oneByOne [] = []
 oneByOne (b ∷ bs) = one b ∷ oneByOne bs
 
 -- the state of the listing after records, from an opening
-abbrev pub listed : List ℕ → List ℕ → List (List ℕ) → PairView
-listed homes fars bs = stateListed (pairValidator capacity) (pairOpened homes fars) bs
+abbrev pub listed : Tariff → List ℕ → List ℕ → List (List ℕ) → PairView
+listed tariff homes fars bs = stateListed (pairValidator capacity) (pairOpened tariff homes fars) bs
 
 -- what holds of the line of record b, after the records bs
-pub record LineAsRun (homes fars : List ℕ) (bs : List (List ℕ)) (b : List ℕ) : Type 0 where
+pub record LineAsRun (tariff : Tariff) (homes fars : List ℕ) (bs : List (List ℕ)) (b : List ℕ) : Type 0 where
   -- its answer is the call's
-  pub answer-is : pairValidator capacity .judge (listed homes fars bs) b
+  pub answer-is : pairValidator capacity .judge (listed tariff homes fars bs) b
       ≡ numberOf
-      (call (pairValidator capacity) (run (pairValidator capacity) (pairOpened homes fars) (oneByOne bs)) (one b) .answer)
+      (call (pairValidator capacity) (run (pairValidator capacity) (pairOpened tariff homes fars) (oneByOne bs)) (one b) .answer)
   -- its figures are those of the state that the run reaches with it
-  pub state-is : listed homes fars (bs ++ b ∷ []) ≡ run (pairValidator capacity) (pairOpened homes fars) (oneByOne (bs ++ b ∷ []))
+  pub state-is : listed tariff homes fars (bs ++ b ∷ []) ≡ run (pairValidator capacity) (pairOpened tariff homes fars) (oneByOne (bs ++ b ∷ []))
   -- in flight is the one worked out from the passed records
-  pub flight-is : inFlight (listed homes fars (bs ++ b ∷ []) .pair)
-      ≡ inFlightOf (passedRecords (pairValidator capacity) (pairOpened homes fars) (oneByOne (bs ++ b ∷ [])))
+  pub flight-is : inFlight (listed tariff homes fars (bs ++ b ∷ []) .pair)
+      ≡ inFlightOf (passedRecords (pairValidator capacity) (pairOpened tariff homes fars) (oneByOne (bs ++ b ∷ [])))
   -- the three figures add up to the supply
-  pub conserved : total (listed homes fars (bs ++ b ∷ []) .pair .home .balances)
-      + total (listed homes fars (bs ++ b ∷ []) .pair .far .balances)
-      + inFlight (listed homes fars (bs ++ b ∷ []) .pair)
+  pub conserved : total (listed tariff homes fars (bs ++ b ∷ []) .pair .home .balances)
+      + total (listed tariff homes fars (bs ++ b ∷ []) .pair .far .balances)
+      + inFlight (listed tariff homes fars (bs ++ b ∷ []) .pair)
       ≡ total homes + total fars
 
 -- so it is for every line after every accepted opening
 unfoldable pub ListedAsRun : Type 0
 ListedAsRun =
-    (homes fars : List ℕ) → pairOpeningRefusal homes fars ≡ 0 → (bs : List (List ℕ)) (b : List ℕ) → LineAsRun homes fars bs b
+    (tariff : Tariff) (homes fars : List ℕ) → pairOpeningRefusal tariff homes fars ≡ 0 → (bs : List (List ℕ)) (b : List ℕ)
+    → LineAsRun tariff homes fars bs b

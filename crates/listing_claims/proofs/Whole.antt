@@ -5,17 +5,18 @@ use Rattle.journal.proofs.ReadBack.{written-reads}
 use Rattle.journal.specs.Journal.{AllBlocksPass, Reads, WrittenReads, allRecords, joined, journalOf}
 use Rattle.journal_blocks.proofs.Checking.{right-facts}
 use Rattle.journal_blocks.proofs.Items.{length-records}
-use Rattle.journal_blocks.specs.Blocks.{balancesOf, recordsOf, statedCount}
+use Rattle.journal_blocks.specs.Blocks.{balancesOf, recordsOf, statedCount, tariffIn}
 use Rattle.ledgers.specs.Limits.{capacity}
 use Rattle.listing.proofs.Blocks.{lines-append, state-last}
 use Rattle.listing.specs.Listing.{Progress, afterBlock, blockText, blocksIn, blocksText, figuresLine, listing, openedProgress, openingText}
 use Rattle.listing.specs.Listing.{progressBy, recordLines, unlessFault, whileGoing}
-use Rattle.listing_claims.specs.Whole.{LinesOfRecords, ListedRefused, ListedWhole, ListedWritten}
+use Rattle.listing_claims.specs.Whole.{LinesOfRecords, ListedBadFirst, ListedRefused, ListedWhole, ListedWritten}
 use Rattle.listing_lines.specs.Lines.{headerLine, openLine}
 use Rattle.rules.proofs.ListCalls.{cut-first}
 use Rattle.rules.specs.Calls.{Checker}
 use Rattle.rules.specs.Lists.{cut}
 use Rattle.rules.specs.PairValidator.{pairOpened, pairOpeningRefusal, pairValidator}
+use Rattle.rules.specs.Rules.{Tariff}
 
 -- ## The lines of records
 
@@ -49,17 +50,17 @@ blocks-back k before (b ∷ bs) h =
     rw (c, take-at b (joined bs) 512 l, drop-at b (joined bs) 512 l, blocks-back (suc k) (statedCount b) bs (h .1))
 
 -- the listing of an opening with a refusal, or 0, and of records
-abbrev listedBy : ℕ → List ℕ → List ℕ → List (List ℕ) → List ℕ
-listedBy n home far records =
+abbrev listedBy : ℕ → Tariff → List ℕ → List ℕ → List (List ℕ) → List ℕ
+listedBy n tariff home far records =
     headerLine
     ++ unlessFault n 1
-    (openLine (figuresLine (pairOpened home far)) ++ recordLines (pairValidator capacity) figuresLine (pairOpened home far) 0 records)
+    (openLine (figuresLine (pairOpened tariff home far)) ++ recordLines (pairValidator capacity) figuresLine (pairOpened tariff home far) 0 records)
 
 -- a journal that reads is listed by what it holds
-listed-by : (j home far : List ℕ) (records : List (List ℕ)) → Reads j home far records
-    → listing j ≡ listedBy (pairOpeningRefusal home far) home far records
+listed-by : (j : List ℕ) (tariff : Tariff) (home far : List ℕ) (records : List (List ℕ)) → Reads j tariff home far records
+    → listing j ≡ listedBy (pairOpeningRefusal tariff home far) tariff home far records
 unfolding AllBlocksPass joined listing openingText
-listed-by j home far records r =
+listed-by j tariff home far records r =
     let rest = joined (r .second ∷ r .others) in
     let later = joined (r .others) in
     let l0 = right-facts (r .first) 0 0 (r .right .0) .long in
@@ -71,24 +72,30 @@ listed-by j home far records r =
     rw (← (drop-drop 512 512 j), left, drop-at (r .second) later 512 l1)
     (blocks-back 2 (statedCount (r .second)) (r .others) (r .right .1 .1)) in
     let lines = lines-of-blocks (pairValidator capacity) figuresLine
-    (openedProgress (pairOpened (balancesOf (r .first)) (balancesOf (r .second))) (statedCount (r .second))) (r .others) refl (r .right .1
+    (openedProgress (pairOpened (tariffIn (r .first)) (balancesOf (r .first)) (balancesOf (r .second))) (statedCount (r .second))) (r .others) refl (r .right .1
     .1) in
-    rw (first, second, others, r .right .0, r .right .1 .0, lines, r .home-balances, r .far-balances, r .record-list)
+    rw (first, second, others, r .right .0, r .right .1 .0, lines, r .tariff-is, r .home-balances, r .far-balances, r .record-list)
 
 -- ## The claims
 
 -- a journal with an accepted opening
 pub listed-whole : ListedWhole
 unfolding ListedWhole
-listed-whole j home far records r o = listed-by j home far records r ∙ ap (λ (n : ℕ). listedBy n home far records) o
+listed-whole j tariff home far records r o = listed-by j tariff home far records r ∙ ap (λ (n : ℕ). listedBy n tariff home far records) o
 
 -- one with a refused opening
 pub listed-refused : ListedRefused
 unfolding ListedRefused
-listed-refused j home far records r n o = listed-by j home far records r ∙ ap (λ (m : ℕ). listedBy m home far records) o
+listed-refused j tariff home far records r n o =
+    listed-by j tariff home far records r ∙ ap (λ (m : ℕ). listedBy m tariff home far records) o
 
 -- a written journal
 pub listed-written : ListedWritten
 unfolding ListedWritten ListedWhole WrittenReads
-listed-written home far records w o =
-    listed-whole (journalOf home far records) home far records (written-reads home far records w) o
+listed-written tariff home far records w o =
+    listed-whole (journalOf tariff home far records) tariff home far records (written-reads tariff home far records w) o
+
+-- a bad block 0
+pub listed-bad-first : ListedBadFirst
+unfolding ListedBadFirst listing openingText
+listed-bad-first j n h = rw h

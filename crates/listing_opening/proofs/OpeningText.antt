@@ -6,7 +6,7 @@ use Rattle.answers.proofs.Answers.{tells}
 use Rattle.answers.specs.Answers.{Tells, answer, numberOf, orElse}
 use Rattle.answers.specs.declared.Answer.the-variants.{Passed, Refused}
 use Rattle.journal_blocks.proofs.Items.{length-balances}
-use Rattle.journal_blocks.specs.Blocks.{balanceTable, balancesOf, statedCount}
+use Rattle.journal_blocks.specs.Blocks.{balanceTable, balancesOf, statedCount, tariffIn}
 use Rattle.journal_blocks.specs.Checked.{blockRefusal}
 use Rattle.journal_reader.specs.Judged.{balancesRefusal, openingOf}
 use Rattle.journal_reader.specs.declared.Balances.{Balances}
@@ -22,7 +22,7 @@ use Rattle.rules.proofs.Lists.{never-both-tests}
 use Rattle.rules.proofs.Parts.{drop-least, take-least}
 use Rattle.rules.specs.Lists.{sum, total}
 use Rattle.rules.specs.PairValidator.{pairOpened, pairOpeningRefusal}
-use Rattle.rules.specs.Rules.{flight, inFlight}
+use Rattle.rules.specs.Rules.{Tariff, flight, inFlight}
 
 -- ## The first two blocks
 
@@ -56,13 +56,13 @@ module _ (home far : List ℕ) where
 
     module _ (b : blockRefusal far 1 (statedCount home) ≡ 0) where
       -- a refusal of the opening, told as a fault of block 1
-      pub at-pair : {n : ℕ} → n ≡ pairOpeningRefusal (balancesOf home) (balancesOf far) → (n ≡ 0 → ⊥) → (rest : List ℕ)
+      pub at-pair : {n : ℕ} → n ≡ pairOpeningRefusal (tariffIn home) (balancesOf home) (balancesOf far) → (n ≡ 0 → ⊥) → (rest : List ℕ)
           → openingText home far rest ≡ faultLine n 1
       unfolding openingText
       at-pair e r rest = rw (a, b, ← e) (fault-only _ 1 _ r)
 
       -- an accepted opening: its line, and the rest
-      pub at-open : pairOpeningRefusal (balancesOf home) (balancesOf far) ≡ 0 → (rest : List ℕ)
+      pub at-open : pairOpeningRefusal (tariffIn home) (balancesOf home) (balancesOf far) ≡ 0 → (rest : List ℕ)
           → openingText home far rest ≡ openLine (figuresText (total (balancesOf home)) (total (balancesOf far)) 0) ++ rest
       unfolding openingText inFlight flight sum
       at-open z rest = rw (a, b, z)
@@ -89,12 +89,12 @@ fault-leaves {P} home far start n block t p q z g =
 pub open-leaves : (home far : List ℕ) (row : Row) {d e f state : List ℕ} {o before end : ℕ}
     → blockRefusal home 0 0 ≡ 0
     → blockRefusal far 1 (statedCount home) ≡ 0
-    → pairOpeningRefusal (balancesOf home) (balancesOf far) ≡ 0
+    → pairOpeningRefusal (tariffIn home) (balancesOf home) (balancesOf far) ≡ 0
     → TextPut d 0 headerLine e o
     → TextPut e o (openLine (figuresText (row .home) (row .far) 0)) f end
-    → row ≡ rowOf 0 (pairOpened (balancesOf home) (balancesOf far))
+    → row ≡ rowOf 0 (pairOpened (tariffIn home) (balancesOf home) (balancesOf far))
     → before ≡ statedCount far
-    → state ≡ pairOpenedWords (balancesOf home) (balancesOf far)
+    → state ≡ pairOpenedWords (tariffIn home) (balancesOf home) (balancesOf far)
     → TextPut d 0 (headerLine ++ openingText home far []) f end
     × ((true ≡ true → OpenedIn home far (record { row = row; before = before; end = end; going = true }) state)
     × ((true ≡ false → (rest : List ℕ) → openingText home far rest ≡ openingText home far [])
@@ -114,6 +114,11 @@ open-leaves home far row a b z p q r k w =
 
 -- ## What the reader hands out
 
+-- what is made of the same tariff and the same balances is the same
+pub same-opening : {A : Type 0} (f : Tariff → List ℕ → List ℕ → A) {t u : Tariff} {h i g j : List ℕ} → t ≡ u → h ≡ i → g ≡ j
+    → f t h g ≡ f u i j
+same-opening f p q r = λ k. f (p k) (q k) (r k)
+
 -- a refusal where no later test refuses
 else-none : (n : ℕ) → orElse n 0 ≡ n
 else-none zero = refl
@@ -128,6 +133,7 @@ refused-some (suc n) p m q e z = omega arith
 pub record Handed (b : List ℕ) (k before : ℕ) (r : Balances) : Type 0 where
   pub none : blockRefusal b k before ≡ 0
   pub count-is : r .count ≡ statedCount b
+  pub tariff-is : r .tariff ≡ tariffIn b
   pub balances-are : take (r .count) (r .balances) ≡ balancesOf b
   pub fits : r .count ≤ length (r .balances)
 
@@ -149,7 +155,7 @@ module _ (b : List ℕ) (k before : ℕ) (low : k < 2) {r : Balances} (h : r ≡
       let n = t ∙ number-told in
       (n, λ z. refused-some (balancesRefusal b k before) k m q (rw h at e) (kind-none ∙ sym n ∙ z))
 
-  -- where it passed there is none, and the count and the balances were handed out
+  -- where it passed there is none, and the count, the tariff and the balances were handed out
   pub handed : r .answer ≡ Passed → Handed b k before r
   unfolding openingOf
   handed e =
@@ -161,6 +167,7 @@ module _ (b : List ℕ) (k before : ℕ) (low : k < 2) {r : Balances} (h : r ≡
       record {
         none = z;
         count-is = count;
+        tariff-is = rw (h, n);
         balances-are = rw (count, table) (take-at (balancesOf b) _ (statedCount b) l);
         fits = rw (count, table, length-append) (omega (arith, l));
       }

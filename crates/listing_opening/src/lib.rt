@@ -70,11 +70,12 @@ fn list_opening<'a, 'b, 'c>(
     let Answer::Passed = far_answer else {
         return stopped(put_fault(out, a, far_answer.number() as u64, 1));
     };
+    let tariff = first.tariff;
     let homes = first.balances;
     let fars = second.balances;
     let n = first.count as usize;
     let m = second.count as usize;
-    let row = first_row(&homes[..n], &fars[..m], state);
+    let row = first_row(&homes[..n], &fars[..m], tariff, state);
     if row.refusal != 0 {
         return stopped(put_fault(out, a, row.refusal as u64, 1));
     }
