@@ -1,7 +1,7 @@
 -- A whole listing from its parts: what the opening leaves, alone or with the turns after it. Assumes nothing.
 use Rattle.wire.proofs.Prelude.{Bool, List, [], _*_, _++_, _∙_, _≡_, _≤_, ap, ap₂, drop, false, length, length-replicate, refl, replicate}
 use Rattle.wire.proofs.Prelude.{subst, sym, take, true, ℕ}
-use Rattle.journal_blocks.specs.Blocks.{balancesOf}
+use Rattle.journal_blocks.specs.Blocks.{balancesOf, tariffIn}
 use Rattle.listing.specs.Chunks.{openedBy}
 use Rattle.listing.specs.Listing.{Progress, openedProgress}
 use Rattle.listing_journal.specs.Turns.{JournalListed, SomeLastTurn, noRow, noTurn, openingAlone, startText}
@@ -30,9 +30,9 @@ pub started : (home far : List ℕ) (start : Start) (state : List ℕ) → Opene
     → RowReady state (replicate (2 * indexLength) 0) (start .row)
 started home far start state o =
     let n = ap (λ (x : Row). x .refusal) (o .row-is) in
-    let v = opened-view (balancesOf home) (balancesOf far) (o .unrefused) in
+    let v = opened-view (tariffIn home) (balancesOf home) (balancesOf far) (o .unrefused) in
     record {
-      ready = rw (o .state-is) (opened-ready (balancesOf home) (balancesOf far) (o .unrefused));
+      ready = rw (o .state-is) (opened-ready (tariffIn home) (balancesOf home) (balancesOf far) (o .unrefused));
       row-is = o .row-is ∙ ap₂ rowOf (sym n) (sym (ap pairViewOf (o .state-is) ∙ v));
     }
 

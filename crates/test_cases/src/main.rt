@@ -1,4 +1,4 @@
-// Runs document 01's cases 1 to 14 on the validators, and as case 0 forged states and lists, and prints for each call the case,
+// Runs document 01's cases 1 to 14 on the validators, and as case 0 charges, forged states and lists, and prints for each call the case,
 // the answer's number and the figures of the state that came back.
 use answers::Answer;
 use home_validator::HomeOutcome;
@@ -9,6 +9,7 @@ use libc::STDOUT_FILENO;
 use pair_validator::PairOutcome;
 use pair_validator::PairValidator;
 use records::Record;
+use tariffs::Tariff;
 
 // A number after a space.
 fn print(n: u64) {
@@ -56,19 +57,33 @@ fn bytes_of(kind: Kind, sender: u16, receiver: u16, number: u64, amount: u64) ->
     r.encode()
 }
 
-// Home 100 and 50, far 20.
-fn opened() -> PairValidator {
+// A charge of so many ten-thousandths, paid to an account.
+fn taking(rate: u64, account: u64) -> Tariff {
+    Tariff { rate, account }
+}
+
+// Home 100 and 50, far 20, and a charge.
+fn charged(tariff: Tariff) -> PairValidator {
     let homes = [100u64, 50];
     let fars = [20u64];
-    let o = PairValidator::open(&homes, &fars);
+    let o = PairValidator::open(&homes, &fars, tariff);
     o.state
 }
 
 // The home validator with the same.
-fn home_opened() -> HomeValidator {
+fn home_charged(tariff: Tariff) -> HomeValidator {
     let homes = [100u64, 50];
-    let o = HomeValidator::open(&homes, 1, 20);
+    let o = HomeValidator::open(&homes, 1, 20, tariff);
     o.state
+}
+
+// Both with no charge.
+fn opened() -> PairValidator {
+    charged(taking(0, 0))
+}
+
+fn home_opened() -> HomeValidator {
+    home_charged(taking(0, 0))
 }
 
 // One record handed to a state of the pair validator: its line, and the state.
@@ -177,23 +192,68 @@ fn signatures() {
     pair_one(11, used, bytes);
 }
 
-// The lines of an opening with home balances and one far balance.
-fn opening(case: u64, homes: &[u64], far: u64) {
+// The lines of an opening with home balances, one far balance and a charge.
+fn opening(case: u64, homes: &[u64], far: u64, tariff: Tariff) {
     let fars = [far];
-    pair_line(case, PairValidator::open(homes, &fars));
-    home_line(case, HomeValidator::open(homes, 1, far));
+    pair_line(case, PairValidator::open(homes, &fars, tariff));
+    home_line(case, HomeValidator::open(homes, 1, far, tariff));
 }
 
 // Cases 12 and 14: openings.
 fn openings() {
     let greatest = [9223372036854775807u64];
-    opening(12, &greatest, 0);
-    opening(12, &greatest, 1);
+    let free = taking(0, 0);
+    opening(12, &greatest, 0, free);
+    opening(12, &greatest, 1, free);
     let most = [1u64; 56];
-    opening(14, &most, 0);
+    opening(14, &most, 0, free);
     let more = [1u64; 57];
-    opening(14, &more, 0);
-    opening(14, &more[..0], 0);
+    opening(14, &more, 0, free);
+    opening(14, &more[..0], 0, free);
+}
+
+// 52 after 1 and 2: a rate above 10,000, an account that is not open, also at rate 0, and numbers beyond 16 bits.
+fn tariffs_judged() {
+    let homes = [100u64, 50];
+    opening(0, &homes, 20, taking(10000, 1));
+    opening(0, &homes, 20, taking(10001, 1));
+    opening(0, &homes, 20, taking(0, 2));
+    opening(0, &homes, 20, taking(65586, 65536));
+    let greatest = [9223372036854775807u64];
+    opening(0, &greatest, 1, taking(10001, 1));
+}
+
+// A home sending at rate 10,000, which costs twice its amount: by another account than the one that is paid, by that one, one that is too
+// much with the charge; then a local, a far sending and an arrival, which cost nothing more.
+fn charges() {
+    let s = charged(taking(10000, 1));
+    let sent = pair_one(0, s, bytes_of(Kind::Sending(Ledger::Home), 0, 0, 7, 50));
+    pair_one(0, s, bytes_of(Kind::Sending(Ledger::Home), 0, 0, 7, 51));
+    pair_one(0, s, bytes_of(Kind::Sending(Ledger::Home), 1, 0, 7, 25));
+    pair_one(
+        0,
+        sent,
+        bytes_of(Kind::Local(Ledger::Home), 1, 0, 8, 100),
+    );
+    pair_one(0, sent, bytes_of(Kind::Sending(Ledger::Far), 0, 0, 8, 20));
+    pair_one(
+        0,
+        sent,
+        bytes_of(Kind::Receiving(Ledger::Far), 0, 0, 7, 50),
+    );
+    let h = home_charged(taking(10000, 0));
+    let own = home_one(0, h, bytes_of(Kind::Sending(Ledger::Home), 0, 0, 7, 50));
+    home_one(0, h, bytes_of(Kind::Sending(Ledger::Home), 0, 0, 7, 51));
+    home_one(
+        0,
+        own,
+        bytes_of(Kind::Receiving(Ledger::Home), 0, 0, 8, 70),
+    );
+    home_one(
+        0,
+        own,
+        bytes_of(Kind::Receiving(Ledger::Home), 0, 0, 8, 71),
+    );
 }
 
 // Case 13: the 512th passed record of a ledger passes, the next is 41, and one with a used number is 24.
@@ -238,6 +298,12 @@ fn forged() {
     let mut pool = home_opened();
     pool.words[home_core::POOL_WORD] = 21;
     home_one(0, pool, bytes);
+    let mut rate = opened();
+    rate.words[pair_core::RATE_WORD] = 10001;
+    pair_one(0, rate, bytes);
+    let mut account = home_opened();
+    account.words[home_core::CHARGE_ACCOUNT_WORD] = 2;
+    home_one(0, account, bytes);
 }
 
 // A list of two records and a short rest, whose place of refusal follows; without the rest, empty, and as one record.
@@ -279,6 +345,8 @@ fn main() {
     arrivals();
     signatures();
     openings();
+    tariffs_judged();
+    charges();
     full_table();
     forged();
     lists();

@@ -26,6 +26,7 @@ fn same_again(block: &[u8], k: u64) -> bool {
         &mut out,
         k,
         journal_blocks::kind_of_block(k),
+        journal_blocks::tariff_in(block),
         &block[32..end],
     );
     let Answer::Passed = answer else {
