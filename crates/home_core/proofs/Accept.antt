@@ -3,7 +3,7 @@ use Rattle.wire.proofs.Prelude.{Bool, List, [], _&&_, _+_, _-_, _∙_, _∷_, _
 use Rattle.wire.proofs.Prelude.{leb-true, length, length-drop, length-take-le, refl, subst, sym, true, ℕ}
 use Rattle.home_core.specs.Layout.{HomeReady, acceptsHome, homeBalancesWord, farAccountsOf, homeBounds, homeCountOf, homeViewOf, homeWords}
 use Rattle.home_core.specs.Layout.{homeAccountsOf}
-use Rattle.home_core.specs.Layout.{homeSupplyOf, poolOf}
+use Rattle.home_core.specs.Layout.{homeSupplyOf, homeTariffOf, poolOf}
 use Rattle.ledgers.specs.Limits.{accountLimit, capacity, maxAmount}
 use Rattle.places.proofs.BalanceTotals.{balances-sum}
 use Rattle.places.proofs.Openings.{count-facts, facts-count}
@@ -20,6 +20,7 @@ use Rattle.rules.specs.Rules.{Far, Home, Ledger}
 use Rattle.table.proofs.Numbers.{apart-records}
 use Rattle.table.proofs.Records.{AllHeld, all-held, held-all, length-held-records}
 use Rattle.table.specs.Table.{accountsBy, ledgerIn, mayHoldAt, sharedAt, wordsAt}
+use Rattle.tariffs.specs.Tariffs.{tariffAllowed}
 use Rattle.wire.proofs.Lists.{and-both, every-both, every-first, every-none, same-tests}
 use Rattle.wire.specs.BigEndian.{every}
 
@@ -33,6 +34,7 @@ pub record HomeBounds (s : List ℕ) : Type 0 where
   pub far-fits : farAccountsOf s ≤ accountLimit
   pub room : homeCountOf s ≤ capacity
   pub supply-fits : homeSupplyOf s ≤ maxAmount
+  pub pays : tariffAllowed (homeTariffOf s) (homeAccountsOf s) ≡ true
 
 -- from the test
 pub bounds-facts : (s : List ℕ) → homeBounds s ≡ true → HomeBounds s
@@ -42,6 +44,7 @@ bounds-facts s h =
     let b = every-first _ _ (a .1) in
     let c = every-first _ _ (b .1) in
     let d = every-first _ _ (c .1) in
+    let e = every-first _ _ (d .1) in
     record {
       home-some = count-facts (homeAccountsOf s) (a .0) .0;
       home-fits = count-facts (homeAccountsOf s) (a .0) .1;
@@ -49,6 +52,7 @@ bounds-facts s h =
       far-fits = count-facts (farAccountsOf s) (b .0) .1;
       room = leb-true (homeCountOf s) capacity (c .0);
       supply-fits = leb-true (homeSupplyOf s) maxAmount (d .0);
+      pays = e .0;
     }
 
 -- and back
@@ -59,7 +63,8 @@ facts-bounds s b =
     (every-both _ _ (facts-count (farAccountsOf s) (b .far-some) (b .far-fits))
     (every-both _ _ (le-leb (homeCountOf s) capacity (b .room))
     (every-both _ _ (le-leb (homeSupplyOf s) maxAmount (b .supply-fits))
-    every-none)))
+    (every-both _ _ (b .pays)
+    every-none))))
 
 -- ## Accepted words
 
@@ -174,6 +179,7 @@ module _ (s : List ℕ) (z : length s ≡ homeWords) (b : HomeBounds s) where
         far-count = facts-count (farAccountsOf s) (b .far-some) (b .far-fits);
         room = rw (length-held s) (b .room);
         supply-fits = le-leb (homeSupplyOf s) maxAmount (b .supply-fits);
+        pays = rw (length-balances s z (b .home-fits)) (b .pays);
         allowed = h .allowed;
         distinct = unshared-distinct _ (sym (apart-records s 0 (homeCountOf s)) ∙ apart);
         stand = h .stand;

@@ -3,7 +3,7 @@ use Rattle.wire.proofs.Prelude.{Bool, List, _∙_, _≡_, false, leb, refl, sym
 use Rattle.answers.proofs.Answers.{refuse-later}
 use Rattle.answers.specs.Answers.{orElse, refuse}
 use Rattle.home_core.proofs.Accept.{length-held}
-use Rattle.home_core.specs.Layout.{homeBalancesWord, homeCountOf, homeViewOf, homeAccountsOf, poolOf}
+use Rattle.home_core.specs.Layout.{homeBalancesWord, homeCountOf, homeTariffOf, homeViewOf, homeAccountsOf, poolOf}
 use Rattle.ledgers.specs.Ledgers.{ledgerOf, receiverLedger, senderLedger}
 use Rattle.ledgers.specs.Limits.{capacity}
 use Rattle.places.proofs.Refusals.{funds-at, judged-by}
@@ -12,7 +12,7 @@ use Rattle.places.specs.OverPlaces.{anyAt}
 use Rattle.rules.proofs.Lists.{never-both-tests}
 use Rattle.rules.specs.HomeValidator.{homeAccounts, homeJudge, homeJudgeRecord, homeLastRefusal, isFar, poolRefusal}
 use Rattle.rules.specs.PairValidator.{roomRefusal}
-use Rattle.rules.specs.Rules.{Kind, Local, Read, Receiving, Record, Sending, firstRefusal, isReceiving}
+use Rattle.rules.specs.Rules.{Kind, Local, Read, Receiving, Record, Sending, firstRefusal, fundsRefusal, isReceiving}
 use Rattle.table.proofs.Numbers.{clash-records}
 use Rattle.table.specs.Table.{ledgerIn, usedAt}
 
@@ -24,11 +24,15 @@ module _ (s : List ℕ) (r : Record) where
   last-pooled (Receiving l) h = refl
 
   -- a local or sending is paid
-  pub last-paid : (k : Kind) → isReceiving k ≡ false → fundsAt s homeBalancesWord (homeAccountsOf s) r ≡ homeLastRefusal (homeViewOf s) r k
+  pub last-paid : isReceiving (r .kind) ≡ false
+      → fundsAt s homeBalancesWord (homeAccountsOf s) (homeTariffOf s .rate) r ≡ homeLastRefusal (homeViewOf s) r (r .kind)
   unfolding ledgerIn
-  last-paid (Local l) h = sym (funds-at s homeBalancesWord (homeAccountsOf s) r)
-  last-paid (Sending l) h = sym (funds-at s homeBalancesWord (homeAccountsOf s) r)
-  last-paid (Receiving l) h = absurd (never-both-tests h)
+  last-paid h = sym (funds-at (homeViewOf s .home) s homeBalancesWord (homeAccountsOf s) r refl) ∙ go (r .kind) h
+    where
+      go : (k : Kind) → isReceiving k ≡ false → fundsRefusal (homeViewOf s .home) r k ≡ homeLastRefusal (homeViewOf s) r k
+      go (Local l) q = refl
+      go (Sending l) q = refl
+      go (Receiving l) q = absurd (never-both-tests q)
 
   -- the refusals in order are the home validator's
   pub judge-by : {far senders receivers last full later rest n : ℕ} {taken : Bool} → far ≡ refuse (isFar (ledgerOf (r .kind))) 33 0

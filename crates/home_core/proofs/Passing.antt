@@ -4,12 +4,12 @@ use Rattle.wire.proofs.Prelude.{List, _*_, _+_, _-_, _<_, _^_, _∙_, _≡_, _�
 use Rattle.wire.proofs.Prelude.{length-set, refl, set, sym, true, ℕ}
 use Rattle.answers.proofs.Answers.{or-else-zero}
 use Rattle.home_core.proofs.Accept.{HomeBounds, HomeSound, length-balances, length-held, sound-accepts, sound-of}
-use Rattle.home_core.specs.Layout.{HomeReady, acceptsHome, homeBalancesWord, farAccountsOf, farAccountsWord, homeCountOf, homeCountWord, homeViewOf}
-use Rattle.home_core.specs.Layout.{homeWith}
+use Rattle.home_core.specs.Layout.{HomeReady, acceptsHome, homeBalancesWord, farAccountsOf, farAccountsWord, homeCountOf, homeCountWord}
+use Rattle.home_core.specs.Layout.{homeTariffOf, homeTariffWord, homeViewOf, homeWith}
 use Rattle.home_core.specs.Layout.{homeSupplyOf, homeSupplyWord, homeAccountsOf, homeAccountsWord, poolOf, poolWord}
 use Rattle.ledgers.specs.Limits.{accountLimit, capacity, maxAmount}
 use Rattle.places.proofs.PassedRecord.{Changes, zeros-kept}
-use Rattle.places.specs.Amounts.{givenBy, takenBy}
+use Rattle.places.specs.Amounts.{creditBy, debitBy, givenBy, payeeBy, takenBy}
 use Rattle.places.specs.LedgerBalances.{zerosAt}
 use Rattle.places.specs.OverPlaces.{allAt}
 use Rattle.records.proofs.Formed.{read-formed}
@@ -24,7 +24,8 @@ use Rattle.rules.specs.Rules.{Far, Home, Kind, LedgerState, Local, Read, Receiv
 use Rattle.table.proofs.Balances.{balance-fits, balance-in, given-fits}
 use Rattle.table.proofs.Growing.{index-grown}
 use Rattle.table.proofs.Storing.{LedgerStored, Stored, ledger-stored-of, stored-of}
-use Rattle.table.specs.Table.{stored, withNumber, wordsAt}
+use Rattle.table.specs.Table.{ledgerIn, stored, withNumber, wordsAt}
+use Rattle.tariffs.proofs.Allowing.{allowed-open, allowed-rate}
 
 -- ## Balances stay in 64 bits
 
@@ -36,17 +37,18 @@ module _ (s : List ℕ) (o : HomeSound s) where
   -- any balance is at most the greatest amount
   balance-most : (i : ℕ) → i < accountLimit → getD s (homeBalancesWord + i) 0 ≤ maxAmount
   balance-most i h =
-      balance-fits s homeBalancesWord (homeAccountsOf s) 0 (homeCountOf s) accountLimit (o .zeros) maxAmount (omega (arith, sums-fit)) i h
+      balance-fits (homeTariffOf s) s homeBalancesWord (homeAccountsOf s) 0 (homeCountOf s) accountLimit (o .zeros) maxAmount
+      (omega (arith, sums-fit)) i h
 
 -- ## A pass
 
 -- what a pass says of a record of a kind
 pub record HomePasses (s : List ℕ) (r : Record) (k : Kind) : Type 0 where
   pub room : homeCountOf s < capacity
-  pub changes : Changes (homeAccountsOf s) r k
+  pub changes : Changes (homeAccountsOf s) (homeTariffOf s .account) r k
   pub sender : r .sender < accountLimit
-  pub receiver : r .receiver < accountLimit
-  pub pays : takenBy k (r .amount) ≤ getD s (homeBalancesWord + r .sender) 0
+  pub payee : payeeBy (homeTariffOf s .account) k (r .receiver) < accountLimit
+  pub pays : debitBy (homeTariffOf s .rate) k (r .amount) ≤ getD s (homeBalancesWord + r .sender) 0
   pub pool-has : givenBy k (r .amount) ≤ poolOf s + takenBy k (r .amount)
   pub pool-fits : poolOf s + takenBy k (r .amount) ≤ maxAmount
 
@@ -59,20 +61,21 @@ module _ (s : List ℕ) (o : HomeSound s) (r : Record) (space : homeCountOf s < 
   pays-by : r .sender < homeAccountsOf s → (getD s (homeBalancesWord + r .sender) 0 ≡ getD (homeViewOf s .home .balances) (r .sender) 0)
       × (getD (homeViewOf s .home .balances) (r .sender) 0 ≤ total (homeViewOf s .home .balances))
   pays-by x = (
-    balance-in s homeBalancesWord (homeAccountsOf s) 0 (homeCountOf s) (r .sender) x,
+    balance-in (homeTariffOf s) s homeBalancesWord (homeAccountsOf s) 0 (homeCountOf s) (r .sender) x,
     balance-total (homeViewOf s .home .balances) (r
         .sender),
   )
 
   -- from what the rules ask
   passes-by : (k : Kind) → HomePassable (homeViewOf s) r k → HomePasses s r k
-  unfolding HomePassable Changes
+  unfolding HomePassable Changes ledgerIn
   passes-by (Local Home) h =
       let x : r .sender < homeAccountsOf s = rw own at (h .0 .sender-open) in
       omega (arith, h .0 .receiver-open, own, o .bounds .home-fits, h .1, pays-by x, sums-fit s o)
   passes-by (Sending Home) h =
       let x : r .sender < homeAccountsOf s = rw own at (h .0 .sender-open) in
-      omega (arith, h .0 .receiver-open, o .bounds .home-fits, o .bounds .far-fits, h .1, pays-by x, sums-fit s o)
+      let y = allowed-open (homeTariffOf s) (homeAccountsOf s) (o .bounds .pays) in
+      omega (arith, y, o .bounds .home-fits, h .1, pays-by x, sums-fit s o)
   passes-by (Receiving Home) h =
       omega (arith, h .0 .sender-open, h .0 .receiver-open, own, o .bounds .home-fits, o .bounds .far-fits, h .1, sums-fit s o)
   passes-by (Local Far) h = absurd h
@@ -89,13 +92,14 @@ passes-of s o r j =
 
 -- what is given to an account stays in 64 bits
 pub paid-fits : (s : List ℕ) → HomeSound s → (r : Record) → HomePasses s r (r .kind) → r .amount ≤ maxAmount
-    → getD (lowered s (homeBalancesWord + r .sender) (takenBy (r .kind) (r .amount))) (homeBalancesWord + r .receiver) 0
-    + givenBy (r .kind) (r .amount) < 2 ^ 64
+    → getD (lowered s (homeBalancesWord + r .sender) (debitBy (homeTariffOf s .rate) (r .kind) (r .amount)))
+    (homeBalancesWord + payeeBy (homeTariffOf s .account) (r .kind) (r .receiver)) 0
+    + creditBy (homeTariffOf s .rate) (r .kind) (r .amount) < 2 ^ 64
 paid-fits s o r p m =
-    given-fits s homeBalancesWord r (omega (arith, o .long, p .sender)) (balance-most s o (r .sender) (p .sender))
-    (balance-most s o (r .receiver) (p .receiver)) m
+    given-fits (homeTariffOf s) s homeBalancesWord r (allowed-rate (homeTariffOf s) (homeAccountsOf s) (o .bounds .pays))
+    (omega (arith, o .long, p .sender)) (balance-most s o (r .sender) (p .sender)) (balance-most s o _ (p .payee)) m
 
--- what a record takes from its sender enters the pool, and what it gives leaves it
+-- what a record takes from the ledger enters the pool, and what it gives to it leaves the pool
 pub pool-moved : (pool : ℕ) (r : Record) (k : Kind) → poolAfter pool r k ≡ pool + takenBy k (r .amount) - givenBy k (r .amount)
 pool-moved pool r (Local l) = omega arith
 pool-moved pool r (Sending l) = omega arith
@@ -106,12 +110,14 @@ pool-moved pool r (Receiving l) = omega arith
 -- words t are those after a pass: the ledger's by its store, the others by name
 pub record HomeWritten (s t : List ℕ) (w : Words) (r : Record) : Type 0 where
   pub long : length t ≡ length s
-  pub below : (i : ℕ) → i < homeSupplyWord → getD t i 0 ≡ getD (stored s homeBalancesWord (0 + 4 * homeCountOf s) w r) i 0
+  pub below : (i : ℕ) → i < homeSupplyWord → getD t i 0 ≡ getD (stored (homeTariffOf s) s homeBalancesWord (0 + 4 * homeCountOf s) w r) i 0
   pub supply : homeSupplyOf t ≡ homeSupplyOf s
   pub pool : poolOf t ≡ poolAfter (poolOf s) r (r .kind)
   pub homes : homeAccountsOf t ≡ homeAccountsOf s
   pub fars : farAccountsOf t ≡ farAccountsOf s
   pub count : homeCountOf t ≡ homeCountOf s + 1
+  pub rate : homeTariffOf t .rate ≡ homeTariffOf s .rate
+  pub account : homeTariffOf t .account ≡ homeTariffOf s .account
 
 -- two words stored, seen elsewhere
 set-two : (x : List ℕ) (j k a b i : ℕ) → (i ≡ j → ⊥) → (i ≡ k → ⊥) → getD (set (set x j a) k b) i 0 ≡ getD x i 0
@@ -120,12 +126,12 @@ set-two x j k a b i p q = getD-set-other (set x j a) k i b 0 q ∙ getD-set-othe
 module _ (s : List ℕ) (w : Words) (r : Record) (o : HomeSound s) (p : HomePasses s r (r .kind)) where
   -- the words after the store
   abbrev storedWords : List ℕ
-  storedWords = stored s homeBalancesWord (4 * homeCountOf s) w r
+  storedWords = stored (homeTariffOf s) s homeBalancesWord (4 * homeCountOf s) w r
 
   -- the store
-  is-stored : Stored s homeBalancesWord (homeAccountsOf s) (4 * homeCountOf s) w r
+  is-stored : Stored (homeTariffOf s) s homeBalancesWord (homeAccountsOf s) (4 * homeCountOf s) w r
   is-stored =
-      stored-of s homeBalancesWord (homeAccountsOf s) (4 * homeCountOf s) w r (p .changes) (omega (arith, p .room))
+      stored-of (homeTariffOf s) s homeBalancesWord (homeAccountsOf s) (4 * homeCountOf s) w r (p .changes) (omega (arith, p .room))
       (omega (arith, o .long, o .bounds .home-fits))
 
   -- a word above the balances that is neither the pool nor the count
@@ -146,7 +152,7 @@ module _ (s : List ℕ) (w : Words) (r : Record) (o : HomeSound s) (p : HomePass
         below =
             λ i h.
             set-two storedWords poolWord homeCountWord x (homeCountOf s + 1) i (λ q. omega arith) (λ q. omega arith)
-            ∙ ap (λ (a : ℕ). getD (stored s homeBalancesWord a w r) i 0) (sym z);
+            ∙ ap (λ (a : ℕ). getD (stored (homeTariffOf s) s homeBalancesWord a w r) i 0) (sym z);
         supply = above homeSupplyWord (omega arith) (λ q. omega arith) (λ q. omega arith);
         pool =
             getD-set-other (set storedWords poolWord x) homeCountWord poolWord (homeCountOf s + 1) 0 (λ q. omega arith)
@@ -155,20 +161,22 @@ module _ (s : List ℕ) (w : Words) (r : Record) (o : HomeSound s) (p : HomePass
         fars = above farAccountsWord (omega arith) (λ q. omega arith) (λ q. omega arith);
         count = getD-set-same (set storedWords poolWord x) homeCountWord (homeCountOf s + 1) 0
             (omega (arith, length-set storedWords poolWord x, is-stored .long, o .long));
+        rate = above homeTariffWord (omega arith) (λ q. omega arith) (λ q. omega arith);
+        account = above (homeTariffWord + 1) (omega arith) (λ q. omega arith) (λ q. omega arith);
       }
 
 module _ (s t : List ℕ) (w : Words) (r : Record) (o : HomeSound s) (p : HomePasses s r (r .kind)) (c : HomeWritten s t w r)
     (e : recordIn w ≡ r) where
   -- the ledger
-  ledger-after : LedgerStored s t homeBalancesWord (homeAccountsOf s) 0 (homeCountOf s) homeSupplyWord w r
+  ledger-after : LedgerStored (homeTariffOf s) s t homeBalancesWord (homeAccountsOf s) 0 (homeCountOf s) homeSupplyWord w r
   ledger-after =
-      ledger-stored-of s t homeBalancesWord (homeAccountsOf s) 0 (homeCountOf s) homeSupplyWord w r (p .changes) (omega (arith, p .room))
-      (omega (arith, o .bounds .home-fits)) (omega (arith, o .long)) (c .long) (c .below)
+      ledger-stored-of (homeTariffOf s) s t homeBalancesWord (homeAccountsOf s) 0 (homeCountOf s) homeSupplyWord w r (p .changes)
+      (omega (arith, p .room)) (omega (arith, o .bounds .home-fits)) (omega (arith, o .long)) (c .long) (c .below)
 
   -- the state, as the rules have it
   view-after : homeViewOf t ≡ homeAfter (homeViewOf s) (Read r)
   view-after =
-      rw (c .supply, c .pool, c .homes, c .fars, c .count)
+      rw (c .supply, c .pool, c .homes, c .fars, c .count, c .rate, c .account)
       (ap
       (λ (l : LedgerState).
       record { home = l; farAccounts = farAccountsOf s; farPool = poolAfter (poolOf s) r (r .kind); supply = homeSupplyOf s })
@@ -176,7 +184,16 @@ module _ (s t : List ℕ) (w : Words) (r : Record) (o : HomeSound s) (p : HomePa
 
   -- the bounds
   bounds-after : HomeBounds t
-  bounds-after = omega (arith, c .homes, c .fars, c .count, c .supply, p .room, o .bounds)
+  bounds-after =
+      record {
+        home-some = omega (arith, c .homes, o .bounds .home-some);
+        home-fits = omega (arith, c .homes, o .bounds .home-fits);
+        far-some = omega (arith, c .fars, o .bounds .far-some);
+        far-fits = omega (arith, c .fars, o .bounds .far-fits);
+        room = omega (arith, c .count, p .room);
+        supply-fits = omega (arith, c .supply, o .bounds .supply-fits);
+        pays = rw (c .rate, c .account, c .homes) (o .bounds .pays);
+      }
 
   -- balances beyond the accounts stay zero
   zeros-after : zerosAt t (homeBalancesWord + homeAccountsOf t) (accountLimit - homeAccountsOf t) ≡ true

@@ -1,7 +1,7 @@
 -- The state of the home validator (document 01: guard) is one array of words: the held records, four words each, as many as the
 -- capacity; the balances, as many as a ledger can have; then the supply, the far pool, the numbers of home and of far accounts, the
--- number of held records, and the tariff (document 02, U3): its rate and its account. Here stands what it is as the rules' state, what refusal 3 asks of it, and what a passed record makes of
--- it. Assumes nothing.
+-- number of held records, and the tariff (document 02, U3): its rate and its account. Here stands what it is as the rules' state, what
+-- refusal 3 asks of it, and what a passed record makes of it. Assumes nothing.
 use Prim.Native.Nat.{_*_, _+_, _-_, ℕ}
 use mathlib.Core.Bool.{Bool, true}
 use mathlib.Core.List.{List, [], _++_, _∷_}

@@ -223,14 +223,8 @@ fn pass(state: &mut [u64; WORDS], w: Words, r: Record)
     let kind = r.kind;
     let count = state[COUNT_WORD];
     let pool = state[POOL_WORD];
-    store(
-        state,
-        BALANCES_WORD,
-        4 * count as usize,
-        tariff_of(state),
-        w,
-        r,
-    );
+    let tariff = tariff_of(state);
+    store(state, BALANCES_WORD, 4 * count as usize, tariff, w, r);
     state[POOL_WORD] = pool + taken_by(kind, r.amount) - given_by(kind, r.amount); // a sending enters it, an arrival leaves it
     state[COUNT_WORD] = count + 1;
 }
