@@ -8,6 +8,7 @@ use Rattle.ledgers.specs.Limits.{capacity}
 use Rattle.records.specs.Records.{reading, wordsOf}
 use Rattle.rules.specs.Calls.{Checker}
 use Rattle.rules.specs.HomeValidator.{HomeView, homeJudge}
+use Rattle.rules.specs.Rules.{Tariff}
 
 -- ## The state
 
@@ -28,9 +29,9 @@ homeChecker =
 
 -- ## The opening
 
--- the state of an accepted opening
-abbrev pub homeOpenedState : List ℕ → ℕ → ℕ → HomeValidator
-homeOpenedState homes fars farTotal = record { words = homeOpenedWords homes fars farTotal }
+-- the state of an accepted opening, with its tariff (document 02, U3)
+abbrev pub homeOpenedState : Tariff → List ℕ → ℕ → ℕ → HomeValidator
+homeOpenedState tariff homes fars farTotal = record { words = homeOpenedWords tariff homes fars farTotal }
 
 -- the state beside a refused opening: all zero, which 3 refuses
 abbrev pub homeZeroState : HomeValidator

@@ -16,6 +16,7 @@ pub use asked::places_left;
 use home_core::WORDS;
 use home_core::take;
 use home_core::take_list;
+use tariffs::Tariff;
 
 // The state: the held records, the balances, and the numbers that home_core lays out after them. Words of records at or beyond the count
 // are not looked at, and only a passed record writes there.
@@ -31,15 +32,20 @@ pub struct HomeOutcome {
 }
 
 impl HomeValidator {
-    // An opening with the home balances, the number of far accounts and the far total: 1, 2. Beside a refusal stands the all-zero
-    // state, which every call refuses.
-    pub fn open(balances: &[u64], far_accounts: usize, far_total: u64) -> HomeOutcome
-        ensures answers { λ r. ⌜ r .answer ≡ answer (homeOpeningRefusal (now (balances .entry)) «far_accounts» «far_total») 0 ⌝ }
-        ensures hands_back { λ r. ⌜ r .state ≡ unlessRefused (homeOpeningRefusal (now (balances .entry)) «far_accounts» «far_total»)
-            (homeOpenedState (now (balances .entry)) «far_accounts» «far_total») homeZeroState ⌝ }
+    // An opening with the home balances, the number of far accounts, the far total and the tariff: 1, 2, 52. Beside a refusal stands the
+    // all-zero state, which every call refuses.
+    pub fn open(
+        balances: &[u64],
+        far_accounts: usize,
+        far_total: u64,
+        tariff: Tariff,
+    ) -> HomeOutcome
+        ensures answers { λ r. ⌜ r .answer ≡ answer (homeOpeningRefusal tariff (now (balances .entry)) «far_accounts» «far_total») 0 ⌝ }
+        ensures hands_back { λ r. ⌜ r .state ≡ unlessRefused (homeOpeningRefusal tariff (now (balances .entry)) «far_accounts» «far_total»)
+            (homeOpenedState tariff (now (balances .entry)) «far_accounts» «far_total») homeZeroState ⌝ }
     {
         let mut words = [0u64; WORDS];
-        let number = home_core::open(balances, far_accounts, far_total, &mut words);
+        let number = home_core::open(balances, far_accounts, far_total, tariff, &mut words);
         HomeOutcome {
             answer: Answer::new(number, 0),
             state: HomeValidator { words },

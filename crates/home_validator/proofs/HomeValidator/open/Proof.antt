@@ -19,8 +19,8 @@ returns c =
       c .new .ensures ∙ ap (λ (n : ℕ). answer n 0) (e .0),
       ap {B = HomeValidator} (λ (w : List ℕ). record { words = w }) (e .1)
           ∙ opening-in {B = HomeValidator} (λ (w : List ℕ). record { words = w })
-          (homeOpeningRefusal (a .balances .now) (a .far-accounts) (a .far-total))
-          (homeOpenedWords (a .balances .now) (a .far-accounts) (a .far-total)) homeZeroWords,
+          (homeOpeningRefusal (a .tariff) (a .balances .now) (a .far-accounts) (a .far-total))
+          (homeOpenedWords (a .tariff) (a .balances .now) (a .far-accounts) (a .far-total)) homeZeroWords,
     )
 
 pub open-spec : {M : Type 1} → statement M
