@@ -1,10 +1,12 @@
 -- The claims about the home validator's calls: runs over the program's states are runs over the rules' states. Assumes nothing.
 use Rattle.wire.proofs.Prelude.{List, _-_, _∙_, _≡_, ap, arith, dichotomy, inl, inr, leb, leb-false, leb-true, length, refl, sym, true, ℕ}
+use Rattle.answers.proofs.Answers.{or-else-zero}
 use Rattle.answers.specs.Answers.{answer}
-use Rattle.home_claims.specs.Claims.{HomeCallsAsRules, HomeFullWhenNoneLeft, HomeHeldAccountsOpen, HomeInPlaceAsByValue}
-use Rattle.home_claims.specs.Claims.{HomeListsAndRefusals, HomeOpenedAsRules, HomePlacesLeft, HomeRunsInPlaceAsByValue}
-use Rattle.home_claims.specs.Claims.{HomeStatesAnswer, HomeStatesStayAccepted, HomeStatesWithin, HomeTellsAccount, HomeThreeExactly}
-use Rattle.home_claims.specs.Claims.{HomeZeroRefused, homePassedOfRun, homePlacesLeft, homeStateOfRun}
+use Rattle.home_claims.specs.Claims.{HomeCallsAsRules, HomeChargesPaid, HomeFullWhenNoneLeft, HomeHeldAccountsOpen}
+use Rattle.home_claims.specs.Claims.{HomeInPlaceAsByValue, HomeListsAndRefusals, HomeOpenedAsRules, HomePlacesLeft}
+use Rattle.home_claims.specs.Claims.{HomeRunsInPlaceAsByValue, HomeSendingsCostExactly, HomeStatesAnswer, HomeStatesStayAccepted}
+use Rattle.home_claims.specs.Claims.{HomeStatesWithin, HomeTellsAccount, HomeThreeExactly, HomeZeroRefused, homePassedOfRun}
+use Rattle.home_claims.specs.Claims.{homePlacesLeft, homeStateOfRun}
 use Rattle.home_core.proofs.Accept.{length-held, sound-accepts, sound-of}
 use Rattle.home_core.proofs.Opened.{opened-sound, opened-view, zero-refused}
 use Rattle.home_core.proofs.Passing.{next-of}
@@ -15,6 +17,7 @@ use Rattle.ledgers.specs.Limits.{capacity}
 use Rattle.ledgers.specs.declared.Ledger.the-variants.{Home}
 use Rattle.records.specs.Records.{reading}
 use Rattle.rules.proofs.Accounts.{held-open, home-tells}
+use Rattle.rules.proofs.Charges.{home-accounts-add-up, home-sendings-cost}
 use Rattle.rules.proofs.HomeAccepted.{home-accepts-facts}
 use Rattle.rules.proofs.HomeExactly.{exactly-when-possible}
 use Rattle.rules.proofs.HomePool.{within-pool}
@@ -23,9 +26,12 @@ use Rattle.rules.proofs.NeverThree.{home-never-3, never-3}
 use Rattle.rules.proofs.Parts.{call-unaccepted}
 use Rattle.rules.proofs.Refusals.{full-room, home-read, none-room}
 use Rattle.rules.proofs.Runs.{call-in-turn, never-both, one-passed, one-refused, refused-unaltered}
-use Rattle.rules.proofs.Simulation.{Agree, agree-call, simulation}
+use Rattle.rules.proofs.Simulation.{Agree, RunsAs, agree-call, simulation}
 use Rattle.rules.specs.Calls.{Call, InTurn, call, callOne, one, recordsOn}
-use Rattle.rules.specs.HomeValidator.{ExactlyWhenPossible, HomeView, WithinPool, farPoolOf, homeAfter, homeOpened, homeValidator}
+use Rattle.rules.specs.Charges.{HomeAccountsAddUp, HomeSendingsCost}
+use Rattle.rules.specs.HomeValidator.{ExactlyWhenPossible, HomeView, WithinPool, farPoolOf, homeAfter, homeJudgeRecord, homeOpened}
+use Rattle.rules.specs.HomeValidator.{homeOpeningRefusal, homeValidator}
+use Rattle.rules.specs.Rules.{Tariff}
 
 -- ## The program's states follow the rules' states
 
@@ -119,6 +125,15 @@ unfolding HomeHeldAccountsOpen
 home-held-accounts-open s a =
     held-open _ _ (home-accepts-facts capacity (homeViewOfState s) (sound-of (s .words) a .accepted) .allowed)
 
+-- what a sending costs
+pub home-sendings-cost-exactly : HomeSendingsCostExactly
+unfolding HomeSendingsCostExactly HomeSendingsCost HomeStatesAnswer InTurn
+home-sendings-cost-exactly s a b r q k h =
+    let j = call-in-turn homeChecker s (one b) h .0 in
+    let n = or-else-zero (homeJudgeRecord (homeViewOfState s) r) _ (rw q at j) .0 in
+    rw (ap (λ (x : HomeView). x .home) (home-states-answer s a b .gives r q h))
+    (home-sendings-cost capacity (homeViewOfState s) (sound-of (s .words) a .accepted) r k n)
+
 -- lists in turn, and refusals
 pub home-lists-and-refusals : HomeListsAndRefusals
 unfolding HomeListsAndRefusals
@@ -131,23 +146,29 @@ home-states-stay-accepted s a d = agrees s d a .invariant
 
 -- ## Demand 3, second half
 
+-- a run from an accepted opening is the rules' run
+runs-as : (tariff : Tariff) (homes : List ℕ) (fars farTotal : ℕ) → homeOpeningRefusal tariff homes fars farTotal ≡ 0 → (ds : List Call)
+    → RunsAs homeChecker (homeValidator capacity) homeViewOfState Accepted same-accepts same-judge same-after
+    (homeOpenedState tariff homes fars farTotal) (homeOpened tariff homes fars farTotal) ds
+runs-as tariff homes fars farTotal ok ds =
+    let opening = homeOpenedState tariff homes fars farTotal in
+    simulation homeChecker (homeValidator capacity) homeViewOfState Accepted same-accepts same-judge same-after ds opening
+    (homeOpened tariff homes fars farTotal) (opened-view tariff homes fars farTotal ok)
+    (sound-accepts (opening .words) (opened-sound tariff homes fars farTotal ok))
+
 -- after every run
 pub home-states-within : HomeStatesWithin
 unfolding HomeStatesWithin WithinPool ExactlyWhenPossible
-home-states-within homes fars farTotal ok ds =
-    let opening = homeOpenedState homes fars farTotal in
-    let f =
-    simulation homeChecker (homeValidator capacity) homeViewOfState Accepted same-accepts same-judge same-after ds opening
-    (homeOpened homes fars farTotal) (opened-view homes fars farTotal ok)
-    (sound-accepts (opening .words) (opened-sound homes fars farTotal ok)) in
-    let t = homeStateOfRun homes fars farTotal ds in
-    let w = within-pool capacity homes fars farTotal ok ds in
-    let pool : poolOf (t .words) ≡ farPoolOf farTotal (recordsOn Home (homePassedOfRun homes fars farTotal ds)) =
+home-states-within tariff homes fars farTotal ok ds =
+    let f = runs-as tariff homes fars farTotal ok ds in
+    let t = homeStateOfRun tariff homes fars farTotal ds in
+    let w = within-pool capacity tariff homes fars farTotal ok ds in
+    let pool : poolOf (t .words) ≡ farPoolOf farTotal (recordsOn Home (homePassedOfRun tariff homes fars farTotal ds)) =
     ap (λ (x : HomeView). x .farPool) (f .states) ∙ rw (f .records) (w .figure) in
     record {
       exactly = λ bytes d db home most split l q.
           rw (agrees t d (f .invariant) .answers ∙ ap (λ (x : HomeView). call (homeValidator capacity) x d .answer) (f .states), f .records)
-          (exactly-when-possible capacity (omega arith) homes fars farTotal ok ds bytes d db home (rw (f .records) at most) split l q);
+          (exactly-when-possible capacity (omega arith) tariff homes fars farTotal ok ds bytes d db home (rw (f .records) at most) split l q);
       bounded = λ xs ys e. w .bounded xs ys (sym (f .records) ∙ e);
       each = λ xs ys b r e. w .each xs ys b r (sym (f .records) ∙ e);
       figures = rw (f .invariant, pool);
@@ -163,6 +184,15 @@ pub home-zero-is-refused : HomeZeroRefused
 unfolding HomeZeroRefused
 home-zero-is-refused d = call-unaccepted homeChecker homeZeroState d zero-refused
 
+-- ## The charges
+
+-- the accounts after every run
+pub home-charges-paid : HomeChargesPaid
+unfolding HomeChargesPaid HomeAccountsAddUp
+home-charges-paid tariff homes fars farTotal ok ds =
+    let f = runs-as tariff homes fars farTotal ok ds in
+    rw (ap (λ (x : HomeView). x .home) (f .states), f .records) (home-accounts-add-up capacity tariff homes fars farTotal ok ds)
+
 -- ## The places left
 
 -- those of an accepted state
@@ -172,9 +202,9 @@ left-is s a = rw a
 -- after every run
 pub home-places-left : HomePlacesLeft
 unfolding HomePlacesLeft HomeStatesWithin
-home-places-left homes fars farTotal ok ds =
-    let s = homeStateOfRun homes fars farTotal ds in
-    let w = home-states-within homes fars farTotal ok ds in
+home-places-left tariff homes fars farTotal ok ds =
+    let s = homeStateOfRun tariff homes fars farTotal ds in
+    let w = home-states-within tariff homes fars farTotal ok ds in
     let room = sound-of (s .words) (w .accepted) .bounds .room in
     record {
       told = rw (w .accepted);
