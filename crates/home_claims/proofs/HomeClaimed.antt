@@ -31,7 +31,7 @@ use Rattle.rules.specs.Calls.{Call, InTurn, call, callOne, one, recordsOn}
 use Rattle.rules.specs.Charges.{HomeAccountsAddUp, HomeSendingsCost}
 use Rattle.rules.specs.HomeValidator.{ExactlyWhenPossible, HomeView, WithinPool, farPoolOf, homeAfter, homeJudgeRecord, homeOpened}
 use Rattle.rules.specs.HomeValidator.{homeOpeningRefusal, homeValidator}
-use Rattle.rules.specs.Rules.{Tariff}
+use Rattle.tariffs.specs.declared.Tariff.{Tariff}
 
 -- ## The program's states follow the rules' states
 

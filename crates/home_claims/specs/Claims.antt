@@ -26,7 +26,8 @@ use Rattle.rules.specs.Charges.{AccountsAddUp, SendingCosts}
 use Rattle.rules.specs.HomeValidator.{HomeRecord, Possible, farPoolOf, homeAccounts, homeAfter, homeJudgeRecord, homeOpened}
 use Rattle.rules.specs.HomeValidator.{homeOpeningRefusal, homeValidator, received, sent}
 use Rattle.rules.specs.Lists.{total}
-use Rattle.rules.specs.Rules.{Tariff, newLedger, opened}
+use Rattle.rules.specs.Rules.{newLedger, opened}
+use Rattle.tariffs.specs.declared.Tariff.{Tariff}
 use Rattle.wire.specs.BigEndian.{All}
 
 -- ## The rules' calls
