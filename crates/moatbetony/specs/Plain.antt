@@ -148,6 +148,6 @@ plainBalances o =
       answer = plainAnswer (o .answer);
       count = o .count;
       rate = o .tariff .rate;
-      charge_account = o .tariff .account;
+      «charge_account» = o .tariff .account;
       balances = o .balances;
     }
