@@ -1,5 +1,5 @@
-//! Paper 01, "Refusals, by who can cause them", and paper 02, U1 (refusal 51):
-//! what a call can answer.
+//! Paper 01, "Refusals, by who can cause them", and paper 02, U1 (refusal 51)
+//! and U3 (refusal 52): what a call can answer.
 
 /// Passed, or one numbered refusal with its place: a record's index in the
 /// list handed in, or a block number, or 0 where neither applies.
@@ -54,4 +54,6 @@ pub mod refusal {
     pub const TABLE_FULL: u8 = 41;
     /// The receiver's account of a record is not open.
     pub const RECEIVER: u8 = 51;
+    /// The rate of the charge is above 10,000, or its account is not open at home.
+    pub const CHARGE: u8 = 52;
 }

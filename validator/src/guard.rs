@@ -2,8 +2,9 @@
 //! place of the far ledger's records (refusals 32 and 33).
 
 use crate::answer::{refusal, Answer};
+use crate::charge::Charge;
 use crate::record::{Kind, Ledger, Record, MAX_AMOUNT, RECORD};
-use crate::rules::{self, account_count_wrong, stakes_total_wrong, sum, Book};
+use crate::rules::{self, account_count_wrong, sum, Book};
 use crate::side::Side;
 
 /// The state of the guard.
@@ -11,23 +12,32 @@ use crate::side::Side;
 pub struct Guard {
     pub home: Side,
     pub far_accounts: usize,
-    /// What the far ledger may still send home: its stake total, and what
-    /// passed sendings brought it, less what passed arrivals took from it.
+    /// What the far ledger may still send home: its stake total, and the amounts
+    /// that passed sendings brought it, without charges, less what passed arrivals took from it.
     pub far_due: u64,
     /// All stakes of the opening together.
     pub stake: u64,
+    pub charge: Charge,
 }
 
 impl Guard {
-    /// Opens a guard, or answers refusal 1 or 2.
-    pub fn open(home: &[u64], far_accounts: usize, far_total: u64) -> Result<Guard, Answer> {
-        match opening_refusal(home, far_accounts, far_total) {
+    /// Opens a guard, or answers refusal 1, 2 or 52.
+    pub fn open(
+        home: &[u64],
+        far_accounts: usize,
+        far_total: u64,
+        charge: Charge,
+    ) -> Result<Guard, Answer> {
+        let accounts = [home.len(), far_accounts];
+        let total = sum(home) + u128::from(far_total);
+        match rules::opening_refusal(accounts, total, charge) {
             Some(number) => Err(Answer::Refused { number, place: 0 }),
             None => Ok(Guard {
                 home: Side::open(home),
                 far_accounts,
                 far_due: far_total,
                 stake: home.iter().sum::<u64>() + far_total,
+                charge,
             }),
         }
     }
@@ -77,7 +87,7 @@ impl Guard {
             Kind::Sending(_) => self.far_due += record.amount,
             Kind::Arrival(_) => self.far_due -= record.amount,
         }
-        self.home.pass(record);
+        self.home.pass(record, self.charge);
     }
 
     /// Whether this is a state that the guard accepts: refusal 3 otherwise.
@@ -85,6 +95,7 @@ impl Guard {
         self.home.in_bounds()
             && !account_count_wrong(self.far_accounts)
             && self.stake <= MAX_AMOUNT
+            && !self.charge.wrong(self.accounts(Ledger::Home))
             && self
                 .home
                 .held_right(Ledger::Home, |ledger| self.accounts(ledger))
@@ -104,6 +115,10 @@ impl Book for Guard {
         }
     }
 
+    fn charge(&self) -> Charge {
+        self.charge
+    }
+
     /// Only home records are judged, so only home balances are looked up.
     fn balance(&self, _ledger: Ledger, account: u16) -> u64 {
         self.home.balances[usize::from(account)]
@@ -120,14 +135,6 @@ impl Book for Guard {
     fn passed_count(&self, _ledger: Ledger) -> usize {
         self.home.held.len()
     }
-}
-
-/// Refusals 1 and 2 of an opening.
-pub fn opening_refusal(home: &[u64], far_accounts: usize, far_total: u64) -> Option<u8> {
-    if account_count_wrong(home.len()) || account_count_wrong(far_accounts) {
-        return Some(refusal::ACCOUNT_COUNT);
-    }
-    stakes_total_wrong(sum(home) + u128::from(far_total)).then_some(refusal::STAKES_TOTAL)
 }
 
 fn state_refused() -> Answer {

@@ -1,8 +1,10 @@
-//! Paper 01, "The journal": judging a block (11 to 14), a record's place in it
-//! (4), handing back the record's part of the block, and writing a block (4).
+//! Paper 01, "The journal", and paper 02, U3: judging a block (11 to 14, for block
+//! 0 also 52), a record's place in it (4), handing back the record's part of the
+//! block, and writing a block (4).
 
 use crate::answer::{refusal, Answer};
-use crate::record::{u64_at, RECORD};
+use crate::charge::Charge;
+use crate::record::{u16_at, u64_at, RECORD};
 use crate::rules::MAX_ACCOUNTS;
 use crate::sha256;
 
@@ -25,6 +27,10 @@ pub type Balances = [u64; MAX_ACCOUNTS];
 pub const HOME_STAKES: u8 = 1;
 pub const FAR_STAKES: u8 = 2;
 pub const RECORDS: u8 = 3;
+
+/// Where block 0 carries the rate of the charge and its account.
+pub const RATE: usize = 6;
+pub const CHARGE_ACCOUNT: usize = 8;
 
 /// Where the items begin, and where the check begins.
 pub const ITEMS: usize = 32;
@@ -66,7 +72,9 @@ fn block_refusal(block: &[u8], number: u64, before: u64) -> Option<u8> {
     if !form_right(block, number) || follows_short(number, before) {
         return Some(refusal::BLOCK_FORM);
     }
-    None
+    charge(block, number)
+        .wrong(count(block))
+        .then_some(refusal::CHARGE)
 }
 
 fn number_in(block: &[u8]) -> u64 {
@@ -80,8 +88,16 @@ fn form_right(block: &[u8], number: u64) -> bool {
     let count = usize::from(block[5]);
     block[4] == kind
         && (1..=most).contains(&count)
-        && all_zero(&block[6..ITEMS])
+        && all_zero(&block[head(number)..ITEMS])
         && all_zero(&block[ITEMS + count * length..CHECK])
+}
+
+/// How many bytes of a block carry its head: block 0 has the charge in it.
+fn head(number: u64) -> usize {
+    match number {
+        0 => CHARGE_ACCOUNT + 2,
+        _ => RATE,
+    }
 }
 
 /// From block 3 on, whether the block before has fewer than 14 records.
@@ -96,6 +112,15 @@ fn all_zero(bytes: &[u8]) -> bool {
 /// The count of a block that has been judged.
 pub fn count(block: &[u8]) -> usize {
     usize::from(block[5])
+}
+
+/// The charge that block 0 carries; other blocks carry none.
+pub fn charge(block: &[u8], number: u64) -> Charge {
+    if number != 0 {
+        return Charge::NONE;
+    }
+    let [rate, account] = [RATE, CHARGE_ACCOUNT].map(|at| u64::from(u16_at(block, at)));
+    Charge { rate, account }
 }
 
 /// The stakes of a stakes block that has been judged.
@@ -145,18 +170,22 @@ pub fn block_count(block: &[u8], number: u64, before: u64) -> (Answer, u64) {
     (answer, count(block) as u64)
 }
 
-/// Judges a block and gives the count of its stakes and the stakes, zeros
-/// after them: 4 in a block of records, after 11 to 14. Zeros beside a
-/// refusal.
-pub fn block_balances(block: &[u8], number: u64, before: u64) -> (Answer, (u64, Balances)) {
+/// What a stakes block holds: the count of its stakes, the rate of the charge, its
+/// account, and the stakes, zeros after them.
+pub type Stakes = (u64, u64, u64, Balances);
+
+/// Judges a block and gives what it holds: 4 in a block of records, after 11 to 14
+/// and 52. Rate and account are 0 in block 1. Zeros beside a refusal.
+pub fn block_balances(block: &[u8], number: u64, before: u64) -> (Answer, Stakes) {
     let answer = judge_balances(block, number, before);
     let mut balances = [0; MAX_ACCOUNTS];
     if !answer.passed() {
-        return (answer, (0, balances));
+        return (answer, (0, 0, 0, balances));
     }
     let stakes = stakes(block);
     balances[..stakes.len()].copy_from_slice(&stakes);
-    (answer, (stakes.len() as u64, balances))
+    let Charge { rate, account } = charge(block, number);
+    (answer, (stakes.len() as u64, rate, account, balances))
 }
 
 fn judge_balances(block: &[u8], number: u64, before: u64) -> Answer {
@@ -169,9 +198,17 @@ fn judge_balances(block: &[u8], number: u64, before: u64) -> Answer {
 }
 
 /// Writes a block. The items are stakes or records as bytes, copied unjudged;
-/// a refused write leaves the output as it came.
-pub fn write_block(number: u64, kind: u8, items: &[u8], output: &mut [u8]) -> Answer {
-    if write_refused(number, kind, items, output.len()) {
+/// a refused write leaves the output as it came. The charge is looked at and written
+/// for block 0 only.
+pub fn write_block(
+    number: u64,
+    kind: u8,
+    charge: Charge,
+    items: &[u8],
+    output: &mut [u8],
+) -> Answer {
+    let charge = if number == 0 { charge } else { Charge::NONE };
+    if write_refused(number, kind, charge, items, output.len()) {
         return Answer::Refused {
             number: refusal::MAKER_BLOCK,
             place: number,
@@ -182,12 +219,25 @@ pub fn write_block(number: u64, kind: u8, items: &[u8], output: &mut [u8]) -> An
     output[..4].copy_from_slice(&(number as u32).to_be_bytes());
     output[4] = kind;
     output[5] = (items.len() / length) as u8;
+    put_u16(output, RATE, charge.rate);
+    put_u16(output, CHARGE_ACCOUNT, charge.account);
     output[ITEMS..ITEMS + items.len()].copy_from_slice(items);
     seal(output);
     Answer::Passed
 }
 
-fn write_refused(number: u64, kind: u8, items: &[u8], output_length: usize) -> bool {
+/// A number that 16 bits hold.
+fn put_u16(output: &mut [u8], at: usize, value: u64) {
+    output[at..at + 2].copy_from_slice(&(value as u16).to_be_bytes());
+}
+
+fn write_refused(
+    number: u64,
+    kind: u8,
+    charge: Charge,
+    items: &[u8],
+    output_length: usize,
+) -> bool {
     let (length, most) = layout(kind);
     output_length != BLOCK
         || items.is_empty()
@@ -195,6 +245,7 @@ fn write_refused(number: u64, kind: u8, items: &[u8], output_length: usize) -> b
         || items.len() / length > most
         || number > LAST_BLOCK
         || kind != kind_of(number)
+        || charge.wrong(items.len() / length)
 }
 
 /// Writes the check of a block's first 480 bytes.

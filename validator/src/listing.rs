@@ -4,6 +4,7 @@
 use std::io::{self, BufReader, ErrorKind, Read, Write};
 
 use crate::answer::Answer;
+use crate::charge::Charge;
 use crate::journal::{self, BLOCK};
 use crate::record::{number_of, Ledger};
 use crate::running::RunningBook;
@@ -65,6 +66,7 @@ fn list_blocks(input: &mut impl Read, lines: &mut Lines<impl Write>) -> io::Resu
 fn open(input: &mut impl Read, lines: &mut Lines<impl Write>) -> io::Result<Option<RunningBook>> {
     let mut block = [0; BLOCK];
     let mut stakes = [Vec::new(), Vec::new()];
+    let mut charge = Charge::NONE;
     for (block_number, ledger) in (0..).zip(Ledger::BOTH) {
         let length = read_block(input, &mut block)?;
         let answer = journal::judge_block(&block[..length], block_number, 0);
@@ -72,9 +74,12 @@ fn open(input: &mut impl Read, lines: &mut Lines<impl Write>) -> io::Result<Opti
             lines.fault(number, place);
             return Ok(None);
         }
+        if ledger == Ledger::Home {
+            charge = journal::charge(&block, block_number);
+        }
         stakes[ledger.index()] = journal::stakes(&block);
     }
-    match RunningBook::open(&stakes[0], &stakes[1]) {
+    match RunningBook::open(&stakes[0], &stakes[1], charge) {
         Ok(book) => Ok(Some(book)),
         Err(number) => {
             lines.fault(number, 1);

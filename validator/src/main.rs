@@ -5,6 +5,7 @@ use std::path::PathBuf;
 use std::process::ExitCode;
 use std::time::{Duration, SystemTime, UNIX_EPOCH};
 
+use second_validator::charge::Charge;
 use second_validator::listing;
 use second_validator::runner::calls::{self, Oracle};
 use second_validator::runner::compare::{compare, Options};
@@ -152,7 +153,7 @@ fn run_full(rest: &[String]) -> Result<ExitCode, Failure> {
     }
     let fill = fill.ok_or_else(|| wrong("--fill early|late is wanted"))?;
     let mut output = BufWriter::with_capacity(1 << 16, io::stdout().lock());
-    full::write(seed, fill, MOST_BLOCKS, &mut output)?;
+    full::write(seed, fill, Charge::NONE, MOST_BLOCKS, &mut output)?;
     output.flush()?;
     Ok(ExitCode::SUCCESS)
 }

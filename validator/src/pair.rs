@@ -4,8 +4,9 @@
 use std::collections::HashSet;
 
 use crate::answer::{refusal, Answer};
+use crate::charge::Charge;
 use crate::record::{Held, Kind, Ledger, Record, MAX_AMOUNT, RECORD};
-use crate::rules::{self, account_count_wrong, stakes_total_wrong, sum, Book};
+use crate::rules::{self, sum, Book};
 use crate::side::Side;
 
 /// The state of the pair book.
@@ -15,16 +16,18 @@ pub struct PairBook {
     pub sides: [Side; 2],
     /// All stakes of the opening together.
     pub stake: u64,
+    pub charge: Charge,
 }
 
 impl PairBook {
-    /// Opens a book, or answers refusal 1 or 2.
-    pub fn open(home: &[u64], far: &[u64]) -> Result<PairBook, Answer> {
-        match opening_refusal(home, far) {
+    /// Opens a book, or answers refusal 1, 2 or 52.
+    pub fn open(home: &[u64], far: &[u64], charge: Charge) -> Result<PairBook, Answer> {
+        match opening_refusal(home, far, charge) {
             Some(number) => Err(Answer::Refused { number, place: 0 }),
             None => Ok(PairBook {
                 sides: [Side::open(home), Side::open(far)],
                 stake: home.iter().chain(far).sum(),
+                charge,
             }),
         }
     }
@@ -60,7 +63,7 @@ impl PairBook {
         };
         let refused = rules::judge(self, &record);
         if refused.is_none() {
-            self.sides[record.ledger().index()].pass(&record);
+            self.sides[record.ledger().index()].pass(&record, self.charge);
         }
         refused
     }
@@ -69,6 +72,7 @@ impl PairBook {
     pub fn accepted(&self) -> bool {
         self.sides.iter().all(Side::in_bounds)
             && self.stake <= MAX_AMOUNT
+            && !self.charge.wrong(self.accounts(Ledger::Home))
             && Ledger::BOTH.iter().all(|&ledger| self.held_right(ledger))
             && self.home_total() + self.far_total() + self.in_flight() == u128::from(self.stake)
     }
@@ -134,6 +138,10 @@ impl Book for PairBook {
         self.side(ledger).accounts
     }
 
+    fn charge(&self) -> Charge {
+        self.charge
+    }
+
     fn balance(&self, ledger: Ledger, account: u16) -> u64 {
         self.side(ledger).balances[usize::from(account)]
     }
@@ -153,12 +161,9 @@ impl Book for PairBook {
     }
 }
 
-/// Refusals 1 and 2 of an opening.
-pub fn opening_refusal(home: &[u64], far: &[u64]) -> Option<u8> {
-    if account_count_wrong(home.len()) || account_count_wrong(far.len()) {
-        return Some(refusal::ACCOUNT_COUNT);
-    }
-    stakes_total_wrong(sum(home) + sum(far)).then_some(refusal::STAKES_TOTAL)
+/// Refusals 1, 2 and 52 of an opening.
+pub fn opening_refusal(home: &[u64], far: &[u64], charge: Charge) -> Option<u8> {
+    rules::opening_refusal([home.len(), far.len()], sum(home) + sum(far), charge)
 }
 
 fn state_refused() -> Answer {

@@ -1,8 +1,10 @@
 //! Paper 01, "Rules of the pair book" and "Rules of the guard", and paper 02,
-//! U1 and U2: the order in which a record that has been read is judged: 22, 51,
+//! U1 to U3: the order in which a record that has been read is judged: 22, 51,
 //! 23, 24, then 25 or 31 or 32, then 41. Each checker says how it looks things up.
+//! Also the order of an opening: 1, 2, 52.
 
 use crate::answer::refusal;
+use crate::charge::Charge;
 use crate::record::{Ledger, Record, MAX_AMOUNT};
 
 /// The most accounts of a ledger.
@@ -15,6 +17,9 @@ pub const CAPACITY: usize = 512;
 pub trait Book {
     /// The number of open accounts.
     fn accounts(&self, ledger: Ledger) -> usize;
+
+    /// What home sendings are charged.
+    fn charge(&self) -> Charge;
 
     /// The balance of an open account.
     fn balance(&self, ledger: Ledger, account: u16) -> u64;
@@ -42,7 +47,8 @@ pub fn judge(book: &impl Book, record: &Record) -> Option<u8> {
         return Some(refusal::NUMBER_USED);
     }
     if record.takes() {
-        if record.amount > book.balance(ledger, record.sender) {
+        let balance = book.balance(ledger, record.sender);
+        if book.charge().cost(record) > balance {
             return Some(refusal::BALANCE);
         }
     } else if let Some(number) = book.arrival_refusal(record) {
@@ -69,14 +75,21 @@ pub fn accounts_open(record: &Record, accounts: impl Fn(Ledger) -> usize) -> boo
     account_refusal(record, accounts).is_none()
 }
 
+/// The refusal of an opening: 1 by the counts of accounts, 2 by the exact total of
+/// all stakes, 52 by the charge.
+pub fn opening_refusal(accounts: [usize; 2], total: u128, charge: Charge) -> Option<u8> {
+    if accounts.into_iter().any(account_count_wrong) {
+        return Some(refusal::ACCOUNT_COUNT);
+    }
+    if total > u128::from(MAX_AMOUNT) {
+        return Some(refusal::STAKES_TOTAL);
+    }
+    charge.wrong(accounts[0]).then_some(refusal::CHARGE)
+}
+
 /// Refusal 1: whether an account count is outside 1 to 56.
 pub fn account_count_wrong(count: usize) -> bool {
     !(1..=MAX_ACCOUNTS).contains(&count)
-}
-
-/// Refusal 2: whether all stakes together are above 2^63-1. Exact.
-pub fn stakes_total_wrong(total: u128) -> bool {
-    total > u128::from(MAX_AMOUNT)
 }
 
 /// An exact sum of balances or stakes.

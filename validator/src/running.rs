@@ -5,6 +5,7 @@
 use std::collections::HashMap;
 
 use crate::answer::refusal;
+use crate::charge::Charge;
 use crate::pair::opening_refusal;
 use crate::record::{Counted, Kind, Ledger, Record};
 use crate::rules::{self, Book};
@@ -16,18 +17,20 @@ pub struct RunningBook {
     passed: [HashMap<Counted, Record>; 2],
     totals: [u64; 2],
     in_flight: u64,
+    charge: Charge,
 }
 
 impl RunningBook {
-    /// Opens a book, or gives refusal 1 or 2.
-    pub fn open(home: &[u64], far: &[u64]) -> Result<RunningBook, u8> {
-        match opening_refusal(home, far) {
+    /// Opens a book, or gives refusal 1, 2 or 52.
+    pub fn open(home: &[u64], far: &[u64], charge: Charge) -> Result<RunningBook, u8> {
+        match opening_refusal(home, far, charge) {
             Some(number) => Err(number),
             None => Ok(RunningBook {
                 balances: [home.to_vec(), far.to_vec()],
                 passed: [HashMap::new(), HashMap::new()],
                 totals: [home.iter().sum(), far.iter().sum()],
                 in_flight: 0,
+                charge,
             }),
         }
     }
@@ -54,21 +57,28 @@ impl RunningBook {
     }
 
     fn pass(&mut self, record: &Record) {
-        let ledger = record.ledger().index();
+        let ledger = record.ledger();
         if record.takes() {
-            self.balances[ledger][usize::from(record.sender)] -= record.amount;
-            self.totals[ledger] -= record.amount;
+            let cost = self.charge.cost(record);
+            self.balances[ledger.index()][usize::from(record.sender)] -= cost;
+            self.totals[ledger.index()] -= cost;
         }
         if record.gives() {
-            self.balances[ledger][usize::from(record.receiver)] += record.amount;
-            self.totals[ledger] += record.amount;
+            self.give(ledger, record.receiver, record.amount);
         }
+        let Charge { account, .. } = self.charge;
+        self.give(Ledger::Home, account as u16, self.charge.of(record));
         match record.kind {
             Kind::Local(_) => (),
             Kind::Sending(_) => self.in_flight += record.amount,
             Kind::Arrival(_) => self.in_flight -= record.amount,
         }
-        self.passed[ledger].insert(record.counted(), *record);
+        self.passed[ledger.index()].insert(record.counted(), *record);
+    }
+
+    fn give(&mut self, ledger: Ledger, account: u16, amount: u64) {
+        self.balances[ledger.index()][usize::from(account)] += amount;
+        self.totals[ledger.index()] += amount;
     }
 
     pub fn balances(&self, ledger: Ledger) -> &[u64] {
@@ -98,6 +108,10 @@ impl RunningBook {
 impl Book for RunningBook {
     fn accounts(&self, ledger: Ledger) -> usize {
         self.balances(ledger).len()
+    }
+
+    fn charge(&self) -> Charge {
+        self.charge
     }
 
     fn balance(&self, ledger: Ledger, account: u16) -> u64 {

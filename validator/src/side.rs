@@ -4,6 +4,7 @@
 
 use std::collections::HashSet;
 
+use crate::charge::Charge;
 use crate::record::{Held, Ledger, Record};
 use crate::rules::{account_count_wrong, accounts_open, sum, CAPACITY, MAX_ACCOUNTS};
 
@@ -62,23 +63,25 @@ impl Side {
     }
 
     /// Lowers the balance of an account of this ledger.
-    pub fn take(&mut self, account: u16, amount: u64) {
+    fn take(&mut self, account: u16, amount: u64) {
         self.balances[usize::from(account)] -= amount;
     }
 
     /// Raises the balance of an account of this ledger.
-    pub fn give(&mut self, account: u16, amount: u64) {
+    fn give(&mut self, account: u16, amount: u64) {
         self.balances[usize::from(account)] += amount;
     }
 
-    /// Lets a passed record of this ledger take and give here.
-    pub fn pass(&mut self, record: &Record) {
+    /// Lets a passed record of this ledger take and give here, then pay its charge,
+    /// which is 0 on far.
+    pub fn pass(&mut self, record: &Record, charge: Charge) {
         if record.takes() {
-            self.take(record.sender, record.amount);
+            self.take(record.sender, charge.cost(record));
         }
         if record.gives() {
             self.give(record.receiver, record.amount);
         }
+        self.give(charge.account as u16, charge.of(record));
         self.held.push(Held::of(record));
     }
 }

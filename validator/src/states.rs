@@ -1,4 +1,4 @@
-//! Paper 01, refusal 3 and "The runs of demand 3": the states of pair book and
+//! Paper 01, refusal 3 and "The runs of demand 3", and paper 02, U3: the states of pair book and
 //! guard as plain words, so that every forged value can stand in them, and the
 //! calls that are handed such a state and alter it in place. The papers have
 //! neither the layout of the words nor the places left; the list of calls has.
@@ -7,6 +7,7 @@
 //! is not looked at and stays as it came, and a refused call alters nothing.
 
 use crate::answer::{refusal, Answer};
+use crate::charge::Charge;
 use crate::guard::Guard;
 use crate::pair::PairBook;
 use crate::record::{u64_at, Held, Ledger, Record, RECORD};
@@ -27,10 +28,10 @@ pub struct State<const N: usize> {
 }
 
 /// The state of the pair book.
-pub type PairState = State<4_213>;
+pub type PairState = State<4_215>;
 
 /// The state of the guard.
-pub type HomeState = State<2_109>;
+pub type HomeState = State<2_111>;
 
 /// Where the fields of a state begin among its words. The held records begin
 /// at word 0. What far has of a field comes after what home has of it.
@@ -47,6 +48,8 @@ pub trait Layout {
     const ACCOUNTS: usize;
     /// The held records of each ledger.
     const COUNTS: usize;
+    /// The rate of the charge, then its account.
+    const CHARGE: usize;
 }
 
 impl Layout for PairState {
@@ -56,6 +59,7 @@ impl Layout for PairState {
     const POOL: Option<usize> = None;
     const ACCOUNTS: usize = 4_209;
     const COUNTS: usize = 4_211;
+    const CHARGE: usize = 4_213;
 }
 
 impl Layout for HomeState {
@@ -65,6 +69,7 @@ impl Layout for HomeState {
     const POOL: Option<usize> = Some(HomeState::FAR_DUE);
     const ACCOUNTS: usize = 2_106;
     const COUNTS: usize = 2_108;
+    const CHARGE: usize = 2_109;
 }
 
 /// The words of a record's 32 bytes.
@@ -134,6 +139,15 @@ where
         self.words[Self::COUNTS + ledger]
     }
 
+    /// The rate of the charge and its account.
+    pub fn charge(&self) -> Charge {
+        Charge::new(self.words[Self::CHARGE], self.words[Self::CHARGE + 1])
+    }
+
+    fn put_charge(&mut self, charge: Charge) {
+        self.words[Self::CHARGE..][..2].copy_from_slice(&[charge.rate, charge.account]);
+    }
+
     /// The 56 balances of a ledger.
     pub fn balances(&self, ledger: usize) -> &[u64] {
         &self.words[Self::BALANCES + ledger * MAX_ACCOUNTS..][..MAX_ACCOUNTS]
@@ -173,10 +187,10 @@ where
 }
 
 impl PairState {
-    /// Opens a book: 1, 2. Beside a refusal stands the state of zeros.
-    pub fn open(home: &[u64], far: &[u64]) -> (Answer, Box<PairState>) {
+    /// Opens a book: 1, 2, 52. Beside a refusal stands the state of zeros.
+    pub fn open(home: &[u64], far: &[u64], charge: Charge) -> (Answer, Box<PairState>) {
         let mut state = Box::new(PairState::ZERO);
-        match PairBook::open(home, far) {
+        match PairBook::open(home, far, charge) {
             Ok(book) => {
                 state.put_book(&book);
                 (Answer::Passed, state)
@@ -245,6 +259,7 @@ impl PairState {
         Some(PairBook {
             sides: [self.side(0)?, self.side(1)?],
             stake: self.supply(),
+            charge: self.charge(),
         })
     }
 
@@ -255,6 +270,7 @@ impl PairState {
     /// Writes a book that goes on from this state.
     fn put_book(&mut self, book: &PairBook) {
         self.words[Self::SUPPLY] = book.stake;
+        self.put_charge(book.charge);
         for (ledger, side) in book.sides.iter().enumerate() {
             self.put_side(ledger, side);
         }
@@ -265,10 +281,15 @@ impl HomeState {
     /// The word of the far due.
     pub const FAR_DUE: usize = 2_105;
 
-    /// Opens a guard: 1, 2. Beside a refusal stands the state of zeros.
-    pub fn open(home: &[u64], fars: usize, far_total: u64) -> (Answer, Box<HomeState>) {
+    /// Opens a guard: 1, 2, 52. Beside a refusal stands the state of zeros.
+    pub fn open(
+        home: &[u64],
+        fars: usize,
+        far_total: u64,
+        charge: Charge,
+    ) -> (Answer, Box<HomeState>) {
         let mut state = Box::new(HomeState::ZERO);
-        match Guard::open(home, fars, far_total) {
+        match Guard::open(home, fars, far_total, charge) {
             Ok(guard) => {
                 state.put_guard(&guard);
                 (Answer::Passed, state)
@@ -340,6 +361,7 @@ impl HomeState {
             far_accounts: usize::try_from(self.accounts(1)).ok()?,
             far_due: self.pool(),
             stake: self.supply(),
+            charge: self.charge(),
         })
     }
 
@@ -350,6 +372,7 @@ impl HomeState {
     /// Writes a guard that goes on from this state.
     fn put_guard(&mut self, guard: &Guard) {
         self.words[Self::SUPPLY] = guard.stake;
+        self.put_charge(guard.charge);
         self.words[Self::FAR_DUE] = guard.far_due;
         self.put_side(0, &guard.home);
         self.words[Self::ACCOUNTS + 1] = guard.far_accounts as u64;

@@ -1,6 +1,7 @@
 //! Every refusal of records, openings and states at its boundary.
 
 use second_validator::answer::Answer::{self, Passed};
+use second_validator::charge::Charge;
 use second_validator::guard::Guard;
 use second_validator::pair::PairBook;
 use second_validator::record::Ledger::{self, Far, Home};
@@ -16,11 +17,11 @@ fn refused_at(number: u8, place: u64) -> Answer {
 }
 
 fn pair() -> PairBook {
-    PairBook::open(&[100, 50], &[20]).unwrap()
+    PairBook::open(&[100, 50], &[20], Charge::NONE).unwrap()
 }
 
 fn guard() -> Guard {
-    Guard::open(&[100, 50], 1, 20).unwrap()
+    Guard::open(&[100, 50], 1, 20, Charge::NONE).unwrap()
 }
 
 /// A pair book with a local, an arrived sending and one in flight each way.
@@ -81,23 +82,38 @@ fn assert_guard_refused(alter: impl FnOnce(&mut Guard)) {
 
 #[test]
 fn refusal_1_before_2() {
-    assert_eq!(PairBook::open(&[], &[1]), Err(refused(1)));
-    assert_eq!(PairBook::open(&[1], &[]), Err(refused(1)));
-    assert_eq!(PairBook::open(&[u64::MAX; 57], &[1]), Err(refused(1)));
-    assert_eq!(Guard::open(&[], 1, 0), Err(refused(1)));
-    assert_eq!(Guard::open(&[1], 0, u64::MAX), Err(refused(1)));
-    assert!(PairBook::open(&[0], &[0]).is_ok());
+    assert_eq!(PairBook::open(&[], &[1], Charge::NONE), Err(refused(1)));
+    assert_eq!(PairBook::open(&[1], &[], Charge::NONE), Err(refused(1)));
+    assert_eq!(
+        PairBook::open(&[u64::MAX; 57], &[1], Charge::NONE),
+        Err(refused(1))
+    );
+    assert_eq!(Guard::open(&[], 1, 0, Charge::NONE), Err(refused(1)));
+    assert_eq!(
+        Guard::open(&[1], 0, u64::MAX, Charge::NONE),
+        Err(refused(1))
+    );
+    assert!(PairBook::open(&[0], &[0], Charge::NONE).is_ok());
 }
 
 #[test]
 fn refusal_2_is_exact() {
     let top = u64::MAX;
-    assert_eq!(PairBook::open(&[1 << 63, 1 << 63], &[0]), Err(refused(2)));
-    assert_eq!(PairBook::open(&[top, 1], &[5]), Err(refused(2)));
-    assert_eq!(PairBook::open(&[top; 56], &[top; 56]), Err(refused(2)));
-    assert_eq!(Guard::open(&[top, 1], 1, 0), Err(refused(2)));
-    assert_eq!(Guard::open(&[1], 1, top), Err(refused(2)));
-    let book = PairBook::open(&[MAX_AMOUNT - 3, 1], &[2]).unwrap();
+    assert_eq!(
+        PairBook::open(&[1 << 63, 1 << 63], &[0], Charge::NONE),
+        Err(refused(2))
+    );
+    assert_eq!(
+        PairBook::open(&[top, 1], &[5], Charge::NONE),
+        Err(refused(2))
+    );
+    assert_eq!(
+        PairBook::open(&[top; 56], &[top; 56], Charge::NONE),
+        Err(refused(2))
+    );
+    assert_eq!(Guard::open(&[top, 1], 1, 0, Charge::NONE), Err(refused(2)));
+    assert_eq!(Guard::open(&[1], 1, top, Charge::NONE), Err(refused(2)));
+    let book = PairBook::open(&[MAX_AMOUNT - 3, 1], &[2], Charge::NONE).unwrap();
     assert_eq!(book.stake, MAX_AMOUNT);
 }
 
@@ -141,12 +157,12 @@ fn refusal_3_stake_and_sums() {
 
 #[test]
 fn refusal_3_sums_do_not_wrap() {
-    let mut book = PairBook::open(&[5, 5], &[0]).unwrap();
+    let mut book = PairBook::open(&[5, 5], &[0], Charge::NONE).unwrap();
     book.sides[0].balances = [0; 56];
     book.sides[0].balances[0] = u64::MAX;
     book.sides[0].balances[1] = 11;
     assert_eq!(book.call(&[]), refused(3));
-    let mut guard = Guard::open(&[5], 1, 5).unwrap();
+    let mut guard = Guard::open(&[5], 1, 5, Charge::NONE).unwrap();
     guard.home.balances[0] = u64::MAX;
     guard.far_due = 11;
     assert_eq!(guard.call(&[]), refused(3));
@@ -398,8 +414,8 @@ fn accounts_at_their_bounds() {
         (1, 1),
         (56, 56),
     ] {
-        let book = PairBook::open(&vec![9; home], &vec![9; far]).unwrap();
-        let guard = Guard::open(&vec![9; home], far, 9 * far as u64).unwrap();
+        let book = PairBook::open(&vec![9; home], &vec![9; far], Charge::NONE).unwrap();
+        let guard = Guard::open(&vec![9; home], far, 9 * far as u64, Charge::NONE).unwrap();
         let mut tried = vec![0, 55, 56, 57, 255, 256, 257, 0x8000, 65_535];
         for count in [home as u16, far as u16] {
             tried.extend([count - 1, count, count + 1, 256 + count - 1]);
@@ -568,8 +584,8 @@ fn refusal_3_numbers_by_class() {
 /// Paper 02, U2: the 512 places serve both classes.
 #[test]
 fn both_classes_share_the_places() {
-    let mut book = PairBook::open(&[1_000], &[1_000]).unwrap();
-    let mut guard = Guard::open(&[1_000], 1, 1_000).unwrap();
+    let mut book = PairBook::open(&[1_000], &[1_000], Charge::NONE).unwrap();
+    let mut guard = Guard::open(&[1_000], 1, 1_000, Charge::NONE).unwrap();
     let over = |number| sending(Far, 0, 0, number, 1);
     let own = |number| local(Home, 0, 0, number, 1);
     for number in 0..256 {
@@ -696,8 +712,8 @@ fn order_of_the_guard() {
 #[test]
 fn refusal_51_beside_each_other() {
     for full in [false, true] {
-        let mut book = PairBook::open(&[100, 50], &[20, 10, 5]).unwrap();
-        let mut guard = Guard::open(&[100, 50], 3, 35).unwrap();
+        let mut book = PairBook::open(&[100, 50], &[20, 10, 5], Charge::NONE).unwrap();
+        let mut guard = Guard::open(&[100, 50], 3, 35, Charge::NONE).unwrap();
         // Number 3 is used for arrivals too.
         let over = Ledger::BOTH.map(|ledger| sending(ledger, 0, 0, 3, 1));
         let mut records = over.to_vec();

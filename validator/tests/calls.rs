@@ -4,8 +4,9 @@
 use std::collections::BTreeSet;
 
 use second_validator::answer::Answer::{self, Passed, Refused};
-use second_validator::journal::Balances;
-use second_validator::record::{Held, Kind, Record, MAX_AMOUNT, RECORD};
+use second_validator::charge::Charge;
+use second_validator::journal::{seal, Stakes};
+use second_validator::record::{Held, Kind, Ledger, Record, MAX_AMOUNT, RECORD};
 use second_validator::runner::calls::fields::{Field, Fields};
 use second_validator::runner::calls::{compare, Oracle, Part};
 use second_validator::states::{bytes_of, words_of, HomeState, Layout, PairState, State};
@@ -19,7 +20,7 @@ fn library_against_itself() {
     assert!(report.calls >= CALLS && report.calls < CALLS + 500);
     let answers = report.answers();
     let all = [
-        0, 1, 2, 3, 4, 11, 12, 13, 14, 21, 22, 23, 24, 25, 31, 32, 33, 41, 51,
+        0, 1, 2, 3, 4, 11, 12, 13, 14, 21, 22, 23, 24, 25, 31, 32, 33, 41, 51, 52,
     ];
     for number in all {
         assert!(answers.get(&number) > Some(&10), "{number} {answers:?}");
@@ -31,7 +32,7 @@ fn library_against_itself() {
         assert!(3 * passed > calls, "{family}: {passed} of {calls}");
     }
     assert_eq!(report.by_call.len(), 25);
-    assert_eq!(report.by_family.len(), 15);
+    assert_eq!(report.by_family.len(), 17);
     // Each record and each list is handed in by value and in place.
     for side in ["pair", "home"] {
         for (by_value, in_place) in [("check_record", "take"), ("check_list", "take_list")] {
@@ -50,6 +51,10 @@ fn library_against_itself() {
             }
         }
     }
+    for call in ["pair_open", "home_open", "block_judge", "block_balances"] {
+        let answers = &report.by_call[call];
+        assert!(answers.get(&52) > Some(&10), "{call} {answers:?}");
+    }
     // A balance knows 22 alone.
     for call in ["pair_balance", "home_balance"] {
         let answers = report.by_call[call].keys();
@@ -57,7 +62,7 @@ fn library_against_itself() {
     }
     for call in ["pair_places_left", "home_places_left"] {
         let answers = &report.by_call[call];
-        assert!(answers[&0] > 200 && answers[&3] > 100, "{call} {answers:?}");
+        assert!(answers[&0] > 150 && answers[&3] > 100, "{call} {answers:?}");
         assert_eq!(answers.len(), 2);
     }
 }
@@ -80,10 +85,10 @@ fn fields_are_altered_alone_and_in_pairs() {
         part.listener.altered = Some(Default::default());
         compare(&mut part, seed, CALLS, u64::MAX);
         let (pair, home) = part.listener.altered.unwrap();
-        // The pair state has 25 parts, 20 of them with many entries; the home
-        // state has 15 and 10.
-        assert_eq!(pair.expected().len(), 25 + 25 * 24 / 2 + 20);
-        assert_eq!(home.expected().len(), 15 + 15 * 14 / 2 + 10);
+        // The pair state has 27 parts, 20 of them with many entries; the home
+        // state has 17 and 10.
+        assert_eq!(pair.expected().len(), 27 + 27 * 26 / 2 + 20);
+        assert_eq!(home.expected().len(), 17 + 17 * 16 / 2 + 10);
         assert_eq!(pair.missing(), Vec::<Parts>::new());
         assert_eq!(home.missing(), Vec::<Parts>::new());
         for values in [pair.values, home.values] {
@@ -242,6 +247,8 @@ fn assert_forged_values(values: &BTreeSet<(String, u64)>) {
         (Field::Counts, &[513, 1 << 32, u64::MAX]),
         (Field::Accounts, &[0, 57, 65_535, 1 << 32, u64::MAX]),
         (Field::Supply, &[0, 1 << 63, u64::MAX]),
+        (Field::Rate, &[10_001, 65_536, 1 << 32, u64::MAX]),
+        (Field::ChargeAccount, &[57, 65_536, 1 << 32, u64::MAX]),
     ];
     for (field, wanted) in wanted {
         for &value in wanted {
@@ -603,6 +610,200 @@ enum Fault {
     HeldMatchFindsArrival,
     HeldMatchFindsFirst,
     Flight(Flight),
+    PairCharges(Charges, Handed),
+    HomeCharges(Charges, Handed),
+    /// The rate or the charge account of a state is seen by so many low bits.
+    LowBitsOfCharge(Field, u32),
+    /// It is not looked at.
+    ChargeNotLookedAt(Field),
+    ChargeAccountOneTooMany,
+    FlightWithCharges,
+    Opening52(Opening52),
+    Block52(Block52),
+    Writer52(Writer52),
+}
+
+/// What a part is wrong in when it charges.
+#[derive(Clone, Copy, Debug, PartialEq, Eq)]
+enum Charges {
+    Nothing,
+    RoundsUp,
+    RoundsToNearest,
+    Wraps64,
+    DividesFirst,
+    LowBitsOfAmount,
+    /// The amount alone decides 25.
+    AmountDecides,
+    /// Amount and charge must be less than the balance.
+    BalanceNotReached,
+    OwnAccountNeedsAmount,
+    OwnAccountPaysNothing,
+    /// The charge account's balance of before is raised by the charge.
+    OwnAccountReadTooEarly,
+    NotReceived,
+    PaidToAccount0,
+    PaidToReceiver,
+    LocalsPay,
+    ArrivalsPay,
+    /// The far due has the charge too.
+    DueWithCharge,
+    FarPays,
+}
+
+/// Those that a part can be wrong in for either checker.
+const CHARGES: [Charges; 16] = [
+    Charges::Nothing,
+    Charges::RoundsUp,
+    Charges::RoundsToNearest,
+    Charges::Wraps64,
+    Charges::DividesFirst,
+    Charges::LowBitsOfAmount,
+    Charges::AmountDecides,
+    Charges::BalanceNotReached,
+    Charges::OwnAccountNeedsAmount,
+    Charges::OwnAccountPaysNothing,
+    Charges::OwnAccountReadTooEarly,
+    Charges::NotReceived,
+    Charges::PaidToAccount0,
+    Charges::PaidToReceiver,
+    Charges::LocalsPay,
+    Charges::ArrivalsPay,
+];
+
+/// What a part is wrong in when it opens.
+#[derive(Clone, Copy, Debug, PartialEq, Eq)]
+enum Opening52 {
+    NotTold,
+    ToldAs(u8),
+    BeforeStakes,
+    BeforeCounts,
+    NotWithRate0,
+    LowBits(u32),
+    RateNotLookedAt,
+    AccountNotLookedAt,
+    NotWritten,
+}
+
+const OPENINGS: [Opening52; 11] = [
+    Opening52::NotTold,
+    Opening52::ToldAs(1),
+    Opening52::ToldAs(2),
+    Opening52::BeforeStakes,
+    Opening52::BeforeCounts,
+    Opening52::NotWithRate0,
+    Opening52::LowBits(16),
+    Opening52::LowBits(32),
+    Opening52::RateNotLookedAt,
+    Opening52::AccountNotLookedAt,
+    Opening52::NotWritten,
+];
+
+/// What a part is wrong in when it judges block 0.
+#[derive(Clone, Copy, Debug, PartialEq, Eq)]
+enum Block52 {
+    NotTold,
+    RateAlone,
+    AccountAlone,
+    ToldAs14,
+    Before14,
+    /// A place that is wanted comes first.
+    AfterPlace,
+    PlaceOfBlock1,
+    AsBeforeU3,
+    InBlock1Too,
+    RateAndAccountExchanged,
+    NotHandedOut,
+    BesideRefusal,
+}
+
+const BLOCKS: [Block52; 12] = [
+    Block52::NotTold,
+    Block52::RateAlone,
+    Block52::AccountAlone,
+    Block52::ToldAs14,
+    Block52::Before14,
+    Block52::AfterPlace,
+    Block52::PlaceOfBlock1,
+    Block52::AsBeforeU3,
+    Block52::InBlock1Too,
+    Block52::RateAndAccountExchanged,
+    Block52::NotHandedOut,
+    Block52::BesideRefusal,
+];
+
+/// What a part is wrong in when it writes.
+#[derive(Clone, Copy, Debug, PartialEq, Eq)]
+enum Writer52 {
+    NotLookedAt,
+    ToldAs52,
+    InBlock1Too,
+    InAllBlocks,
+    NotWritten,
+    WrittenInBlock1,
+    LowBits(u32),
+    NotWithRate0,
+}
+
+const WRITERS: [Writer52; 9] = [
+    Writer52::NotLookedAt,
+    Writer52::ToldAs52,
+    Writer52::InBlock1Too,
+    Writer52::InAllBlocks,
+    Writer52::NotWritten,
+    Writer52::WrittenInBlock1,
+    Writer52::LowBits(16),
+    Writer52::LowBits(32),
+    Writer52::NotWithRate0,
+];
+
+#[test]
+fn wrong_charges_are_found() {
+    for (seed, handed) in [(7, Handed::Record), (8, Handed::List)] {
+        for wrong in CHARGES.into_iter().chain([Charges::FarPays]) {
+            assert_call_found(Fault::PairCharges(wrong, handed), seed, "pair", handed);
+        }
+        for wrong in CHARGES.into_iter().chain([Charges::DueWithCharge]) {
+            assert_call_found(Fault::HomeCharges(wrong, handed), seed, "home", handed);
+        }
+    }
+}
+
+fn assert_call_found(fault: Fault, seed: u64, side: &str, handed: Handed) {
+    let report = compare(&mut Wrong::new(fault), seed, CALLS, 1);
+    assert!(report.differences > 0, "{fault:?} was not found by {seed}");
+    let call = match handed {
+        Handed::Record => "check_record",
+        Handed::List => "check_list",
+    };
+    assert_eq!(report.kept[0].call, format!("{side}_{call}"), "{fault:?}");
+}
+
+#[test]
+fn wrong_charges_of_states_are_found() {
+    let mut faults = vec![Fault::ChargeAccountOneTooMany];
+    for field in [Field::Rate, Field::ChargeAccount] {
+        faults.push(Fault::ChargeNotLookedAt(field));
+        faults.extend([16, 32, 63].map(|bits| Fault::LowBitsOfCharge(field, bits)));
+    }
+    for &fault in &faults {
+        assert_held_found(fault, "pair", 7);
+        assert_held_found(fault, "home", 8);
+    }
+    assert_held_found(Fault::FlightWithCharges, "pair", 7);
+}
+
+#[test]
+fn wrong_52_is_found() {
+    for wrong in OPENINGS {
+        assert_held_found(Fault::Opening52(wrong), "pair", 7);
+        assert_held_found(Fault::Opening52(wrong), "home", 8);
+    }
+    for wrong in BLOCKS {
+        assert_held_found(Fault::Block52(wrong), "block", 7);
+    }
+    for wrong in WRITERS {
+        assert_held_found(Fault::Writer52(wrong), "block_write", 7);
+    }
 }
 
 /// What a part is wrong in when it looks a number up.
@@ -1038,9 +1239,11 @@ impl Numbers {
             Field::Balances,
             56 * ledger + usize::from(record.sender) % 56,
         );
+        let [rate, account] = [Field::Rate, Field::ChargeAccount].map(|field| state.get(field, 0));
+        let charge = Charge { rate, account };
         match (record.takes(), S::LEDGERS) {
             _ if self.used(&record, &held) => refused(24),
-            (true, _) if record.amount > balance => refused(25),
+            (true, _) if charge.cost(&record) > balance => refused(25),
             (false, 1) if record.amount > state.get(Field::Pool, 0) => refused(32),
             (false, 2) if !self.sent(&record, &held_records(state, 1 - ledger)) => refused(31),
             _ if self.full(&record, &held) => refused(41),
@@ -1071,6 +1274,237 @@ impl Numbers {
             }
         }
         Passed
+    }
+}
+
+impl Charges {
+    /// What a record that pays is charged.
+    fn of(self, amount: u64, rate: u64) -> u64 {
+        let product = u128::from(amount) * u128::from(rate);
+        let charge = match self {
+            Charges::Nothing => 0,
+            Charges::RoundsUp => product.div_ceil(10_000),
+            Charges::RoundsToNearest => (product + 5_000) / 10_000,
+            Charges::Wraps64 => u128::from(amount.wrapping_mul(rate) / 10_000),
+            Charges::DividesFirst => u128::from(amount / 10_000) * u128::from(rate),
+            Charges::LowBitsOfAmount => u128::from((amount & 0xffff_ffff) * rate / 10_000),
+            _ => product / 10_000,
+        };
+        charge as u64
+    }
+
+    /// Whether a record is charged.
+    fn pays(self, record: &Record) -> bool {
+        match record.kind {
+            Kind::Sending(Ledger::Home) => true,
+            Kind::Sending(Ledger::Far) => self == Charges::FarPays,
+            Kind::Local(Ledger::Home) => self == Charges::LocalsPay,
+            Kind::Arrival(Ledger::Home) => self == Charges::ArrivalsPay,
+            _ => false,
+        }
+    }
+
+    /// What one record comes to, from what is right.
+    fn told<S: Fields + Clone>(
+        self,
+        state: &S,
+        bytes: &[u8],
+        right: (Answer, Box<S>),
+    ) -> (Answer, Box<S>) {
+        let record = Record::read(bytes).filter(|record| self.pays(record));
+        let (Some(record), 0 | 25 | 41) = (record, right.0.number()) else {
+            return right;
+        };
+        let account = state.get(Field::ChargeAccount, 0);
+        let own = u64::from(record.sender) == account && !record.kind.is_arrival();
+        let mut charge = self.of(record.amount, state.get(Field::Rate, 0));
+        if own && self == Charges::OwnAccountPaysNothing {
+            charge = 0;
+        }
+        let both = record.amount + charge;
+        let needed = match self {
+            Charges::AmountDecides => record.amount,
+            Charges::BalanceNotReached => both + 1,
+            Charges::OwnAccountNeedsAmount if own => record.amount,
+            _ => both,
+        };
+        let ledger = record.ledger().index();
+        let sender = 56 * ledger + usize::from(record.sender);
+        if record.takes() && needed > state.get(Field::Balances, sender) {
+            return (refused(25), Box::new(state.clone()));
+        }
+        if !right.0.passed() {
+            let full = state.get(Field::Counts, ledger) == 512;
+            return if full { right } else { (Passed, right.1) };
+        }
+        let mut next = right.1;
+        for entry in 0..S::length(Field::Balances) {
+            next.set(Field::Balances, entry, state.get(Field::Balances, entry));
+        }
+        let mut move_by = |entry: usize, by: u64| {
+            let balance = next.get(Field::Balances, entry).wrapping_add(by);
+            next.set(Field::Balances, entry, balance);
+        };
+        let receiver = 56 * ledger + usize::from(record.receiver) % 56;
+        if record.takes() {
+            move_by(sender, both.wrapping_neg());
+        }
+        if record.gives() {
+            let kept = if record.takes() { 0 } else { charge };
+            move_by(receiver, record.amount.wrapping_sub(kept));
+        }
+        match self {
+            Charges::NotReceived => (),
+            Charges::PaidToAccount0 => move_by(0, charge),
+            Charges::PaidToReceiver => move_by(receiver, charge),
+            Charges::OwnAccountReadTooEarly if own => move_by(sender, both + charge),
+            _ => move_by(account as usize, charge),
+        }
+        if self == Charges::DueWithCharge {
+            let due = next.get(Field::Pool, 0) + charge;
+            next.set(Field::Pool, 0, due);
+        }
+        (Passed, next)
+    }
+
+    /// What a list comes to. `right` is what the library makes of one record.
+    fn told_of_list<S: Fields + Clone>(
+        self,
+        state: &S,
+        bytes: &[u8],
+        right: impl Fn(&S, &[u8]) -> (Answer, Box<S>),
+    ) -> (Answer, Box<S>) {
+        let mut now = Box::new(state.clone());
+        for (place, record) in bytes.chunks(RECORD).enumerate() {
+            let (answer, next) = self.told(&*now, record, right(&now, record));
+            if let Refused { number, .. } = answer {
+                let place = place as u64;
+                return (Refused { number, place }, Box::new(state.clone()));
+            }
+            now = next;
+        }
+        (Passed, now)
+    }
+}
+
+/// Whether a rate or an account is wrong, the rate first.
+fn charge_wrong(rate: u64, account: u64, accounts: usize) -> [bool; 2] {
+    [rate > 10_000, account >= accounts as u64]
+}
+
+fn low_bits(value: u64, bits: u32) -> u64 {
+    value & ((1 << bits) - 1)
+}
+
+impl Opening52 {
+    /// What an opening comes to, from what is right. `open` is what the library
+    /// makes of another charge.
+    fn told<const N: usize>(
+        self,
+        [rate, account]: [u64; 2],
+        accounts: usize,
+        right: (Answer, Box<State<N>>),
+        open: impl Fn(u64, u64) -> (Answer, Box<State<N>>),
+    ) -> (Answer, Box<State<N>>)
+    where
+        State<N>: Fields,
+    {
+        let wrong = charge_wrong(rate, account, accounts).contains(&true);
+        let (answer, mut state) = right;
+        match (self, answer.number()) {
+            (Opening52::NotTold, 52) => open(0, 0),
+            (Opening52::ToldAs(number), 52) => (refused(number), state),
+            (Opening52::BeforeStakes, 2) if wrong => (refused(52), state),
+            (Opening52::BeforeCounts, 1) if wrong => (refused(52), state),
+            (Opening52::NotWithRate0, 52) if rate == 0 => open(0, 0),
+            (Opening52::LowBits(bits), _) => open(low_bits(rate, bits), low_bits(account, bits)),
+            (Opening52::RateNotLookedAt, 52) => open(rate.min(10_000), account),
+            (Opening52::AccountNotLookedAt, 52) => open(rate, 0),
+            (Opening52::NotWritten, 0) => {
+                state.set(Field::Rate, 0, 0);
+                (answer, state)
+            }
+            _ => (answer, state),
+        }
+    }
+}
+
+impl Writer52 {
+    fn write(
+        self,
+        output: &mut [u8],
+        [number, kind]: [u64; 2],
+        [rate, account]: [u64; 2],
+        items: &[u8],
+    ) -> Answer {
+        let kind = kind as u8;
+        let wrong = |size: usize| {
+            let wrong = charge_wrong(rate, account, items.len() / size);
+            wrong.contains(&true)
+        };
+        let refused = |refusal| Refused {
+            number: refusal,
+            place: number,
+        };
+        let (rate, account) = match self {
+            Writer52::NotLookedAt | Writer52::ToldAs52 if number == 0 && wrong(8) => (0, 0),
+            Writer52::InBlock1Too if number == 1 && wrong(8) => return refused(4),
+            Writer52::InAllBlocks if number > 1 && wrong(RECORD) => return refused(4),
+            Writer52::NotWritten if number == 0 && !wrong(8) => (0, 0),
+            Writer52::LowBits(bits) => (low_bits(rate, bits), low_bits(account, bits)),
+            Writer52::NotWithRate0 if rate == 0 && wrong(8) => (0, 0),
+            _ => (rate, account),
+        };
+        let before = output.to_vec();
+        let answer = Oracle.block_write(output, number, kind, rate, account, items);
+        if self == Writer52::ToldAs52 && answer.passed() && number == 0 && wrong(8) {
+            output.copy_from_slice(&before);
+            return refused(52);
+        }
+        if self == Writer52::WrittenInBlock1 && answer.passed() && number == 1 {
+            output[6..8].copy_from_slice(&(rate as u16).to_be_bytes());
+            seal(output);
+        }
+        answer
+    }
+}
+
+/// Rate and charge account as they stand in a block.
+fn charge_in(block: &[u8]) -> [u64; 2] {
+    [6, 8].map(|at| u64::from(u16::from_be_bytes([block[at], block[at + 1]])))
+}
+
+impl Block52 {
+    /// The answer to a block, from the right one.
+    fn told(self, block: &[u8], number: u64, answer: Answer) -> Answer {
+        if block.len() != 512 || number > 1 {
+            return answer;
+        }
+        let [rate, account] = charge_in(block);
+        let wrong = charge_wrong(rate, account, usize::from(block[5]));
+        let refused = |refusal| Refused {
+            number: refusal,
+            place: number,
+        };
+        match (self, answer.number(), number) {
+            (Block52::NotTold, 52, _) => Passed,
+            (Block52::RateAlone, 52, _) if !wrong[0] => Passed,
+            (Block52::AccountAlone, 52, _) if !wrong[1] => Passed,
+            (Block52::ToldAs14, 52, _) => refused(14),
+            (Block52::Before14, 14, 0) if wrong.contains(&true) => refused(52),
+            (Block52::PlaceOfBlock1, 52, _) => Refused {
+                number: 52,
+                place: 1,
+            },
+            (Block52::AsBeforeU3, 0 | 4 | 52, 0) if [rate, account] != [0, 0] => refused(14),
+            (Block52::InBlock1Too, 14, 1) => {
+                let mut block = block.to_vec();
+                block[6..10].fill(0);
+                seal(&mut block);
+                Oracle.block_judge(&block, number, 0)
+            }
+            _ => answer,
+        }
     }
 }
 
@@ -1483,6 +1917,20 @@ impl Wrong {
                 replace(state, field, |old| old & ((1 << bits) - 1))
             }
             Fault::HeldOpenOnEither(field) => open_on_either(state, field),
+            Fault::LowBitsOfCharge(field, bits) if self.concerns::<S>() => {
+                replace(state, field, |old| low_bits(old, bits));
+            }
+            Fault::ChargeNotLookedAt(field) if self.concerns::<S>() => set_all(state, field, 0),
+            Fault::ChargeAccountOneTooMany if self.concerns::<S>() => {
+                let open = state.get(Field::Accounts, 0);
+                replace(state, Field::ChargeAccount, |old| {
+                    if old == open {
+                        0
+                    } else {
+                        old
+                    }
+                });
+            }
             Fault::HeldMayShare(one, two) if self.concerns::<S>() && in_bounds(state) => {
                 drop_sharing(state, [one, two], in_flight);
             }
@@ -1535,6 +1983,9 @@ impl Wrong {
         }
         if let Fault::PairNumbers(wrong, Handed::Record) = self.fault {
             return (wrong.told(state, bytes, answer), next);
+        }
+        if let Fault::PairCharges(wrong, Handed::Record) = self.fault {
+            return wrong.told(state, bytes, (answer, next));
         }
         if answer.number() != 3 && self.pair_held_refused(state) {
             return (refused(3), Box::new(state.clone()));
@@ -1597,6 +2048,13 @@ impl Wrong {
                 return (wrong.told_of_list(state, bytes, right), next);
             }
         }
+        if let Fault::PairCharges(wrong, Handed::List) = self.fault {
+            if answer.number() != 3 && bytes.len() <= LONGEST_TOLD {
+                return wrong.told_of_list(state, bytes, |state: &PairState, record| {
+                    Oracle.pair_check_record(state, record)
+                });
+            }
+        }
         if let (Fault::KeepsWhatStoodBefore, Refused { place, .. }) = (self.fault, answer) {
             let before = &bytes[..place as usize * RECORD];
             return (answer, self.right.pair_check_list(state, before).1);
@@ -1634,6 +2092,9 @@ impl Wrong {
         if let Fault::HomeNumbers(wrong, Handed::Record) = self.fault {
             return (wrong.told(state, bytes, answer), next);
         }
+        if let Fault::HomeCharges(wrong, Handed::Record) = self.fault {
+            return wrong.told(state, bytes, (answer, next));
+        }
         if answer.number() != 3 && self.held_refused(state) {
             return (refused(3), Box::new(state.clone()));
         }
@@ -1667,7 +2128,22 @@ impl Wrong {
                 return (wrong.told_of_list(state, bytes, right), next);
             }
         }
+        if let Fault::HomeCharges(wrong, Handed::List) = self.fault {
+            if answer.number() != 3 && bytes.len() <= LONGEST_TOLD {
+                return wrong.told_of_list(state, bytes, |state: &HomeState, record| {
+                    Oracle.home_check_record(state, record)
+                });
+            }
+        }
         (self.place(answer), next)
+    }
+
+    /// The answer to a block, from the right one.
+    fn block(&self, block: &[u8], number: u64, answer: Answer) -> Answer {
+        match self.fault {
+            Fault::Block52(wrong) => wrong.told(block, number, answer),
+            _ => answer,
+        }
     }
 
     fn home_taken(
@@ -2211,10 +2687,22 @@ fn is_local_to_itself(bytes: &[u8]) -> Option<Record> {
 }
 
 impl Part for Wrong {
-    fn pair_open(&mut self, home: &[u64], far: &[u64]) -> (Answer, Box<PairState>) {
+    fn pair_open(
+        &mut self,
+        home: &[u64],
+        far: &[u64],
+        rate: u64,
+        charge_account: u64,
+    ) -> (Answer, Box<PairState>) {
         self.listener.note(&[home.len() as u8, far.len() as u8]);
-        let (answer, mut state) = self.right.pair_open(home, far);
+        let (answer, mut state) = self.right.pair_open(home, far, rate, charge_account);
         self.listener.pair_opened(&state);
+        if let (Fault::Opening52(wrong), true) = (self.fault, self.concerns::<PairState>()) {
+            let charge = [rate, charge_account];
+            return wrong.told(charge, home.len(), (answer, state), |rate, account| {
+                Oracle.pair_open(home, far, rate, account)
+            });
+        }
         if self.is(Fault::OpeningKept) && !answer.passed() {
             state.set(Field::Accounts, 0, home.len() as u64);
             state.set(Field::Accounts, 1, far.len() as u64);
@@ -2281,6 +2769,15 @@ impl Part for Wrong {
         if self.is(Fault::FiguresBesideRefusal) && !answer.passed() {
             return (answer, [state.supply(), 0, 0]);
         }
+        if let (Fault::FlightWithCharges, Passed) = (self.fault, answer) {
+            let home = held_records(state, 0);
+            let sent = home.iter().filter(|record| !record.gives());
+            let rate = state.get(Field::Rate, 0);
+            let charges: u64 = sent
+                .map(|sent| Charges::FarPays.of(sent.amount, rate))
+                .sum();
+            return (answer, [figures[0], figures[1], figures[2] + charges]);
+        }
         if let (Fault::Flight(wrong), Passed) = (self.fault, answer) {
             return (answer, [figures[0], figures[1], wrong.told(state)]);
         }
@@ -2321,9 +2818,24 @@ impl Part for Wrong {
         (answer, [told[0], told[1]])
     }
 
-    fn home_open(&mut self, home: &[u64], fars: usize, far_total: u64) -> (Answer, Box<HomeState>) {
-        let (answer, state) = self.right.home_open(home, fars, far_total);
+    fn home_open(
+        &mut self,
+        home: &[u64],
+        fars: usize,
+        far_total: u64,
+        rate: u64,
+        charge_account: u64,
+    ) -> (Answer, Box<HomeState>) {
+        let (answer, state) = self
+            .right
+            .home_open(home, fars, far_total, rate, charge_account);
         self.listener.home_opened(&state);
+        if let (Fault::Opening52(wrong), true) = (self.fault, self.concerns::<HomeState>()) {
+            let charge = [rate, charge_account];
+            return wrong.told(charge, home.len(), (answer, state), |rate, account| {
+                Oracle.home_open(home, fars, far_total, rate, account)
+            });
+        }
         (answer, state)
     }
 
@@ -2437,7 +2949,7 @@ impl Part for Wrong {
                 place: number,
             },
             Fault::ZeroBytesOfBlock if answer.number() == 14 && block[31] != 0 => Passed,
-            _ => answer,
+            _ => self.block(block, number, answer),
         }
     }
 
@@ -2448,7 +2960,11 @@ impl Part for Wrong {
                 place: number,
             };
         }
-        self.right.block_judge_record(block, number, before, place)
+        let answer = self.right.block_judge_record(block, number, before, place);
+        if self.is(Fault::Block52(Block52::AfterPlace)) && answer.number() == 52 {
+            return refused(4);
+        }
+        answer
     }
 
     fn block_record(
@@ -2473,27 +2989,48 @@ impl Part for Wrong {
         (answer, count)
     }
 
-    fn block_balances(
-        &mut self,
-        block: &[u8],
-        number: u64,
-        before: u64,
-    ) -> (Answer, (u64, Balances)) {
+    fn block_balances(&mut self, block: &[u8], number: u64, before: u64) -> (Answer, Stakes) {
         let (answer, handed) = self.right.block_balances(block, number, before);
         if self.is(Fault::BalancesOfRecords) && answer.number() == 4 {
             return (Passed, handed);
         }
-        (answer, handed)
+        let (count, rate, account, balances) = handed;
+        let (rate, account) = match (self.fault, answer.number()) {
+            (Fault::Block52(Block52::RateAndAccountExchanged), 0) => (account, rate),
+            (Fault::Block52(Block52::NotHandedOut), 0) => (0, 0),
+            (Fault::Block52(Block52::BesideRefusal), 52) => (charge_in(block)[0], account),
+            _ => (rate, account),
+        };
+        (answer, (count, rate, account, balances))
     }
 
-    fn block_write(&mut self, output: &mut [u8], number: u64, kind: u8, items: &[u8]) -> Answer {
+    fn block_write(
+        &mut self,
+        output: &mut [u8],
+        number: u64,
+        kind: u8,
+        rate: u64,
+        charge_account: u64,
+        items: &[u8],
+    ) -> Answer {
         self.listener.note(output);
         if self.is(Fault::LongOutput) && output.len() > 512 {
+            let output = &mut output[..512];
             return self
                 .right
-                .block_write(&mut output[..512], number, kind, items);
+                .block_write(output, number, kind, rate, charge_account, items);
         }
-        let answer = self.right.block_write(output, number, kind, items);
+        if let Fault::Writer52(wrong) = self.fault {
+            return wrong.write(
+                output,
+                [number, u64::from(kind)],
+                [rate, charge_account],
+                items,
+            );
+        }
+        let answer = self
+            .right
+            .block_write(output, number, kind, rate, charge_account, items);
         if self.is(Fault::OutputTouched) && !answer.passed() {
             if let Some(first) = output.first_mut() {
                 *first ^= 1;

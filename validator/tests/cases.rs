@@ -1,6 +1,7 @@
 //! The cases of paper 01 and its listing, with changes U1 and U2 of paper 02.
 
 use second_validator::answer::Answer::{self, Passed};
+use second_validator::charge::Charge;
 use second_validator::guard::Guard;
 use second_validator::listing::listing;
 use second_validator::pair::PairBook;
@@ -13,11 +14,11 @@ fn refused(number: u8) -> Answer {
 }
 
 fn pair() -> PairBook {
-    PairBook::open(&[100, 50], &[20]).unwrap()
+    PairBook::open(&[100, 50], &[20], Charge::NONE).unwrap()
 }
 
 fn guard() -> Guard {
-    Guard::open(&[100, 50], 1, 20).unwrap()
+    Guard::open(&[100, 50], 1, 20, Charge::NONE).unwrap()
 }
 
 fn figures(book: &PairBook) -> (u64, u64, u64, u128) {
@@ -142,12 +143,21 @@ fn cases_10_and_11_verdict() {
 
 #[test]
 fn case_12_stakes_total() {
-    assert!(PairBook::open(&[MAX_AMOUNT], &[0]).is_ok());
-    assert_eq!(PairBook::open(&[MAX_AMOUNT], &[1]), Err(refused(2)));
-    assert!(PairBook::open(&[MAX_AMOUNT, 0], &[0]).is_ok());
-    assert_eq!(PairBook::open(&[MAX_AMOUNT, 1], &[0]), Err(refused(2)));
-    assert!(Guard::open(&[MAX_AMOUNT], 1, 0).is_ok());
-    assert_eq!(Guard::open(&[MAX_AMOUNT], 1, 1), Err(refused(2)));
+    assert!(PairBook::open(&[MAX_AMOUNT], &[0], Charge::NONE).is_ok());
+    assert_eq!(
+        PairBook::open(&[MAX_AMOUNT], &[1], Charge::NONE),
+        Err(refused(2))
+    );
+    assert!(PairBook::open(&[MAX_AMOUNT, 0], &[0], Charge::NONE).is_ok());
+    assert_eq!(
+        PairBook::open(&[MAX_AMOUNT, 1], &[0], Charge::NONE),
+        Err(refused(2))
+    );
+    assert!(Guard::open(&[MAX_AMOUNT], 1, 0, Charge::NONE).is_ok());
+    assert_eq!(
+        Guard::open(&[MAX_AMOUNT], 1, 1, Charge::NONE),
+        Err(refused(2))
+    );
 }
 
 #[test]
@@ -178,12 +188,18 @@ fn case_13_table_of_the_guard() {
 
 #[test]
 fn case_14_account_counts() {
-    assert!(PairBook::open(&[1; 56], &[1; 56]).is_ok());
-    assert_eq!(PairBook::open(&[1; 57], &[1]), Err(refused(1)));
-    assert_eq!(PairBook::open(&[1], &[1; 57]), Err(refused(1)));
-    assert!(Guard::open(&[1; 56], 56, 1).is_ok());
-    assert_eq!(Guard::open(&[1; 57], 1, 1), Err(refused(1)));
-    assert_eq!(Guard::open(&[1], 57, 1), Err(refused(1)));
+    assert!(PairBook::open(&[1; 56], &[1; 56], Charge::NONE).is_ok());
+    assert_eq!(
+        PairBook::open(&[1; 57], &[1], Charge::NONE),
+        Err(refused(1))
+    );
+    assert_eq!(
+        PairBook::open(&[1], &[1; 57], Charge::NONE),
+        Err(refused(1))
+    );
+    assert!(Guard::open(&[1; 56], 56, 1, Charge::NONE).is_ok());
+    assert_eq!(Guard::open(&[1; 57], 1, 1, Charge::NONE), Err(refused(1)));
+    assert_eq!(Guard::open(&[1], 57, 1, Charge::NONE), Err(refused(1)));
 }
 
 #[test]

@@ -3,6 +3,7 @@
 use std::io::{self, Read};
 
 use second_validator::answer::Answer::{self, Passed};
+use second_validator::charge::Charge;
 use second_validator::journal::{
     judge_block, judge_place, part, seal, write_block, BLOCK, FULL, LAST_BLOCK,
 };
@@ -61,7 +62,10 @@ fn written_blocks_read_again() {
         for count in 1..=FULL {
             let items = rng.bytes(32 * count);
             let mut block = [7; BLOCK];
-            assert_eq!(write_block(number, 3, &items, &mut block), Passed);
+            assert_eq!(
+                write_block(number, 3, Charge::NONE, &items, &mut block),
+                Passed
+            );
             assert_eq!(judge_block(&block, number, 14), Passed);
             for place in 0..count {
                 let wanted = &items[32 * place..32 * place + 32];
@@ -116,21 +120,30 @@ fn refusal_4_of_the_writer() {
         (LAST_BLOCK + 1, 3, &item),
     ];
     for (number, kind, items) in attempts {
-        let answer = write_block(number, kind, items, &mut output);
+        let answer = write_block(number, kind, Charge::NONE, items, &mut output);
         assert_eq!(answer, refused(4, number));
         assert_eq!(output, [9; BLOCK]);
     }
     for kind in [0, 4, 255] {
-        assert_eq!(write_block(2, kind, &item, &mut output), refused(4, 2));
+        assert_eq!(
+            write_block(2, kind, Charge::NONE, &item, &mut output),
+            refused(4, 2)
+        );
     }
     for length in [0, 511, 513] {
         let mut output = vec![9; length];
-        assert_eq!(write_block(2, 3, &item, &mut output), refused(4, 2));
+        assert_eq!(
+            write_block(2, 3, Charge::NONE, &item, &mut output),
+            refused(4, 2)
+        );
         assert_eq!(output, vec![9; length]);
     }
-    assert_eq!(write_block(0, 1, &full, &mut output), Passed);
-    assert_eq!(write_block(1, 2, &full[..8], &mut output), Passed);
-    assert_eq!(write_block(2, 3, &full, &mut output), Passed);
+    assert_eq!(write_block(0, 1, Charge::NONE, &full, &mut output), Passed);
+    assert_eq!(
+        write_block(1, 2, Charge::NONE, &full[..8], &mut output),
+        Passed
+    );
+    assert_eq!(write_block(2, 3, Charge::NONE, &full, &mut output), Passed);
 }
 
 #[test]
@@ -183,8 +196,8 @@ fn told_count_is_looked_at_from_block_3_on() {
 #[test]
 fn refusal_14_every_zero_byte() {
     let blocks = blocks(3);
-    for (number, used) in [(0, 16), (1, 8), (2, 96)] {
-        for place in (6..32).chain(32 + used..480) {
+    for (number, head, used) in [(0, 10, 16), (1, 6, 8), (2, 6, 96)] {
+        for place in (head..32).chain(32 + used..480) {
             let mut block = blocks[number];
             block[place] = 1;
             seal(&mut block);
@@ -323,7 +336,7 @@ fn limit_of_65_536_blocks() {
     let items = records(14).concat();
     for number in 2..=LAST_BLOCK {
         let mut block = [0; BLOCK];
-        write_block(number, 3, &items, &mut block);
+        write_block(number, 3, Charge::NONE, &items, &mut block);
         bytes.extend_from_slice(&block);
     }
     let listed = lines(&bytes);

@@ -3,6 +3,7 @@
 
 use second_validator::answer::Answer;
 use second_validator::guard::Guard;
+use second_validator::journal::charge;
 use second_validator::listing::listing;
 use second_validator::pair::PairBook;
 use second_validator::record::{number_of, Kind, Ledger, Record};
@@ -10,7 +11,7 @@ use second_validator::rules::CAPACITY;
 use second_validator::runner::build::{Bytes, Opening};
 use second_validator::runner::families::{faults, full_tables, honest, near_misses};
 use second_validator::runner::rng::Rng;
-use second_validator::runner::trader::{any_opening, rich_opening, Numbers, Trader};
+use second_validator::runner::trader::{any_opening, maybe_charged, rich_opening, Numbers, Trader};
 
 /// The opening and the records of a sound journal.
 fn parts(journal: &[u8]) -> (Opening, Vec<Bytes>) {
@@ -18,6 +19,7 @@ fn parts(journal: &[u8]) -> (Opening, Vec<Bytes>) {
     let opening = Opening {
         home: stakes(&journal[..512]),
         far: stakes(&journal[512..1_024]),
+        charge: charge(journal, 0),
     };
     let records = journal[1_024..]
         .chunks_exact(512)
@@ -25,6 +27,15 @@ fn parts(journal: &[u8]) -> (Opening, Vec<Bytes>) {
         .map(|bytes| bytes.try_into().unwrap())
         .collect();
     (opening, records)
+}
+
+fn pair_of(opening: &Opening) -> PairBook {
+    PairBook::open(&opening.home, &opening.far, opening.charge).unwrap()
+}
+
+fn guard_of(opening: &Opening) -> Guard {
+    let far_total = opening.far.iter().sum();
+    Guard::open(&opening.home, opening.far.len(), far_total, opening.charge).unwrap()
 }
 
 /// Journals of several families.
@@ -42,7 +53,7 @@ fn journals(count: u64) -> Vec<Vec<u8>> {
 
 /// The listing of a journal by the plain pair book, call by call.
 fn plain_listing(opening: &Opening, records: &[Bytes]) -> String {
-    let mut book = PairBook::open(&opening.home, &opening.far).unwrap();
+    let mut book = pair_of(opening);
     let figures = |book: &PairBook| {
         let (home, far) = (book.home_total(), book.far_total());
         format!("{home} {far} {}", book.in_flight())
@@ -75,7 +86,7 @@ fn listings_agree_with_the_plain_pair_book() {
 fn lists_agree_with_single_calls() {
     for journal in journals(24) {
         let (opening, records) = parts(&journal);
-        let mut single = PairBook::open(&opening.home, &opening.far).unwrap();
+        let mut single = pair_of(&opening);
         let mut listed = single.clone();
         for some in records.chunks(7) {
             let before = single.clone();
@@ -103,7 +114,7 @@ fn alter(rng: &mut Rng, book: &mut PairBook) {
     let side = rng.index(2);
     let accounts = book.sides[side].accounts;
     let held = book.sides[side].held.len();
-    match rng.below(if held == 0 { 5 } else { 12 }) {
+    match rng.below(if held == 0 { 7 } else { 14 }) {
         0 => book.stake ^= 1 << rng.below(64),
         1 => {
             let account = rng.index(accounts);
@@ -115,17 +126,22 @@ fn alter(rng: &mut Rng, book: &mut PairBook) {
             book.sides[side].balances[beyond] = 1;
         }
         3 | 4 => book.stake = u64::MAX,
+        5 => book.charge.rate = rng.pick(&[10_001, 65_536, 1 << 32, u64::MAX]),
+        6 => {
+            let open = book.sides[0].accounts as u64;
+            book.charge.account = rng.pick(&[open, 56, 65_536, 1 << 32, u64::MAX]);
+        }
         choice => {
             let place = rng.index(held);
             let copy = book.sides[side].held[place];
             let record = &mut book.sides[side].held[place];
             match choice {
-                5 => record.kind = rng.pick(&[0, 4, 200]),
-                6 => record.ledger = rng.pick(&[1 - side as u8, 2, 255]),
-                7 => record.verdict = rng.pick(&[0, 2, 255]),
-                8 => record.amount = rng.pick(&[0, 1 << 63, u64::MAX]),
-                9 => record.sender = rng.pick(&[56, 300, u16::MAX]),
-                10 => record.receiver = rng.pick(&[56, 300, u16::MAX]),
+                7 => record.kind = rng.pick(&[0, 4, 200]),
+                8 => record.ledger = rng.pick(&[1 - side as u8, 2, 255]),
+                9 => record.verdict = rng.pick(&[0, 2, 255]),
+                10 => record.amount = rng.pick(&[0, 1 << 63, u64::MAX]),
+                11 => record.sender = rng.pick(&[56, 300, u16::MAX]),
+                12 => record.receiver = rng.pick(&[56, 300, u16::MAX]),
                 _ => book.sides[side].held.push(copy),
             }
         }
@@ -137,7 +153,7 @@ fn altered_states_are_refused() {
     let mut rng = Rng::new(8);
     for journal in journals(40) {
         let (opening, records) = parts(&journal);
-        let mut book = PairBook::open(&opening.home, &opening.far).unwrap();
+        let mut book = pair_of(&opening);
         let stop = rng.index(records.len() + 1);
         for bytes in &records[..stop] {
             book.call(bytes);
@@ -163,9 +179,8 @@ fn altered_states_are_refused() {
 fn guard_agrees_with_the_pair_book() {
     for journal in journals(40) {
         let (opening, records) = parts(&journal);
-        let far_total: u64 = opening.far.iter().sum();
-        let mut pair = PairBook::open(&opening.home, &opening.far).unwrap();
-        let mut guard = Guard::open(&opening.home, opening.far.len(), far_total).unwrap();
+        let mut pair = pair_of(&opening);
+        let mut guard = guard_of(&opening);
         for bytes in &records {
             let answer = pair.call(bytes);
             let far = Record::read(bytes).is_some_and(|record| record.ledger() == Ledger::Far);
@@ -190,10 +205,9 @@ fn guard_agrees_with_the_pair_book() {
 fn guard_passes_only_what_a_far_list_can_explain() {
     for seed in 0..40 {
         let mut rng = Rng::new(seed);
-        let opening = any_opening(&mut rng);
-        let far_total: u64 = opening.far.iter().sum();
-        let mut guard = Guard::open(&opening.home, opening.far.len(), far_total).unwrap();
-        let mut pair = PairBook::open(&opening.home, &opening.far).unwrap();
+        let opening = maybe_charged(&mut rng, any_opening);
+        let mut guard = guard_of(&opening);
+        let mut pair = pair_of(&opening);
         let mut helper = Helper { next: 1 << 40 };
         let mut trader = Trader::new(opening, Numbers::Few(200), Rng::new(seed + 1));
         for _ in 0..60 {
@@ -254,7 +268,7 @@ fn full_tables_keep_their_states_accepted() {
     for ledger in Ledger::BOTH {
         trader.fill(ledger, CAPACITY);
     }
-    let mut book = PairBook::open(&trader.opening.home, &trader.opening.far).unwrap();
+    let mut book = pair_of(&trader.opening);
     for bytes in &trader.records {
         assert!(book.call(bytes).passed());
     }

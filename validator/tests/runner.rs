@@ -6,7 +6,8 @@ use std::os::unix::fs::PermissionsExt;
 use std::path::{Path, PathBuf};
 use std::time::Duration;
 
-use second_validator::journal::{records, seal, stakes, BLOCK, FULL, ITEMS};
+use second_validator::charge::Charge;
+use second_validator::journal::{charge, records, seal, stakes, BLOCK, FULL, ITEMS};
 use second_validator::listing::listing;
 use second_validator::record::{Kind, Ledger, Record, RECORD};
 use second_validator::runner::families::{self, Plan};
@@ -77,7 +78,7 @@ struct Absent {
 /// journal lists for them is held to 22 and 51.
 fn absent_accounts(journal: &[u8]) -> BTreeSet<Absent> {
     let [home, far] = [&journal[..BLOCK], &journal[BLOCK..]].map(stakes);
-    let mut book = RunningBook::open(&home, &far).unwrap();
+    let mut book = RunningBook::open(&home, &far, charge(journal, 0)).unwrap();
     let open = |ledger, account: u16| {
         let stakes = if ledger == Ledger::Home { &home } else { &far };
         usize::from(account) < stakes.len()
@@ -196,7 +197,7 @@ fn families_make_the_same_journals_again() {
 #[test]
 fn tables_fill_early_or_late() {
     for (fill, from, to) in [(Fill::Early, 0.0, 0.1), (Fill::Late, 0.95, 1.0)] {
-        let journal = full::journal(3, fill, 3_000);
+        let journal = full::journal(3, fill, Charge::NONE, 3_000);
         let text = String::from_utf8(listing(&journal)).unwrap();
         let passed: Vec<usize> = text
             .lines()
@@ -222,7 +223,8 @@ fn stored_journals() {
         let listed = listing(&sample.journal);
         size += sample.journal.len() + listed.len();
         answers(&listed, &mut tally);
-        if let Some(number) = sample.name.strip_prefix("refusal_") {
+        let told = ["refusal_", "fault_"].map(|prefix| sample.name.strip_prefix(prefix));
+        if let Some(number) = told.into_iter().flatten().next() {
             let wanted: u32 = number[..2].parse().unwrap();
             let mut own = BTreeMap::new();
             answers(&listed, &mut own);
@@ -233,8 +235,8 @@ fn stored_journals() {
             );
         }
     }
-    assert!(samples.len() == 78 && size < 1_500_000);
-    for key in [2, 11, 12, 13, 14].map(|number| (true, number)) {
+    assert!(samples.len() == 92 && size < 1_700_000);
+    for key in [2, 11, 12, 13, 14, 52].map(|number| (true, number)) {
         assert!(tally.contains_key(&key));
     }
     for key in [0, 21, 22, 23, 24, 25, 31, 41, 51].map(|number| (false, number)) {
@@ -475,12 +477,13 @@ struct Sound {
 
 /// The long stored journals. In two of those from before U2 the other table is
 /// full too when the last record comes.
-fn long_sound() -> [Sound; 4] {
+fn long_sound() -> [Sound; 5] {
     [
         ("long_130_blocks", 0, 120, 41),
         ("long_131_blocks", 1, 120, 0),
         ("long_150_blocks_bad_last", 0, 105, 41),
         ("long_140_blocks_both_classes", 1, 125, 0),
+        ("long_135_blocks_charge", 0, 120, 0),
     ]
     .map(|(name, full, until, last)| {
         let mut journal = stored(name);
@@ -583,7 +586,7 @@ fn programs_that_do_right_and_wrong() {
         let runner = Runner::new(&program, folder.path(), worker, limit);
         runner.run(journal, 1_000).unwrap()
     };
-    let journal = full::journal(1, Fill::Early, 400);
+    let journal = full::journal(1, Fill::Early, Charge::new(50, 7), 400);
     let right = run(0, &format!("exec '{own}' list"), &journal);
     assert!(right.fault.is_none() && right.output == listing(&journal));
     let silent = run(1, "exit 3", &journal);

@@ -3,6 +3,7 @@
 //! records that hand back plain numbers.
 
 use second_validator::answer::Answer::{self, Passed};
+use second_validator::charge::Charge;
 use second_validator::journal::{
     block_balances, block_count, block_record, judge_place, part, seal, BLOCK, FULL,
 };
@@ -27,13 +28,13 @@ fn refused_at(number: u8, place: u64) -> Answer {
 }
 
 fn pair() -> Box<PairState> {
-    let (answer, state) = PairState::open(&[100, 50], &[20]);
+    let (answer, state) = PairState::open(&[100, 50], &[20], Charge::NONE);
     assert_eq!(answer, Passed);
     state
 }
 
 fn home() -> Box<HomeState> {
-    let (answer, state) = HomeState::open(&[100, 50], 1, 20);
+    let (answer, state) = HomeState::open(&[100, 50], 1, 20, Charge::NONE);
     assert_eq!(answer, Passed);
     state
 }
@@ -135,7 +136,7 @@ fn less<S: Fields>(state: &mut S, field: Field, index: usize, less: u64) {
 #[test]
 fn layout_of_the_states() {
     let mut state = PairState::ZERO;
-    assert_eq!(state.words().len(), 4_213);
+    assert_eq!(state.words().len(), 4_215);
     for (word, value) in state.words_mut().iter_mut().zip(0..) {
         *word = value;
     }
@@ -156,8 +157,9 @@ fn layout_of_the_states() {
         (4_208, 4_209, 4_210)
     );
     assert_eq!((state.count(0), state.count(1)), (4_211, 4_212));
+    assert_eq!(state.charge(), Charge::new(4_213, 4_214));
     let mut state = HomeState::ZERO;
-    assert_eq!(state.words().len(), 2_109);
+    assert_eq!(state.words().len(), 2_111);
     for (word, value) in state.words_mut().iter_mut().zip(0..) {
         *word = value;
     }
@@ -172,8 +174,9 @@ fn layout_of_the_states() {
         (state.accounts(0), state.accounts(1), state.count(0)),
         (2_106, 2_107, 2_108)
     );
-    assert_eq!(size_of::<PairState>(), 8 * 4_213);
-    assert_eq!(size_of::<HomeState>(), 8 * 2_109);
+    assert_eq!(state.charge(), Charge::new(2_109, 2_110));
+    assert_eq!(size_of::<PairState>(), 8 * 4_215);
+    assert_eq!(size_of::<HomeState>(), 8 * 2_111);
 }
 
 /// The fields by name are all the words, each bit once.
@@ -198,15 +201,15 @@ fn words_to_states_and_back() {
     assert!(PairState::from_words(state.words()) == *state);
     let state = traded_home();
     assert!(HomeState::from_words(state.words()) == *state);
-    let any: Vec<u64> = (0..4_213).map(|i| u64::MAX - i).collect();
+    let any: Vec<u64> = (0..4_215).map(|i| u64::MAX - i).collect();
     assert_eq!(PairState::from_words(&any).words(), any);
-    assert_eq!(HomeState::from_words(&any[..2_109]).words(), &any[..2_109]);
+    assert_eq!(HomeState::from_words(&any[..2_111]).words(), &any[..2_111]);
 }
 
 #[test]
 #[should_panic]
 fn too_few_words_make_no_state() {
-    PairState::from_words(&[0; 4_212]);
+    PairState::from_words(&[0; 4_214]);
 }
 
 #[test]
@@ -250,18 +253,18 @@ fn words_of_a_held_record() {
 
 #[test]
 fn openings() {
-    let (answer, state) = PairState::open(&[1, 2, 3], &[4, 5]);
+    let (answer, state) = PairState::open(&[1, 2, 3], &[4, 5], Charge::NONE);
     assert_eq!(answer, Passed);
     let mut right = PairState::ZERO;
     right.words[4_096..4_099].copy_from_slice(&[1, 2, 3]);
     right.words[4_152..4_154].copy_from_slice(&[4, 5]);
-    right.words[4_208..].copy_from_slice(&[15, 3, 2, 0, 0]);
+    right.words[4_208..].copy_from_slice(&[15, 3, 2, 0, 0, 0, 0]);
     assert!(*state == right);
-    let (answer, state) = HomeState::open(&[1, 2, 3], 56, 9);
+    let (answer, state) = HomeState::open(&[1, 2, 3], 56, 9, Charge::NONE);
     assert_eq!(answer, Passed);
     let mut right = HomeState::ZERO;
     right.words[2_048..2_051].copy_from_slice(&[1, 2, 3]);
-    right.words[2_104..].copy_from_slice(&[15, 9, 3, 56, 0]);
+    right.words[2_104..].copy_from_slice(&[15, 9, 3, 56, 0, 0, 0]);
     assert!(*state == right);
 }
 
@@ -277,7 +280,7 @@ fn refused_openings_hand_back_zeros() {
         (&[top, 1], &[0], 2),
     ];
     for (home, far, number) in openings {
-        let (answer, state) = PairState::open(home, far);
+        let (answer, state) = PairState::open(home, far, Charge::NONE);
         assert_eq!(answer, refused(number));
         assert!(*state == PairState::ZERO);
     }
@@ -290,7 +293,7 @@ fn refused_openings_hand_back_zeros() {
         (&[1], 56, top, 2),
     ];
     for (home, fars, total, number) in openings {
-        let (answer, state) = HomeState::open(home, fars, total);
+        let (answer, state) = HomeState::open(home, fars, total, Charge::NONE);
         assert_eq!(answer, refused(number));
         assert!(*state == HomeState::ZERO);
     }
@@ -635,7 +638,7 @@ fn forged_held_accounts() {
 /// that has arrived, one in flight and an arrival.
 fn crossed(counts: [u64; 2]) -> Box<PairState> {
     let [home, far] = counts.map(|count| vec![20; count as usize]);
-    let (_, mut state) = PairState::open(&home, &far);
+    let (_, mut state) = PairState::open(&home, &far, Charge::NONE);
     let last = |ledger: Ledger| counts[ledger.index()] as u16 - 1;
     for ledger in [Home, Far] {
         let [here, there] = [last(ledger), last(ledger.other())];
@@ -660,7 +663,8 @@ fn crossed(counts: [u64; 2]) -> Box<PairState> {
 fn home_of(state: &PairState) -> Box<HomeState> {
     let home = state.balances(0)[..state.accounts(0) as usize].to_vec();
     let rest = state.supply() - home.iter().sum::<u64>();
-    let (answer, mut guard) = HomeState::open(&home, state.accounts(1) as usize, rest);
+    let (answer, mut guard) =
+        HomeState::open(&home, state.accounts(1) as usize, rest, Charge::NONE);
     assert_eq!(answer, Passed);
     for entry in 0..state.count(0) as usize {
         guard.put_held(entry, state.held(entry));
@@ -848,8 +852,8 @@ fn full_tables_of_alike_numbers() {
         let [over, back] = [Home, Far].map(|from| sending(from, 0, 0, number(step), 1));
         records.extend([over, back, over.matching_arrival(), back.matching_arrival()]);
     }
-    let (_, mut state) = PairState::open(&[1_000], &[1_000]);
-    let (_, mut guard) = HomeState::open(&[1_000], 1, 1_000);
+    let (_, mut state) = PairState::open(&[1_000], &[1_000], Charge::NONE);
+    let (_, mut guard) = HomeState::open(&[1_000], 1, 1_000, Charge::NONE);
     let mut listed = state.clone();
     for record in &records {
         assert_eq!(state.check_record(&record.bytes()), Passed);
@@ -943,13 +947,13 @@ fn balances_of_accounts() {
         assert_eq!(state.balance(account), (refused(22), 0));
     }
     // Each ledger by its own number of accounts.
-    let (_, more_at_far) = PairState::open(&[1], &[2; 3]);
+    let (_, more_at_far) = PairState::open(&[1], &[2; 3], Charge::NONE);
     assert_eq!(more_at_far.balance(0, 1), (refused(22), 0));
     assert_eq!(more_at_far.balance(1, 2), (Passed, 2));
     assert_eq!(more_at_far.balance(1, 3), (refused(22), 0));
-    let (_, more_at_far) = HomeState::open(&[1], 3, 6);
+    let (_, more_at_far) = HomeState::open(&[1], 3, 6, Charge::NONE);
     assert_eq!(more_at_far.balance(1), (refused(22), 0));
-    let (_, full) = PairState::open(&[1; 56], &[2; 56]);
+    let (_, full) = PairState::open(&[1; 56], &[2; 56], Charge::NONE);
     assert_eq!(full.balance(0, 55), (Passed, 1));
     assert_eq!(full.balance(1, 55), (Passed, 2));
     assert_eq!(full.balance(1, 56), (refused(22), 0));
@@ -1037,9 +1041,9 @@ fn places_left_of_the_guard() {
 
 #[test]
 fn figures_at_the_limit() {
-    let (_, state) = PairState::open(&[MAX_AMOUNT - 1], &[1]);
+    let (_, state) = PairState::open(&[MAX_AMOUNT - 1], &[1], Charge::NONE);
     assert_eq!(state.figures(), (Passed, [MAX_AMOUNT - 1, 1, 0]));
-    let (_, state) = HomeState::open(&[0], 1, MAX_AMOUNT);
+    let (_, state) = HomeState::open(&[0], 1, MAX_AMOUNT, Charge::NONE);
     assert_eq!(state.figures(), (Passed, [0, MAX_AMOUNT]));
 }
 
@@ -1155,25 +1159,32 @@ fn balances_of_blocks() {
     for (number, count) in [(0, 1), (0, 55), (1, 2), (1, 56)] {
         let stakes: Vec<u64> = (0..count).map(|i| u64::MAX - i).collect();
         let block = lawful_block(number, &stake_bytes(&stakes));
-        let (answer, (got, balances)) = block_balances(&block, number, 0);
+        let (answer, (got, rate, account, balances)) = block_balances(&block, number, 0);
         assert_eq!((answer, got), (Passed, count));
+        assert_eq!((rate, account), (0, 0));
         assert_eq!(balances[..count as usize], stakes[..]);
         assert!(balances[count as usize..].iter().all(|&b| b == 0));
         let other = 1 - number;
         let wrong = block_balances(&block, other, 0);
-        assert_eq!(wrong, (refused_at(13, other), (0, zeros)));
+        assert_eq!(wrong, (refused_at(13, other), (0, 0, 0, zeros)));
     }
     let mut block = lawful_block(2, &[7; 64]);
-    assert_eq!(block_balances(&block, 2, 0), (refused_at(4, 2), (0, zeros)));
+    assert_eq!(
+        block_balances(&block, 2, 0),
+        (refused_at(4, 2), (0, 0, 0, zeros))
+    );
     block[4] = 1;
     assert_eq!(
         block_balances(&block, 2, 0),
-        (refused_at(12, 2), (0, zeros))
+        (refused_at(12, 2), (0, 0, 0, zeros))
     );
     seal(&mut block);
     assert_eq!(
         block_balances(&block, 2, 0),
-        (refused_at(14, 2), (0, zeros))
+        (refused_at(14, 2), (0, 0, 0, zeros))
     );
-    assert_eq!(block_balances(&[], 0, 0), (refused_at(11, 0), (0, zeros)));
+    assert_eq!(
+        block_balances(&[], 0, 0),
+        (refused_at(11, 0), (0, 0, 0, zeros))
+    );
 }

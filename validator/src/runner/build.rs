@@ -1,8 +1,10 @@
 //! Journals put together block by block: lawful ones by the library's writer,
 //! others byte by byte.
 
+use crate::charge::Charge;
 use crate::journal::{self, BLOCK, FULL, ITEMS};
 use crate::record::{Kind, Ledger, Record, RECORD};
+use crate::running::RunningBook;
 
 /// A record as bytes, right or wrong.
 pub type Bytes = [u8; RECORD];
@@ -10,19 +12,43 @@ pub type Bytes = [u8; RECORD];
 /// A block as bytes, right or wrong.
 pub type Block = [u8; BLOCK];
 
-/// The stakes of an opening.
+/// The stakes of an opening, and its charge.
 #[derive(Clone, Debug, PartialEq, Eq)]
 pub struct Opening {
     pub home: Vec<u64>,
     pub far: Vec<u64>,
+    pub charge: Charge,
 }
 
 impl Opening {
+    /// Stakes without a charge.
     pub fn new(home: &[u64], far: &[u64]) -> Opening {
         Opening {
             home: home.to_vec(),
             far: far.to_vec(),
+            charge: Charge::NONE,
         }
+    }
+
+    /// The same stakes with a charge.
+    pub fn charged(self, rate: u64, account: u64) -> Opening {
+        let charge = Charge { rate, account };
+        Opening { charge, ..self }
+    }
+
+    /// The book of an opening that is accepted.
+    pub fn book(&self) -> RunningBook {
+        RunningBook::open(&self.home, &self.far, self.charge).expect("a lawful opening")
+    }
+
+    /// Block 0 of a journal.
+    pub fn home_block(&self) -> Block {
+        charged_block(self.charge, &stake_bytes(&self.home))
+    }
+
+    /// Block 1 of a journal.
+    pub fn far_block(&self) -> Block {
+        lawful_block(1, &stake_bytes(&self.far))
     }
 
     /// The opening of the paper's cases.
@@ -33,9 +59,7 @@ impl Opening {
 
 /// The bytes of a journal with 1 to 56 stakes a ledger.
 pub fn journal(opening: &Opening, records: &[Bytes]) -> Vec<u8> {
-    let mut bytes = Vec::new();
-    push_block(&mut bytes, &stake_bytes(&opening.home));
-    push_block(&mut bytes, &stake_bytes(&opening.far));
+    let mut bytes = join(&[opening.home_block(), opening.far_block()]);
     for some in records.chunks(FULL) {
         push_block(&mut bytes, &some.concat());
     }
@@ -48,10 +72,20 @@ pub fn push_block(bytes: &mut Vec<u8>, items: &[u8]) {
     bytes.extend_from_slice(&lawful_block(number as u64, items));
 }
 
-/// A block as the library writes it.
+/// A block as the library writes it, without a charge.
 pub fn lawful_block(number: u64, items: &[u8]) -> Block {
+    write_block(number, Charge::NONE, items)
+}
+
+/// Block 0 as the library writes it, with a charge.
+pub fn charged_block(charge: Charge, items: &[u8]) -> Block {
+    write_block(0, charge, items)
+}
+
+fn write_block(number: u64, charge: Charge, items: &[u8]) -> Block {
     let mut block = [0; BLOCK];
-    let answer = journal::write_block(number, journal::kind_of(number), items, &mut block);
+    let kind = journal::kind_of(number);
+    let answer = journal::write_block(number, kind, charge, items, &mut block);
     assert!(answer.passed(), "block {number}: {answer:?}");
     block
 }

@@ -3,10 +3,11 @@
 
 use std::io::{self, Write};
 
-use super::build::{lawful_block, stake_bytes, Bytes, Opening};
+use super::build::{lawful_block, Bytes, Opening};
 use super::families::faults::spoil_form;
 use super::rng::Rng;
 use super::trader::{Numbers, Sharing, Trader};
+use crate::charge::Charge;
 use crate::journal::{BLOCK, FULL, LAST_BLOCK};
 use crate::record::{Kind, Ledger, Record, MAX_AMOUNT};
 use crate::rules::{Book, CAPACITY, MAX_ACCOUNTS};
@@ -32,16 +33,13 @@ struct Source {
 }
 
 impl Source {
-    fn new(seed: u64, fill: Fill, length: usize) -> Source {
+    fn new(seed: u64, fill: Fill, charge: Charge, length: usize) -> Source {
         let mut rng = Rng::for_journal(seed, "full", length as u64);
         let mut stakes = || -> Vec<u64> {
             let accounts = 0..MAX_ACCOUNTS;
             accounts.map(|_| rng.within(1_000, 1 << 40)).collect()
         };
-        let opening = Opening {
-            home: stakes(),
-            far: stakes(),
-        };
+        let opening = Opening::new(&stakes(), &stakes()).charged(charge.rate, charge.account);
         let mut trader = Trader::new(opening, Numbers::Random, rng);
         trader.thrifty = true;
         trader.sharing = Sharing::Often;
@@ -157,12 +155,18 @@ impl Source {
     }
 }
 
-/// Writes a journal of `blocks` blocks, all of them full.
-pub fn write(seed: u64, fill: Fill, blocks: usize, output: &mut impl Write) -> io::Result<()> {
-    let mut source = Source::new(seed, fill, (blocks - 2) * FULL);
+/// Writes a journal of `blocks` blocks, all of them full, with 56 accounts a ledger.
+pub fn write(
+    seed: u64,
+    fill: Fill,
+    charge: Charge,
+    blocks: usize,
+    output: &mut impl Write,
+) -> io::Result<()> {
+    let mut source = Source::new(seed, fill, charge, (blocks - 2) * FULL);
     let opening = &source.trader.opening;
-    output.write_all(&lawful_block(0, &stake_bytes(&opening.home)))?;
-    output.write_all(&lawful_block(1, &stake_bytes(&opening.far)))?;
+    output.write_all(&opening.home_block())?;
+    output.write_all(&opening.far_block())?;
     for number in 2..blocks as u64 {
         let records: Vec<Bytes> = (0..FULL).map(|_| source.next()).collect();
         output.write_all(&lawful_block(number, &records.concat()))?;
@@ -171,8 +175,8 @@ pub fn write(seed: u64, fill: Fill, blocks: usize, output: &mut impl Write) -> i
 }
 
 /// The journal as bytes.
-pub fn journal(seed: u64, fill: Fill, blocks: usize) -> Vec<u8> {
+pub fn journal(seed: u64, fill: Fill, charge: Charge, blocks: usize) -> Vec<u8> {
     let mut bytes = Vec::with_capacity(blocks * BLOCK);
-    write(seed, fill, blocks, &mut bytes).expect("writing memory does not fail");
+    write(seed, fill, charge, blocks, &mut bytes).expect("writing memory does not fail");
     bytes
 }

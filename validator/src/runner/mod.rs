@@ -11,6 +11,7 @@ pub mod full;
 pub mod process;
 pub mod rng;
 pub mod store;
+pub mod stored_charges;
 pub mod stored_classes;
 pub mod stored_long;
 pub mod trader;

@@ -15,9 +15,11 @@ use super::families::full_tables::{case_13, filled_journal, Filled};
 use super::families::honest::sample_records;
 use super::families::Sample;
 use super::rng::Rng;
+use super::stored_charges;
 use super::stored_classes;
 use super::stored_long::Long;
-use super::trader::{Numbers, Sharing, Trader};
+use super::trader::{rich_opening, Numbers, Sharing, Trader};
+use crate::charge::Charge;
 use crate::journal::{seal, BLOCK, CHECK, FULL};
 use crate::listing::listing;
 use crate::record::Ledger::{self, Far, Home};
@@ -45,6 +47,7 @@ pub fn samples() -> Vec<Sample> {
     push_tables(&mut samples);
     push_long(&mut samples);
     samples.extend(stored_classes::samples());
+    samples.extend(stored_charges::samples());
     samples
 }
 
@@ -171,7 +174,8 @@ fn counted(blocks: [(u8, u8); 2]) -> Vec<u8> {
 }
 
 fn push_blocks(samples: &mut Vec<Sample>) {
-    let sound = sound_blocks(&mut Rng::new(5), 2 * FULL + 5);
+    let opening = Opening::new(&[1_000, 500, 70], &[800, 90]);
+    let sound = sound_blocks(&mut Rng::new(5), opening, 2 * FULL + 5);
     let whole = join(&sound);
     push(samples, "five_sound_blocks", whole.clone());
     push(samples, "empty", Vec::new());
@@ -544,7 +548,9 @@ fn push_tables(samples: &mut Vec<Sample>) {
         sharing: Sharing::BeforeU2,
     };
     let alike = Numbers::LowBitsAlike { base: 0, shift: 32 };
-    let both = filled_journal(&mut Rng::new(41), alike, filled, 60);
+    let mut rng = Rng::new(41);
+    let opening = rich_opening(&mut rng);
+    let both = filled_journal(&mut rng, opening, alike, filled, 60);
     push(samples, "refusal_41_both_ledgers", both);
     let last = split(&case_13(Home)).len() - 1;
     let mut damaged = case_13(Home);
@@ -563,6 +569,7 @@ fn push_long(samples: &mut Vec<Sample>) {
         full_after: [length - 5 * FULL, length + 3 * FULL],
         first: Home,
         sharing: Sharing::BeforeU2,
+        charge: Charge::NONE,
     };
     push(samples, "long_130_blocks", full_last_block.journal());
     let one_in_last_block = Long {
@@ -572,6 +579,7 @@ fn push_long(samples: &mut Vec<Sample>) {
         full_after: [length + 3 * FULL, length - 5 * FULL],
         first: Far,
         sharing: Sharing::BeforeU2,
+        charge: Charge::NONE,
     };
     push(samples, "long_131_blocks", one_in_last_block.journal());
     let length = 148 * FULL;
@@ -582,6 +590,7 @@ fn push_long(samples: &mut Vec<Sample>) {
         full_after: [length * 3 / 4, length + 3 * FULL],
         first: Home,
         sharing: Sharing::BeforeU2,
+        charge: Charge::NONE,
     };
     let mut bad_last = longest.journal();
     *bad_last.last_mut().expect("a check") ^= 1;

@@ -5,6 +5,7 @@ use super::build::{arrival, journal, local, sending, Bytes, Opening};
 use super::families::Sample;
 use super::stored_long::Long;
 use super::trader::{Numbers, Sharing};
+use crate::charge::Charge;
 use crate::journal::FULL;
 use crate::record::Ledger::{self, Far, Home};
 use crate::record::{Record, MAX_AMOUNT};
@@ -255,6 +256,7 @@ fn long() -> Vec<u8> {
         full_after: [length + 3 * FULL, length - 6 * FULL],
         first: Far,
         sharing: Sharing::Often,
+        charge: Charge::NONE,
     };
     long.journal()
 }

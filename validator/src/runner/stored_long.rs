@@ -3,9 +3,10 @@
 //! last record is the arrival of what the first one sent.
 
 use super::build::Bytes;
-use super::calls::makers::{class_miss, near_miss, spoilt};
+use super::calls::makers::{charge_miss, class_miss, near_miss, spoilt};
 use super::rng::Rng;
 use super::trader::{rich_opening, Numbers, Sharing, Trader};
+use crate::charge::Charge;
 use crate::record::Ledger;
 use crate::rules::{Book, CAPACITY};
 
@@ -22,12 +23,14 @@ pub struct Long {
     /// arrives, is to have a place left.
     pub first: Ledger,
     pub sharing: Sharing,
+    pub charge: Charge,
 }
 
 impl Long {
     pub fn journal(&self) -> Vec<u8> {
         let mut rng = Rng::new(self.seed);
-        let opening = rich_opening(&mut rng);
+        let Charge { rate, account } = self.charge;
+        let opening = rich_opening(&mut rng).charged(rate, account);
         let mut trader = Trader::new(opening, self.numbers, rng);
         trader.sharing = self.sharing;
         let sent = trader.lawful_sending(self.first).expect("credit");
@@ -66,10 +69,12 @@ impl Long {
     }
 }
 
-/// A record with some faults, or one that comes near to a trap of the paper or to
-/// the numbers that are counted apart.
+/// A record with some faults, or one that comes near to a trap of the paper, to
+/// the numbers that are counted apart or to what a sending costs.
 fn mostly_refused(trader: &mut Trader, ledger: Ledger) -> Bytes {
-    if trader.sharing == Sharing::Often && trader.rng.chance(1, 3) {
+    if trader.book.charge() != Charge::NONE && trader.rng.chance(1, 4) {
+        charge_miss(trader)
+    } else if trader.sharing == Sharing::Often && trader.rng.chance(1, 3) {
         class_miss(trader, ledger)
     } else if trader.rng.chance(1, 3) {
         near_miss(trader, ledger)

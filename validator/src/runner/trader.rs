@@ -3,6 +3,7 @@
 
 use super::build::{self, arrival, local, sending, Bytes, Opening};
 use super::rng::Rng;
+use crate::charge::{Charge, MAX_RATE};
 use crate::record::{Counted, Kind, Ledger, Record, MAX_AMOUNT};
 use crate::rules::{Book, MAX_ACCOUNTS};
 use crate::running::RunningBook;
@@ -104,7 +105,7 @@ pub struct Trader {
 
 impl Trader {
     pub fn new(opening: Opening, numbers: Numbers, rng: Rng) -> Trader {
-        let book = RunningBook::open(&opening.home, &opening.far).expect("a lawful opening");
+        let book = opening.book();
         Trader {
             rng,
             opening,
@@ -257,10 +258,11 @@ impl Trader {
         (!used.is_empty()).then(|| self.rng.pick(&used))
     }
 
-    fn rich_account(&mut self, ledger: Ledger) -> Option<u16> {
+    /// An account that has so much.
+    fn rich_account(&mut self, ledger: Ledger, least: u64) -> Option<u16> {
         let balances = self.book.balances(ledger);
         let rich: Vec<u16> = (0..balances.len() as u16)
-            .filter(|&account| balances[usize::from(account)] > 0)
+            .filter(|&account| balances[usize::from(account)] >= least)
             .collect();
         (!rich.is_empty()).then(|| self.rng.pick(&rich))
     }
@@ -279,7 +281,7 @@ impl Trader {
 
     /// A local that the rules pass, if the ledger has any credit.
     pub fn lawful_local(&mut self, ledger: Ledger) -> Option<Record> {
-        let sender = self.rich_account(ledger)?;
+        let sender = self.rich_account(ledger, 1)?;
         let receiver = self.account(ledger);
         let number = self.number(ledger);
         let amount = self.some_amount(self.book.balance(ledger, sender));
@@ -288,11 +290,41 @@ impl Trader {
 
     /// A sending that the rules pass, if the ledger has any credit.
     pub fn lawful_sending(&mut self, ledger: Ledger) -> Option<Record> {
-        let sender = self.rich_account(ledger)?;
+        let sender = self.rich_account(ledger, self.cost_of_sending(ledger, 1))?;
         let receiver = self.account(ledger.other());
         let number = self.number(ledger);
-        let amount = self.some_amount(self.book.balance(ledger, sender));
+        let amount = self.sent_amount(ledger, sender);
         Some(sending(ledger, sender, receiver, number, amount))
+    }
+
+    /// What an amount costs that leaves a ledger.
+    fn cost_of_sending(&self, ledger: Ledger, amount: u64) -> u64 {
+        cost_of_sending(self.book.charge(), ledger, amount)
+    }
+
+    /// The highest amount that an account can send, 0 if it can send none.
+    pub fn most_sent(&self, ledger: Ledger, account: u16) -> u64 {
+        let balance = self.book.balance(ledger, account);
+        most_sent(self.book.charge(), ledger, balance)
+    }
+
+    /// An amount that an account can send; where it is charged, often just where
+    /// the charge becomes one more.
+    fn sent_amount(&mut self, ledger: Ledger, sender: u16) -> u64 {
+        let most = self.most_sent(ledger, sender);
+        let amount = self.some_amount(most);
+        if self.thrifty || self.cost_of_sending(ledger, MAX_AMOUNT) == MAX_AMOUNT {
+            return amount;
+        }
+        match self.rng.below(6) {
+            0 => near_multiple(&mut self.rng, amount, MAX_RATE).clamp(1, most),
+            1 => {
+                let charge = self.cost_of_sending(ledger, amount) - amount;
+                let rate = self.book.charge().rate;
+                near_step(&mut self.rng, charge, rate).clamp(1, most)
+            }
+            _ => amount,
+        }
     }
 
     /// An arrival that the rules pass, if a sending to the ledger is pending.
@@ -357,6 +389,56 @@ impl Trader {
     }
 }
 
+fn cost_of_sending(charge: Charge, ledger: Ledger, amount: u64) -> u64 {
+    charge.cost(&sending(ledger, 0, 0, 0, amount))
+}
+
+/// The highest amount that can be sent from a balance, 0 if there is none. The rate
+/// must be a right one.
+pub fn most_sent(charge: Charge, ledger: Ledger, balance: u64) -> u64 {
+    let (mut most, mut above) = (0, balance.min(MAX_AMOUNT) + 1);
+    while most + 1 < above {
+        let middle = most + (above - most) / 2;
+        if cost_of_sending(charge, ledger, middle) <= balance {
+            most = middle;
+        } else {
+            above = middle;
+        }
+    }
+    most
+}
+
+/// A multiple near an amount, or one more or less.
+fn near_multiple(rng: &mut Rng, amount: u64, of: u64) -> u64 {
+    (amount / of * of + rng.below(3)).saturating_sub(1)
+}
+
+/// The least amount that pays so much at a rate, or one less.
+fn near_step(rng: &mut Rng, charge: u64, rate: u64) -> u64 {
+    let whole = u128::from(charge) * u128::from(MAX_RATE);
+    let least = whole.div_ceil(u128::from(rate)) as u64;
+    least.saturating_sub(rng.below(2))
+}
+
+/// The opening, every other time with a charge.
+pub fn maybe_charged(rng: &mut Rng, make: impl FnOnce(&mut Rng) -> Opening) -> Opening {
+    let opening = make(rng);
+    match rng.below(2) {
+        0 => opening,
+        _ => charged(rng, opening),
+    }
+}
+
+/// The opening with a charge of any rate, 0 too, and on any account.
+pub fn charged(rng: &mut Rng, opening: Opening) -> Opening {
+    let any = rng.within(0, MAX_RATE);
+    let rate = rng.pick(&[0, 1, 50, 50, 5_000, 9_999, MAX_RATE, MAX_RATE, any, any]);
+    let last = opening.home.len() as u64 - 1;
+    let any = rng.within(0, last);
+    let account = rng.pick(&[0, last, any, any]);
+    opening.charged(rate, account)
+}
+
 /// An opening of any size: 1 to 56 accounts, stakes of all magnitudes, 0 too,
 /// now and then a total of exactly 2^63-1.
 pub fn any_opening(rng: &mut Rng) -> Opening {
@@ -380,10 +462,8 @@ pub fn rich_opening(rng: &mut Rng) -> Opening {
     let scale = rng.pick(&[1_000, 1_000_000, 1 << 40, 1 << 56]);
     let home = rng.pick(&[2, 3, 3, 4, 12, 56]);
     let far = rng.pick(&[2, 3, 5, 5, 7, 56]);
-    Opening {
-        home: rich_stakes(rng, home, scale),
-        far: rich_stakes(rng, far, scale),
-    }
+    let [home, far] = [home, far].map(|count| rich_stakes(rng, count, scale));
+    Opening::new(&home, &far)
 }
 
 /// An opening with credit in every account and with more accounts on the given

@@ -8,7 +8,7 @@ use super::fields::{differing, runs, shown, Fields};
 use super::report::{Difference, Report, KEPT};
 use super::{Oracle, Part};
 use crate::answer::Answer;
-use crate::journal::Balances;
+use crate::journal::Stakes;
 use crate::record::{Held, RECORD};
 use crate::states::{HomeState, PairState, State};
 
@@ -250,7 +250,7 @@ handed_whole!(
     [u64; 2],
     [u64; 3],
     [usize; 2],
-    (u64, Balances),
+    Stakes,
     Held,
     [u8; RECORD]
 );
@@ -324,9 +324,16 @@ impl Handed for Output {
 }
 
 impl Part for Both<'_> {
-    fn pair_open(&mut self, home: &[u64], far: &[u64]) -> (Answer, Box<PairState>) {
-        self.call("pair_open", (home, far), &[], |part, home, far| {
-            part.pair_open(home, far)
+    fn pair_open(
+        &mut self,
+        home: &[u64],
+        far: &[u64],
+        rate: u64,
+        charge_account: u64,
+    ) -> (Answer, Box<PairState>) {
+        let numbers = [rate, charge_account];
+        self.call("pair_open", (home, far), &numbers, |part, home, far| {
+            part.pair_open(home, far, rate, charge_account)
         })
     }
 
@@ -375,10 +382,17 @@ impl Part for Both<'_> {
         })
     }
 
-    fn home_open(&mut self, home: &[u64], fars: usize, far_total: u64) -> (Answer, Box<HomeState>) {
-        let numbers = [fars as u64, far_total];
+    fn home_open(
+        &mut self,
+        home: &[u64],
+        fars: usize,
+        far_total: u64,
+        rate: u64,
+        charge_account: u64,
+    ) -> (Answer, Box<HomeState>) {
+        let numbers = [fars as u64, far_total, rate, charge_account];
         self.call("home_open", (home, &()), &numbers, |part, home, _| {
-            part.home_open(home, fars, far_total)
+            part.home_open(home, fars, far_total, rate, charge_account)
         })
     }
 
@@ -476,24 +490,28 @@ impl Part for Both<'_> {
         })
     }
 
-    fn block_balances(
-        &mut self,
-        block: &[u8],
-        number: u64,
-        before: u64,
-    ) -> (Answer, (u64, Balances)) {
+    fn block_balances(&mut self, block: &[u8], number: u64, before: u64) -> (Answer, Stakes) {
         let numbers = [number, before];
         let make =
             |part: &mut dyn Part, block: &[u8], _: &()| part.block_balances(block, number, before);
         self.call("block_balances", (block, &()), &numbers, make)
     }
 
-    fn block_write(&mut self, output: &mut [u8], number: u64, kind: u8, items: &[u8]) -> Answer {
-        let numbers = [number, u64::from(kind)];
+    fn block_write(
+        &mut self,
+        output: &mut [u8],
+        number: u64,
+        kind: u8,
+        rate: u64,
+        charge_account: u64,
+        items: &[u8],
+    ) -> Answer {
+        let numbers = [number, u64::from(kind), rate, charge_account];
         let lent = (items, &*output);
         let make = |part: &mut dyn Part, items: &[u8], output: &[u8]| {
             let mut output = Output::around(output);
-            let answer = part.block_write(output.inner(), number, kind, items);
+            let answer =
+                part.block_write(output.inner(), number, kind, rate, charge_account, items);
             (answer, output)
         };
         let (answer, mut written) = self.call("block_write", lent, &numbers, make);

@@ -11,6 +11,9 @@ pub enum Field {
     Accounts,
     Counts,
     Balances,
+    /// The rate of the charge.
+    Rate,
+    ChargeAccount,
     Kinds,
     Ledgers,
     Senders,
@@ -25,12 +28,14 @@ pub enum Field {
 }
 
 /// All fields; the pair book does not have the first one.
-const FIELDS: [Field; 14] = [
+const FIELDS: [Field; 16] = [
     Field::Pool,
     Field::Supply,
     Field::Accounts,
     Field::Counts,
     Field::Balances,
+    Field::Rate,
+    Field::ChargeAccount,
     Field::Kinds,
     Field::Ledgers,
     Field::Senders,
@@ -97,7 +102,7 @@ pub trait Fields: Layout {
     /// The entries of a field.
     fn length(field: Field) -> usize {
         match field {
-            Field::Supply => 1,
+            Field::Supply | Field::Rate | Field::ChargeAccount => 1,
             Field::Pool => usize::from(Self::POOL.is_some()),
             Field::Accounts => 2,
             Field::Counts => Self::LEDGERS,
@@ -128,6 +133,8 @@ fn spot<S: Fields + ?Sized>(field: Field, index: usize) -> Option<Spot> {
         Field::Accounts => S::ACCOUNTS,
         Field::Counts => S::COUNTS,
         Field::Balances => S::BALANCES,
+        Field::Rate => S::CHARGE,
+        Field::ChargeAccount => S::CHARGE + 1,
         _ => 0,
     };
     let Some((byte, bytes)) = field.bytes() else {

@@ -1,6 +1,8 @@
 //! Openings, records and lists for calls: honest trading, each refusal, near
-//! misses of the traps that paper 01 lists and of the numbers that U2 counts.
+//! misses of the traps that paper 01 lists, of the numbers that U2 counts and of
+//! what U3 charges.
 
+use crate::charge::Charge;
 use crate::record::{Kind, Ledger, Record, MAX_AMOUNT, RECORD};
 use crate::rules::{Book, MAX_ACCOUNTS};
 use crate::runner::build::{
@@ -9,25 +11,83 @@ use crate::runner::build::{
 };
 use crate::runner::families::faults::{kinds, other_amount, some_faults, spoil, spoil_form};
 use crate::runner::rng::Rng;
-use crate::runner::trader::{any_opening, rich_opening, Numbers, Sharing, Trader};
+use crate::runner::trader::{
+    any_opening, maybe_charged, most_sent, rich_opening, Numbers, Sharing, Trader,
+};
 use crate::states::HomeState;
 
 /// Bits from which on numbers differ while those below are alike.
 const SHIFTS: [u32; 6] = [8, 11, 12, 16, 32, 63];
 
-/// An opening that is accepted.
+/// An opening that is accepted, every other one with a charge.
 pub fn lawful_opening(rng: &mut Rng) -> Opening {
-    match rng.below(8) {
+    maybe_charged(rng, |rng| match rng.below(8) {
         0 => Opening::of_cases(),
         1 => at_limit(rng, MAX_AMOUNT),
         2 | 3 => any_opening(rng),
         _ => rich_opening(rng),
+    })
+}
+
+/// Rates that a call can be handed, right or not; some are right in their low bits.
+const RATES: [u64; 14] = [
+    0,
+    1,
+    50,
+    9_999,
+    10_000,
+    10_001,
+    65_535,
+    65_536,
+    65_536 + 50,
+    1 << 32,
+    (1 << 32) + 50,
+    1 << 63,
+    (1 << 63) + 50,
+    u64::MAX,
+];
+
+/// A charge that is right or not for so many home accounts, also far outside of 16
+/// bits.
+pub fn doubtful_charge(rng: &mut Rng, accounts: usize) -> Charge {
+    let next = accounts as u64;
+    let last = next.saturating_sub(1);
+    let any = rng.within(0, last);
+    let high = any | rng.pick(&[1 << 16, 1 << 32, 1 << 63]);
+    let beyond = rng.pick(&[
+        next,
+        next + 1,
+        56,
+        57,
+        65_535,
+        65_536,
+        1 << 32,
+        u64::MAX,
+        high,
+    ]);
+    let right = rng.pick(&[0, last, any]);
+    Charge {
+        rate: if rng.chance(1, 4) {
+            0
+        } else {
+            rng.pick(&RATES)
+        },
+        account: rng.pick(&[right, right, beyond]),
     }
 }
 
-/// An opening that is mostly refused: account counts and totals at their
+/// An opening that is mostly refused: account counts, totals and charges at their
 /// bounds.
 pub fn doubtful_opening(rng: &mut Rng) -> Opening {
+    let opening = doubtful_stakes(rng);
+    let charge = doubtful_charge(rng, opening.home.len());
+    if rng.chance(1, 3) {
+        return opening;
+    }
+    Opening { charge, ..opening }
+}
+
+fn doubtful_stakes(rng: &mut Rng) -> Opening {
     let top = rng.pick(&[MAX_AMOUNT, MAX_AMOUNT + 1, u64::MAX]);
     if rng.chance(1, 2) {
         return at_limit(rng, top);
@@ -35,10 +95,8 @@ pub fn doubtful_opening(rng: &mut Rng) -> Opening {
     let counts = [0, 1, 2, 55, 56, 57, 58, 112, 300];
     let [home, far] = [rng.pick(&counts), rng.pick(&counts)];
     let most = rng.pick(&[0, 1, 1_000, MAX_AMOUNT / 112, MAX_AMOUNT / 3, u64::MAX]);
-    Opening {
-        home: (0..home).map(|_| rng.within(0, most)).collect(),
-        far: (0..far).map(|_| rng.within(0, most)).collect(),
-    }
+    let mut stakes = |count| -> Vec<u64> { (0..count).map(|_| rng.within(0, most)).collect() };
+    Opening::new(&stakes(home), &stakes(far))
 }
 
 /// Stakes that come to `total` exactly, or to 2^64 more or 1 more.
@@ -126,7 +184,9 @@ fn other_length(trader: &mut Trader, ledger: Ledger) -> Vec<u8> {
 }
 
 fn some_miss(trader: &mut Trader, ledger: Ledger) -> Bytes {
-    if trader.rng.chance(2, 5) {
+    if trader.book.charge().rate > 0 && trader.rng.chance(1, 4) {
+        charge_miss(trader)
+    } else if trader.rng.chance(2, 5) {
         class_miss(trader, ledger)
     } else {
         near_miss(trader, ledger)
@@ -238,6 +298,26 @@ fn bound_amount(trader: &mut Trader, ledger: Ledger) -> Record {
         1 => sending(ledger, sender, there, number, amount),
         _ => arrival(ledger, there, here, number, amount),
     }
+}
+
+/// A home sending, now and then a local, for which the sender has just enough or
+/// one too few, by the amount alone or with its charge. The sender is often the
+/// charge account.
+pub fn charge_miss(trader: &mut Trader) -> Bytes {
+    let ledger = Ledger::Home;
+    let charged = trader.book.charge().account as u16;
+    let any = trader.account(ledger);
+    let sender = trader.rng.pick(&[charged, any]);
+    let receiver = trader.account(ledger.other());
+    let number = trader.fresh_number(ledger);
+    let balance = trader.book.balance(ledger, sender);
+    let most = trader.most_sent(ledger, sender);
+    let amounts = [most, most + 1, most + 1, balance, balance + 1];
+    let amount = trader.rng.pick(&amounts).clamp(1, MAX_AMOUNT);
+    if trader.rng.chance(1, 8) {
+        return local(ledger, sender, charged, number, amount).bytes();
+    }
+    sending(ledger, sender, receiver, number, amount).bytes()
 }
 
 /// A record under a number that its ledger, or the other one, has met.
@@ -416,13 +496,16 @@ pub fn due_list(trader: &mut Trader, state: &HomeState) -> Vec<u8> {
 fn at_balance(trader: &mut Trader, state: &HomeState) -> Bytes {
     let sender = trader.account(Ledger::Home);
     let balance = state.balances(0)[usize::from(sender) % MAX_ACCOUNTS];
-    let amount = trader
-        .rng
-        .pick(&[balance, balance, balance.saturating_add(1), 1]);
-    let number = trader.fresh_number(Ledger::Home);
     let kind = trader
         .rng
         .pick(&[Kind::Local(Ledger::Home), Kind::Sending(Ledger::Home)]);
+    let most = match kind {
+        Kind::Sending(ledger) => most_sent(trader.book.charge(), ledger, balance),
+        _ => balance,
+    };
+    let amounts = [most, most, most.saturating_add(1), balance, 1];
+    let amount = trader.rng.pick(&amounts);
+    let number = trader.fresh_number(Ledger::Home);
     let record = Record {
         kind,
         sender,

@@ -14,7 +14,7 @@ pub use report::{Difference, Report};
 
 use super::rng::Rng;
 use crate::answer::Answer;
-use crate::journal::Balances;
+use crate::journal::Stakes;
 use crate::record::{Held, RECORD};
 use crate::states::{HomeState, PairState};
 use families::FAMILIES;
@@ -25,8 +25,14 @@ use families::FAMILIES;
 /// take are lent a state to alter, and a refusal leaves each word of it as it
 /// was. There are no ready-made methods, so that none is left out unseen.
 pub trait Part {
-    /// Opens a pair book: 1, 2. The state of zeros beside a refusal.
-    fn pair_open(&mut self, home: &[u64], far: &[u64]) -> (Answer, Box<PairState>);
+    /// Opens a pair book: 1, 2, 52. The state of zeros beside a refusal.
+    fn pair_open(
+        &mut self,
+        home: &[u64],
+        far: &[u64],
+        rate: u64,
+        charge_account: u64,
+    ) -> (Answer, Box<PairState>);
 
     /// One record: 3, 21, 22, 51, 23 to 25, 31, 41.
     fn pair_check_record(&mut self, state: &PairState, bytes: &[u8]) -> (Answer, Box<PairState>);
@@ -50,8 +56,15 @@ pub trait Part {
     /// refusal.
     fn pair_places_left(&mut self, state: &PairState) -> (Answer, [u64; 2]);
 
-    /// Opens a guard: 1, 2. The state of zeros beside a refusal.
-    fn home_open(&mut self, home: &[u64], fars: usize, far_total: u64) -> (Answer, Box<HomeState>);
+    /// Opens a guard: 1, 2, 52. The state of zeros beside a refusal.
+    fn home_open(
+        &mut self,
+        home: &[u64],
+        fars: usize,
+        far_total: u64,
+        rate: u64,
+        charge_account: u64,
+    ) -> (Answer, Box<HomeState>);
 
     /// One record: 3, 21, 33, 22, 51, 23 to 25, 32, 41.
     fn home_check_record(&mut self, state: &HomeState, bytes: &[u8]) -> (Answer, Box<HomeState>);
@@ -81,10 +94,10 @@ pub trait Part {
     /// The bytes of plain fields: 21. Zeros beside a refusal.
     fn record_encode(&mut self, fields: &Held) -> (Answer, [u8; RECORD]);
 
-    /// Judges a block: 11 to 14.
+    /// Judges a block: 11 to 14, 52 in block 0.
     fn block_judge(&mut self, block: &[u8], number: u64, before: u64) -> Answer;
 
-    /// Judges a block and a record's place: 11 to 14, 4.
+    /// Judges a block and a record's place: 11 to 14, 52, 4.
     fn block_judge_record(&mut self, block: &[u8], number: u64, before: u64, place: u64) -> Answer;
 
     /// The same, with the record's start and length. Zeros beside a refusal.
@@ -96,19 +109,24 @@ pub trait Part {
         place: u64,
     ) -> (Answer, [usize; 2]);
 
-    /// The count of a block: 11 to 14. 0 beside a refusal.
+    /// The count of a block: 11 to 14, 52. 0 beside a refusal.
     fn block_count(&mut self, block: &[u8], number: u64, before: u64) -> (Answer, u64);
 
-    /// The count and stakes of a block: 11 to 14, 4. Zeros beside a refusal.
-    fn block_balances(
-        &mut self,
-        block: &[u8],
-        number: u64,
-        before: u64,
-    ) -> (Answer, (u64, Balances));
+    /// The count, rate, charge account and 56 stakes of a block: 11 to 14, 52, 4.
+    /// Zeros beside a refusal; rate and account are 0 in block 1.
+    fn block_balances(&mut self, block: &[u8], number: u64, before: u64) -> (Answer, Stakes);
 
-    /// Writes a block: 4. The output stays as it came beside a refusal.
-    fn block_write(&mut self, output: &mut [u8], number: u64, kind: u8, items: &[u8]) -> Answer;
+    /// Writes a block: 4. The output stays as it came beside a refusal. Rate and
+    /// account are looked at for block 0 only.
+    fn block_write(
+        &mut self,
+        output: &mut [u8],
+        number: u64,
+        kind: u8,
+        rate: u64,
+        charge_account: u64,
+        items: &[u8],
+    ) -> Answer;
 
     fn sha256(&mut self, bytes: &[u8]) -> [u8; 32];
 }

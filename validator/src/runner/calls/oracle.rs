@@ -2,7 +2,8 @@
 
 use super::Part;
 use crate::answer::Answer;
-use crate::journal::{self, Balances};
+use crate::charge::Charge;
+use crate::journal::{self, Stakes};
 use crate::record::{self, Held, RECORD};
 use crate::sha256;
 use crate::states::{HomeState, PairState};
@@ -12,8 +13,14 @@ use crate::states::{HomeState, PairState};
 pub struct Oracle;
 
 impl Part for Oracle {
-    fn pair_open(&mut self, home: &[u64], far: &[u64]) -> (Answer, Box<PairState>) {
-        PairState::open(home, far)
+    fn pair_open(
+        &mut self,
+        home: &[u64],
+        far: &[u64],
+        rate: u64,
+        charge_account: u64,
+    ) -> (Answer, Box<PairState>) {
+        PairState::open(home, far, Charge::new(rate, charge_account))
     }
 
     fn pair_check_record(&mut self, state: &PairState, bytes: &[u8]) -> (Answer, Box<PairState>) {
@@ -46,8 +53,15 @@ impl Part for Oracle {
         state.places_left()
     }
 
-    fn home_open(&mut self, home: &[u64], fars: usize, far_total: u64) -> (Answer, Box<HomeState>) {
-        HomeState::open(home, fars, far_total)
+    fn home_open(
+        &mut self,
+        home: &[u64],
+        fars: usize,
+        far_total: u64,
+        rate: u64,
+        charge_account: u64,
+    ) -> (Answer, Box<HomeState>) {
+        HomeState::open(home, fars, far_total, Charge::new(rate, charge_account))
     }
 
     fn home_check_record(&mut self, state: &HomeState, bytes: &[u8]) -> (Answer, Box<HomeState>) {
@@ -110,17 +124,21 @@ impl Part for Oracle {
         journal::block_count(block, number, before)
     }
 
-    fn block_balances(
-        &mut self,
-        block: &[u8],
-        number: u64,
-        before: u64,
-    ) -> (Answer, (u64, Balances)) {
+    fn block_balances(&mut self, block: &[u8], number: u64, before: u64) -> (Answer, Stakes) {
         journal::block_balances(block, number, before)
     }
 
-    fn block_write(&mut self, output: &mut [u8], number: u64, kind: u8, items: &[u8]) -> Answer {
-        journal::write_block(number, kind, items, output)
+    fn block_write(
+        &mut self,
+        output: &mut [u8],
+        number: u64,
+        kind: u8,
+        rate: u64,
+        charge_account: u64,
+        items: &[u8],
+    ) -> Answer {
+        let charge = Charge::new(rate, charge_account);
+        journal::write_block(number, kind, charge, items, output)
     }
 
     fn sha256(&mut self, bytes: &[u8]) -> [u8; 32] {

@@ -1,32 +1,35 @@
 //! Damaged journals: every byte of the first blocks and the last one, numbers,
-//! kinds, counts and padding, blocks exchanged, left out or put in, journals
+//! kinds, counts, charges and padding, blocks exchanged, left out or put in, journals
 //! cut off or with bytes too many, and bytes of no meaning at all.
 
 use super::Sample;
-use crate::journal::{seal, BLOCK, CHECK, FULL, ITEMS};
+use crate::journal::{seal, BLOCK, CHARGE_ACCOUNT, CHECK, FULL, ITEMS, RATE};
 use crate::record::RECORD;
-use crate::runner::build::{any_block, join, split, Block, Bytes, Opening};
+use crate::runner::build::{any_block, join, set_u16, split, Block, Bytes, Opening};
 use crate::runner::rng::Rng;
-use crate::runner::trader::{any_opening, Numbers, Trader};
+use crate::runner::trader::{any_opening, maybe_charged, Numbers, Trader};
 
 pub fn fixed(rng: &mut Rng) -> Vec<Sample> {
-    let sound = sound_blocks(rng, 2 * FULL + 5);
+    let opening = Opening::new(&[1_000, 500, 70], &[800, 90]);
+    let sound = sound_blocks(rng, opening.clone(), 2 * FULL + 5);
+    let charged = sound_blocks(rng, opening.charged(1_250, 2), 2 * FULL + 5);
     let mut samples = Vec::new();
     single_bytes(rng, &sound, &mut samples);
+    heads(&charged, &mut samples);
     numbers(&sound, &mut samples);
     kinds(&sound, &mut samples);
-    counts(&sound, &mut samples);
-    short_blocks(&sound, &mut samples);
+    counts(&charged, &mut samples);
+    short_blocks(&charged, &mut samples);
     several_faults(&sound, &mut samples);
+    several_faults_of_block_0(&charged, &mut samples);
     moved_blocks(&sound, &mut samples);
     lengths(rng, &sound, &mut samples);
     no_journals(rng, &mut samples);
     samples
 }
 
-/// The blocks of a sound journal with few accounts and so many records.
-pub fn sound_blocks(rng: &mut Rng, records: usize) -> Vec<Block> {
-    let opening = Opening::new(&[1_000, 500, 70], &[800, 90]);
+/// The blocks of a sound journal with so many records; the opening has credit.
+pub fn sound_blocks(rng: &mut Rng, opening: Opening, records: usize) -> Vec<Block> {
     let mut trader = Trader::new(opening, Numbers::Random, Rng::new(rng.word()));
     trader.thrifty = true;
     while trader.records.len() < records {
@@ -62,6 +65,23 @@ fn single_bytes(rng: &mut Rng, blocks: &[Block], samples: &mut Vec<Sample>) {
                 };
                 let journal = changed(blocks, at, anew, |block| block[place] ^= flip);
                 let name = format!("byte_{at}_{place}_anew_{anew}");
+                samples.push(Sample::new(name, journal));
+            }
+        }
+    }
+}
+
+/// Bytes 6-31 of each block with a few values, those of the charge with more.
+fn heads(blocks: &[Block], samples: &mut Vec<Sample>) {
+    for at in 0..blocks.len() {
+        for place in RATE..ITEMS {
+            let values: &[u8] = match place {
+                RATE..=9 => &[0, 1, 2, 3, 38, 39, 40, 128, 255],
+                _ => &[1, 128],
+            };
+            for &value in values {
+                let journal = changed(blocks, at, true, |block| block[place] = value);
+                let name = format!("head_{at}_{place}_{value}");
                 samples.push(Sample::new(name, journal));
             }
         }
@@ -213,6 +233,43 @@ fn several_faults(blocks: &[Block], samples: &mut Vec<Sample>) {
     }
 }
 
+/// Every set of faults in block 0 at once: rate, account, a byte after them, count,
+/// kind, number, stale check, cut off.
+fn several_faults_of_block_0(blocks: &[Block], samples: &mut Vec<Sample>) {
+    for set in 0..1 << 8 {
+        let has = |bit: u32| set >> bit & 1 == 1;
+        let mut blocks = blocks[..3].to_vec();
+        let block = &mut blocks[0];
+        if has(0) {
+            set_u16(block, RATE, 10_001);
+        }
+        if has(1) {
+            set_u16(block, CHARGE_ACCOUNT, 3);
+        }
+        if has(2) {
+            block[CHARGE_ACCOUNT + 2] = 1;
+        }
+        if has(3) {
+            block[5] = 57;
+        }
+        if has(4) {
+            block[4] = 2;
+        }
+        if has(5) {
+            block[0] = 1;
+        }
+        seal(block);
+        if has(6) {
+            block[CHECK] ^= 1;
+        }
+        let mut journal = join(&blocks);
+        if has(7) {
+            journal.truncate(BLOCK - 1);
+        }
+        samples.push(Sample::new(format!("several_of_block_0_{set}"), journal));
+    }
+}
+
 /// Blocks exchanged, repeated, left out, or taken for one another, with their
 /// own numbers and numbered anew.
 fn moved_blocks(blocks: &[Block], samples: &mut Vec<Sample>) {
@@ -312,7 +369,7 @@ pub fn seeded(rng: &mut Rng) -> Vec<u8> {
 
 /// A journal of any opening with records of which many bytes are random.
 fn random_blocks(rng: &mut Rng) -> Vec<Block> {
-    let opening = any_opening(rng);
+    let opening = maybe_charged(rng, any_opening);
     let numbers = Numbers::any(rng);
     let mut trader = Trader::new(opening, numbers, Rng::new(rng.word()));
     for _ in 0..rng.below(100) {

@@ -9,7 +9,9 @@ use crate::runner::build::{
     set_u16, set_u64, Bytes, Opening, AMOUNT, NUMBER, RECEIVER, RESERVED, SENDER, VERDICT,
 };
 use crate::runner::rng::Rng;
-use crate::runner::trader::{any_opening, rich_opening, unequal_opening, Numbers, Sharing, Trader};
+use crate::runner::trader::{
+    any_opening, charged, maybe_charged, rich_opening, unequal_opening, Numbers, Sharing, Trader,
+};
 
 /// The faults that a record's author can make, the last in the order of
 /// refusals first, so that an earlier one is laid over it.
@@ -52,8 +54,7 @@ pub fn spoil(trader: &mut Trader, record: &Record, faults: &[Fault]) -> Bytes {
 
 fn spoil_cover(trader: &mut Trader, record: &Record, bytes: &mut Bytes) {
     if record.takes() {
-        let balance = trader.book.balance(record.ledger(), record.sender);
-        let next = (balance + 1).min(MAX_AMOUNT);
+        let next = (most_covered(trader, record) + 1).min(MAX_AMOUNT);
         let amount = match trader.rng.below(3) {
             0 => next,
             1 => MAX_AMOUNT,
@@ -62,6 +63,14 @@ fn spoil_cover(trader: &mut Trader, record: &Record, bytes: &mut Bytes) {
         set_u64(bytes, AMOUNT, amount);
     } else {
         spoil_match(trader, record, bytes);
+    }
+}
+
+/// The highest amount that a local or sending may have.
+fn most_covered(trader: &Trader, record: &Record) -> u64 {
+    match record.kind {
+        Kind::Sending(ledger) => trader.most_sent(ledger, record.sender),
+        _ => trader.book.balance(record.ledger(), record.sender),
     }
 }
 
@@ -137,7 +146,11 @@ pub fn fixed(rng: &mut Rng) -> Vec<Sample> {
     for round in 0..4 {
         for full in [false, true] {
             let name = format!("every_set_of_faults_{round}_full_{full}");
-            samples.push(Sample::new(name, every_set(rng, full)));
+            let mut opening = rich_opening(rng);
+            if round % 2 == 1 {
+                opening = charged(rng, opening);
+            }
+            samples.push(Sample::new(name, every_set(rng, opening, full)));
         }
     }
     for larger in Ledger::BOTH {
@@ -173,7 +186,7 @@ fn sent_both_ways(rng: &mut Rng, opening: Opening, full: bool) -> Trader {
 
 /// Every sort of accounts that are open or not, three times.
 fn absent_accounts(rng: &mut Rng, larger: Ledger, full: bool) -> Vec<u8> {
-    let opening = unequal_opening(rng, larger);
+    let opening = maybe_charged(rng, |rng| unequal_opening(rng, larger));
     let mut trader = sent_both_ways(rng, opening, full);
     for _ in 0..3 {
         for ledger in Ledger::BOTH {
@@ -186,8 +199,7 @@ fn absent_accounts(rng: &mut Rng, larger: Ledger, full: bool) -> Vec<u8> {
     trader.journal()
 }
 
-fn every_set(rng: &mut Rng, full: bool) -> Vec<u8> {
-    let opening = rich_opening(rng);
+fn every_set(rng: &mut Rng, opening: Opening, full: bool) -> Vec<u8> {
     let mut trader = sent_both_ways(rng, opening, full);
     for set in 0..1 << FAULTS.len() {
         let faults: Vec<Fault> = (0..FAULTS.len())
@@ -225,11 +237,10 @@ fn hand_in_spoilt(trader: &mut Trader, kind: Kind, faults: &[Fault]) {
 }
 
 pub fn seeded(rng: &mut Rng) -> Vec<u8> {
-    let opening = if rng.chance(1, 3) {
-        any_opening(rng)
-    } else {
-        rich_opening(rng)
-    };
+    let opening = maybe_charged(rng, |rng| match rng.below(3) {
+        0 => any_opening(rng),
+        _ => rich_opening(rng),
+    });
     let numbers = Numbers::any(rng);
     let full = rng.chance(1, 10);
     let length = rng.within(20, 150);

@@ -8,7 +8,7 @@ use crate::record::{Kind, Ledger, Record};
 use crate::rules::CAPACITY;
 use crate::runner::build::{local, Bytes, Opening};
 use crate::runner::rng::Rng;
-use crate::runner::trader::{rich_opening, Numbers, Sharing, Trader};
+use crate::runner::trader::{maybe_charged, rich_opening, Numbers, Sharing, Trader};
 
 /// Which ledgers are filled, and to how many records.
 #[derive(Clone, Copy)]
@@ -38,7 +38,9 @@ pub fn fixed(rng: &mut Rng) -> Vec<Sample> {
                 far,
                 sharing: Sharing::Never,
             };
-            samples.push(Sample::new(name, filled_journal(rng, numbers, filled, 120)));
+            let opening = maybe_charged(rng, rich_opening);
+            let journal = filled_journal(rng, opening, numbers, filled, 120);
+            samples.push(Sample::new(name, journal));
         }
     }
     samples.push(Sample::new("case_13_home", case_13(Ledger::Home)));
@@ -53,7 +55,8 @@ pub fn fixed(rng: &mut Rng) -> Vec<Sample> {
 /// Both tables full of sendings and arrivals under the same 256 numbers, then
 /// records as on other full tables.
 fn both_classes(rng: &mut Rng, numbers: Numbers) -> Vec<u8> {
-    let mut trader = Trader::new(rich_opening(rng), numbers, Rng::new(rng.word()));
+    let opening = maybe_charged(rng, rich_opening);
+    let mut trader = Trader::new(opening, numbers, Rng::new(rng.word()));
     trader.thrifty = true;
     for _ in 0..CAPACITY / 2 {
         let over = trader.lawful_sending(Ledger::Home).expect("credit");
@@ -88,8 +91,13 @@ pub fn case_13(ledger: Ledger) -> Vec<u8> {
 }
 
 /// Fills the tables and goes on for `length` records.
-pub fn filled_journal(rng: &mut Rng, numbers: Numbers, filled: Filled, length: usize) -> Vec<u8> {
-    let opening = rich_opening(rng);
+pub fn filled_journal(
+    rng: &mut Rng,
+    opening: Opening,
+    numbers: Numbers,
+    filled: Filled,
+    length: usize,
+) -> Vec<u8> {
     let mut trader = Trader::new(opening, numbers, Rng::new(rng.word()));
     trader.thrifty = true;
     trader.sharing = filled.sharing;
@@ -168,5 +176,6 @@ pub fn seeded(rng: &mut Rng) -> Vec<u8> {
         sharing: Sharing::any(rng),
     };
     let length = rng.within(30, 400) as usize;
-    filled_journal(rng, numbers, filled, length)
+    let opening = maybe_charged(rng, rich_opening);
+    filled_journal(rng, opening, numbers, filled, length)
 }

@@ -1,10 +1,14 @@
-//! Honest trading: any opening, mostly records that pass.
+//! Honest trading: any opening, half of them with a charge, mostly records that
+//! pass.
 
 use super::Sample;
 use crate::record::{Ledger, MAX_AMOUNT};
 use crate::runner::build::{arrival, journal, local, sending, Bytes, Opening};
 use crate::runner::rng::Rng;
-use crate::runner::trader::{any_opening, Numbers, Sharing, Trader};
+use crate::runner::trader::{any_opening, maybe_charged, Numbers, Sharing, Trader};
+
+/// Rates at their bounds and in between.
+pub const RATES: [u64; 8] = [0, 1, 50, 3_333, 5_000, 6_667, 9_999, 10_000];
 
 /// The records of the paper's listing.
 pub fn sample_records() -> Vec<Bytes> {
@@ -24,11 +28,19 @@ pub fn sample_records() -> Vec<Bytes> {
 
 pub fn fixed(_rng: &mut Rng) -> Vec<Sample> {
     let cases = Opening::of_cases();
-    vec![
+    let mut samples = vec![
         Sample::new("sample", journal(&cases, &sample_records())),
         Sample::new("no_records", journal(&cases, &[])),
         Sample::new("whole_total_moves", whole_total_moves()),
-    ]
+    ];
+    for rate in RATES {
+        for account in 0..2 {
+            let opening = Opening::of_cases().charged(rate, account);
+            let name = format!("sample_charged_{rate}_{account}");
+            samples.push(Sample::new(name, journal(&opening, &sample_records())));
+        }
+    }
+    samples
 }
 
 /// A total of 2^63-1 goes round: local, sending, arrival, and back.
@@ -51,7 +63,7 @@ fn whole_total_moves() -> Vec<u8> {
 }
 
 pub fn seeded(rng: &mut Rng) -> Vec<u8> {
-    let opening = any_opening(rng);
+    let opening = maybe_charged(rng, any_opening);
     let numbers = Numbers::any(rng);
     let length = match rng.below(20) {
         0 => 1_400,

@@ -2,6 +2,7 @@
 //! 65,536 blocks, and one byte and one block more.
 
 use super::{Family, Sample};
+use crate::charge::Charge;
 use crate::journal::{seal, BLOCK, FULL};
 use crate::record::RECORD;
 use crate::runner::build::any_block;
@@ -22,28 +23,31 @@ enum Shape {
     LastDamaged,
 }
 
+/// The charges of some of them.
+const CHARGES: [Charge; 2] = [Charge::new(50, 55), Charge::new(10_000, 3)];
+
 pub struct Long {
     seed: u64,
-    shapes: Vec<(Shape, Fill)>,
+    shapes: Vec<(Shape, Fill, Charge)>,
 }
 
 impl Long {
     pub fn new(seed: u64, whole: bool) -> Long {
         let mut shapes = vec![
-            (Shape::Blocks(2_500), Fill::Early),
-            (Shape::Blocks(4_000), Fill::Late),
-            (Shape::LastShort(3_000), Fill::Early),
-            (Shape::LastShort(5_000), Fill::Late),
+            (Shape::Blocks(2_500), Fill::Early, Charge::NONE),
+            (Shape::Blocks(4_000), Fill::Late, CHARGES[0]),
+            (Shape::LastShort(3_000), Fill::Early, CHARGES[1]),
+            (Shape::LastShort(5_000), Fill::Late, Charge::NONE),
         ];
         if whole {
             shapes.extend([
-                (Shape::Blocks(MOST_BLOCKS), Fill::Early),
-                (Shape::Blocks(MOST_BLOCKS), Fill::Late),
-                (Shape::LastShort(MOST_BLOCKS), Fill::Late),
-                (Shape::ByteMore, Fill::Early),
-                (Shape::BlockMore, Fill::Late),
-                (Shape::ByteLess, Fill::Early),
-                (Shape::LastDamaged, Fill::Late),
+                (Shape::Blocks(MOST_BLOCKS), Fill::Early, CHARGES[0]),
+                (Shape::Blocks(MOST_BLOCKS), Fill::Late, Charge::NONE),
+                (Shape::LastShort(MOST_BLOCKS), Fill::Late, CHARGES[1]),
+                (Shape::ByteMore, Fill::Early, Charge::NONE),
+                (Shape::BlockMore, Fill::Late, CHARGES[0]),
+                (Shape::ByteLess, Fill::Early, Charge::NONE),
+                (Shape::LastDamaged, Fill::Late, CHARGES[1]),
             ]);
         }
         Long { seed, shapes }
@@ -60,9 +64,9 @@ impl Family for Long {
     }
 
     fn sample(&self, index: usize) -> Sample {
-        let (shape, fill) = self.shapes[index];
+        let (shape, fill, charge) = self.shapes[index];
         let name = format!("{index}_{fill:?}").to_lowercase();
-        Sample::new(name, journal(self.seed, shape, fill))
+        Sample::new(name, journal(self.seed, shape, fill, charge))
     }
 
     /// These journals are large: one at a time.
@@ -71,8 +75,8 @@ impl Family for Long {
     }
 }
 
-fn journal(seed: u64, shape: Shape, fill: Fill) -> Vec<u8> {
-    let whole = |blocks| full::journal(seed, fill, blocks);
+fn journal(seed: u64, shape: Shape, fill: Fill, charge: Charge) -> Vec<u8> {
+    let whole = |blocks| full::journal(seed, fill, charge, blocks);
     match shape {
         Shape::Blocks(blocks) => whole(blocks),
         Shape::LastShort(blocks) => {

@@ -3,9 +3,11 @@
 //! both ledgers, numbers that agree in some of their bits, amounts and
 //! accounts at their bounds, every value of each byte that has few lawful ones.
 //! By U2, every list of five records of one number, and numbers that both
-//! classes of a ledger have.
+//! classes of a ledger have. By U3, amounts around what a sender can pay, also near
+//! 2^63-1.
 
 use super::faults::{kinds, other_amount};
+use super::honest::RATES;
 use super::Sample;
 use crate::record::{Kind, Ledger, Record, MAX_AMOUNT};
 use crate::rules::Book;
@@ -13,9 +15,11 @@ use crate::runner::build::{
     arrival, local, sending, set_u16, set_u64, Bytes, Opening, AMOUNT, NUMBER, RECEIVER, RESERVED,
     SENDER, VERDICT,
 };
-use crate::runner::calls::makers::{class_miss, lawful};
+use crate::runner::calls::makers::{charge_miss, class_miss, lawful};
 use crate::runner::rng::Rng;
-use crate::runner::trader::{rich_opening, unequal_opening, Numbers, Sharing, Trader};
+use crate::runner::trader::{
+    any_opening, charged, maybe_charged, rich_opening, unequal_opening, Numbers, Sharing, Trader,
+};
 
 const NUMBERS: [u64; 7] = [0, 1, 7, 255, 1 << 32, 1 << 63, u64::MAX];
 const BITS: [u32; 7] = [4, 8, 11, 12, 16, 32, 63];
@@ -50,6 +54,16 @@ pub fn fixed(rng: &mut Rng) -> Vec<Sample> {
         let name = format!("accounts_{larger:?}_larger").to_lowercase();
         samples.push(Sample::new(name, accounts_unequal(rng, larger)));
     }
+    for rate in RATES {
+        for account in 0..3 {
+            let name = format!("charges_{rate}_{account}");
+            let opening = Opening::new(&[50_000, 12_345, 0], &[40_000, 1]).charged(rate, account);
+            samples.push(Sample::new(name, charges_on(rng, opening)));
+            let name = format!("charges_at_limit_{rate}_{account}");
+            let opening = at_limit(rng).charged(rate, account);
+            samples.push(Sample::new(name, charges_on(rng, opening)));
+        }
+    }
     for (place, first) in every_kind().into_iter().enumerate() {
         for (next, second) in every_kind().into_iter().enumerate() {
             let name = format!("one_number_{place}_{next}");
@@ -63,8 +77,9 @@ pub fn seeded(rng: &mut Rng) -> Vec<u8> {
     let from = rng.pick(&Ledger::BOTH);
     let random = rng.word();
     let number = rng.pick(&[0, 1, random, random, u64::MAX]);
-    match rng.below(13) {
+    match rng.below(17) {
         10..=12 => both_classes(rng),
+        13..=16 => charges(rng),
         0..=2 => near_arrivals(rng, from, number),
         3 => same_number(rng, from, number),
         4 => {
@@ -81,7 +96,8 @@ pub fn seeded(rng: &mut Rng) -> Vec<u8> {
 }
 
 fn trader(rng: &mut Rng) -> Trader {
-    Trader::new(rich_opening(rng), Numbers::Random, Rng::new(rng.word()))
+    let opening = maybe_charged(rng, rich_opening);
+    Trader::new(opening, Numbers::Random, Rng::new(rng.word()))
 }
 
 fn hand_in_all(trader: &mut Trader, records: &[Record]) {
@@ -229,6 +245,54 @@ fn both_classes(rng: &mut Rng) -> Vec<u8> {
     trader.journal()
 }
 
+/// A total of 2^63-1 or a little less, most of it at home, so that amounts times
+/// rates need more than 64 bits.
+fn at_limit(rng: &mut Rng) -> Opening {
+    let small = rng.within(1, 20_000);
+    let less = rng.below(3);
+    let large = MAX_AMOUNT - 2 * small - less;
+    let split = rng.within(large / 2, large);
+    Opening::new(&[split, large - split, small], &[small])
+}
+
+/// Sendings around what their senders can pay, on any opening with a charge.
+fn charges(rng: &mut Rng) -> Vec<u8> {
+    let opening = match rng.below(3) {
+        0 => at_limit(rng),
+        1 => any_opening(rng),
+        _ => rich_opening(rng),
+    };
+    let opening = charged(rng, opening);
+    charges_on(rng, opening)
+}
+
+/// Sendings around what their senders can pay, with what they moved on its way,
+/// back home and among the accounts.
+fn charges_on(rng: &mut Rng, opening: Opening) -> Vec<u8> {
+    let mut trader = Trader::new(opening, Numbers::Random, Rng::new(rng.word()));
+    for _ in 0..80 {
+        let ledger = trader.some_ledger();
+        let bytes = match trader.rng.below(5) {
+            0 | 1 => charge_miss(&mut trader),
+            2 => part_of_charge(&mut trader),
+            _ => lawful(&mut trader, ledger),
+        };
+        trader.hand_in(bytes);
+    }
+    trader.journal()
+}
+
+/// All that the charge account has, or one more, goes to another account: it tells
+/// what was paid to it.
+fn part_of_charge(trader: &mut Trader) -> Bytes {
+    let account = trader.book.charge().account as u16;
+    let balance = trader.book.balance(Ledger::Home, account);
+    let amount = trader.rng.pick(&[balance, balance, balance + 1]).max(1);
+    let receiver = trader.account(Ledger::Home);
+    let number = trader.fresh_number(Ledger::Home);
+    local(Ledger::Home, account, receiver, number, amount).bytes()
+}
+
 /// Numbers that agree in their low or high bits, as locals, sendings and
 /// arrivals; each a second time.
 fn alike_numbers(rng: &mut Rng, bits: u32, low: bool) -> Vec<u8> {
@@ -362,7 +426,7 @@ fn amounts_at_limit(rng: &mut Rng) -> Vec<u8> {
     if rng.chance(1, 2) {
         std::mem::swap(&mut home, &mut far);
     }
-    let opening = Opening { home, far };
+    let opening = maybe_charged(rng, |_| Opening::new(&home, &far));
     let mut trader = Trader::new(opening, Numbers::Random, Rng::new(rng.word()));
     bound_amounts(&mut trader);
     trader.journal()
@@ -411,7 +475,7 @@ fn accounts(rng: &mut Rng) -> Vec<u8> {
 
 /// The same with more accounts on one ledger than on the other.
 fn accounts_unequal(rng: &mut Rng, larger: Ledger) -> Vec<u8> {
-    let opening = unequal_opening(rng, larger);
+    let opening = maybe_charged(rng, |rng| unequal_opening(rng, larger));
     let mut trader = Trader::new(opening, Numbers::Random, Rng::new(rng.word()));
     bound_accounts(&mut trader);
     trader.journal()

@@ -1,15 +1,17 @@
 //! Openings: every account count in either stakes block, totals about 2^63-1
-//! and sums that a machine word cannot hold.
+//! and sums that a machine word cannot hold; by U3, every charge account, rates at
+//! their bounds, and 52 before and after other faults.
 
 use super::Sample;
-use crate::journal::{FAR_STAKES, HOME_STAKES};
+use crate::journal::{seal, CHARGE_ACCOUNT, FAR_STAKES, HOME_STAKES, RATE};
 use crate::record::{Ledger, MAX_AMOUNT};
 use crate::rules::MAX_ACCOUNTS;
 use crate::runner::build::{
-    any_block, join, journal, local, push_block, split, stake_bytes, Block, Opening,
+    any_block, join, journal, local, push_block, sending, set_u16, split, stake_bytes, Block,
+    Bytes, Opening,
 };
 use crate::runner::rng::Rng;
-use crate::runner::trader::{any_opening, Numbers, Trader};
+use crate::runner::trader::{any_opening, charged, maybe_charged, Numbers, Trader};
 
 const LIMIT: u64 = MAX_AMOUNT;
 
@@ -34,7 +36,67 @@ pub fn fixed(rng: &mut Rng) -> Vec<Sample> {
         let name = format!("total_{place}_block_2_bad");
         samples.push(Sample::new(name, third_block_bad(&opening)));
     }
+    charges(&mut samples);
     samples
+}
+
+/// Rates and charge accounts, the most that bytes 6-9 can hold among them.
+const RATES: [u16; 12] = [
+    0, 1, 50, 9_999, 10_000, 10_001, 10_002, 0x1127, 0x7fff, 0x8000, 0xff00, 65_535,
+];
+const ACCOUNTS: [u16; 9] = [0, 1, 2, 3, 55, 56, 255, 256, 65_535];
+
+/// Every account of the largest ledger and some beyond, and each rate with each
+/// account on a small one.
+fn charges(samples: &mut Vec<Sample>) {
+    let large = Opening::new(&[1_000; MAX_ACCOUNTS], &[5]);
+    for account in (0..60).chain([64, 255, 256, 0x3700, 65_535]) {
+        let name = format!("charge_account_{account}");
+        samples.push(Sample::new(name, with_charge(&large, 2_500, account)));
+    }
+    let small = Opening::new(&[900, 600, 0], &[5]);
+    for rate in RATES {
+        for account in ACCOUNTS {
+            let name = format!("charge_{rate}_{account}");
+            samples.push(Sample::new(name, with_charge(&small, rate, account)));
+        }
+    }
+    let above = Opening::new(&[LIMIT, 0, 0], &[1]);
+    for (rate, account) in [(0, 0), (50, 2), (10_001, 0), (0, 3)] {
+        let of = |opening: &Opening| with_charge(opening, rate, account);
+        let name = |what: &str| format!("charge_{rate}_{account}_{what}");
+        samples.push(Sample::new(name("total_above"), of(&above)));
+        samples.push(Sample::new(
+            name("block_0_alone"),
+            of(&small)[..512].to_vec(),
+        ));
+        samples.push(Sample::new(
+            name("block_1_cut_off"),
+            of(&small)[..700].to_vec(),
+        ));
+        let mut bad = of(&small);
+        bad[512 + 33] ^= 1;
+        samples.push(Sample::new(name("block_1_bad"), bad));
+    }
+}
+
+/// Any rate and account in block 0, then crossings from each home account and from
+/// the one that the charge is paid to, if it is open.
+fn with_charge(opening: &Opening, rate: u16, account: u16) -> Vec<u8> {
+    let accounts = opening.home.len() as u16;
+    let paid = Some(account).filter(|&account| account < accounts);
+    let senders = (0..accounts).chain(paid).chain(paid);
+    let crossings = (0..)
+        .zip(senders)
+        .map(|(number, sender)| sending(Ledger::Home, sender, 0, number, 500 + number));
+    let records: Vec<Bytes> = crossings
+        .flat_map(|over| [over.bytes(), over.matching_arrival().bytes()])
+        .collect();
+    let mut blocks = split(&journal(opening, &records));
+    set_u16(&mut blocks[0], RATE, rate);
+    set_u16(&mut blocks[0], CHARGE_ACCOUNT, account);
+    seal(&mut blocks[0]);
+    join(&blocks)
 }
 
 /// A count in one stakes block, with as many stakes as there is room for.
@@ -121,10 +183,11 @@ fn third_block_bad(opening: &Opening) -> Vec<u8> {
 }
 
 pub fn seeded(rng: &mut Rng) -> Vec<u8> {
-    match rng.below(4) {
+    match rng.below(5) {
         0 => any_opening_traded(rng),
+        4 => any_charge(rng),
         1 => {
-            let opening = wild_opening(rng);
+            let opening = maybe_charged(rng, wild_opening);
             with_record(&opening)
         }
         2 => near_limit(rng),
@@ -133,7 +196,7 @@ pub fn seeded(rng: &mut Rng) -> Vec<u8> {
             let wrong = rng.index(2);
             let count = rng.byte();
             blocks[wrong][5] = count;
-            crate::journal::seal(&mut blocks[wrong]);
+            seal(&mut blocks[wrong]);
             join(&blocks)
         }
     }
@@ -141,7 +204,7 @@ pub fn seeded(rng: &mut Rng) -> Vec<u8> {
 
 /// A few records on any opening.
 fn any_opening_traded(rng: &mut Rng) -> Vec<u8> {
-    let opening = any_opening(rng);
+    let opening = maybe_charged(rng, any_opening);
     let mut trader = Trader::new(opening, Numbers::any(rng), Rng::new(rng.word()));
     for _ in 0..20 {
         let ledger = trader.some_ledger();
@@ -152,12 +215,21 @@ fn any_opening_traded(rng: &mut Rng) -> Vec<u8> {
     trader.journal()
 }
 
+/// A charge that is right or not, on any opening.
+fn any_charge(rng: &mut Rng) -> Vec<u8> {
+    let opening = any_opening(rng);
+    let right = charged(rng, opening.clone()).charge;
+    let any = rng.word() as u16;
+    let rate = rng.pick(&[right.rate as u16, right.rate as u16, any, 10_001]);
+    let next = opening.home.len() as u16;
+    let account = rng.pick(&[right.account as u16, right.account as u16, any, next]);
+    with_charge(&opening, rate, account)
+}
+
 /// Stakes without regard to their total.
 fn wild_opening(rng: &mut Rng) -> Opening {
-    Opening {
-        home: wild_stakes(rng, 56),
-        far: wild_stakes(rng, 3),
-    }
+    let [home, far] = [56, 3].map(|most| wild_stakes(rng, most));
+    Opening::new(&home, &far)
 }
 
 fn wild_stakes(rng: &mut Rng, most: u64) -> Vec<u64> {
@@ -167,7 +239,7 @@ fn wild_stakes(rng: &mut Rng, most: u64) -> Vec<u64> {
 
 /// A total a little below, at or above 2^63-1.
 fn near_limit(rng: &mut Rng) -> Vec<u8> {
-    let mut opening = any_opening(rng);
+    let mut opening = maybe_charged(rng, any_opening);
     let sum: u64 = opening.home.iter().chain(&opening.far).sum();
     let wanted = LIMIT - 2 + rng.below(5);
     let last = opening.far.len() - 1;

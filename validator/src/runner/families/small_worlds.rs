@@ -41,19 +41,25 @@ pub struct SmallWorlds {
 
 impl SmallWorlds {
     pub fn new(whole: bool) -> SmallWorlds {
+        let of = Opening::new;
         let first = if whole { 2 } else { 1 };
         let mut worlds = vec![
-            World::new(&[2], &[1], &[0, 9], 3, whole, true),
-            World::new(&[3], &[0], &[0, u64::MAX], 3, whole, whole),
-            World::new(&[first, 1], &[1], &[0, 1], 2, whole, whole),
+            World::new(of(&[2], &[1]), &[0, 9], 3, whole, true),
+            World::new(of(&[3], &[0]), &[0, u64::MAX], 3, whole, whole),
+            World::new(of(&[first, 1], &[1]), &[0, 1], 2, whole, whole),
         ];
         if whole {
-            worlds.push(World::new(&[3], &[3], &[0, 1, 2], 3, true, false));
-            worlds.push(World::new(&[1, 1], &[1, 1], &[0, 1], 3, true, false));
+            worlds.push(World::new(of(&[3], &[3]), &[0, 1, 2], 3, true, false));
+            worlds.push(World::new(of(&[1, 1], &[1, 1]), &[0, 1], 3, true, false));
         }
         // An account that is open on one ledger only is tried on both.
-        worlds.push(World::new(&[1, 1], &[1], &[0], 2, true, true));
-        worlds.push(World::new(&[1], &[1, 1], &[0], 2, true, true));
+        worlds.push(World::new(of(&[1, 1], &[1]), &[0], 2, true, true));
+        worlds.push(World::new(of(&[1], &[1, 1]), &[0], 2, true, true));
+        // Sendings cost more than their amount: a half, all of it again.
+        let half = of(&[3], &[1]).charged(5_000, 0);
+        worlds.push(World::new(half, &[0, 1], 3, whole, whole));
+        let whole_again = of(&[4, 0], &[0]).charged(10_000, 1);
+        worlds.push(World::new(whole_again, &[0, 1], 2, whole, false));
         let ways = worlds
             .iter()
             .enumerate()
@@ -82,15 +88,7 @@ impl Family for SmallWorlds {
 impl World {
     /// With `absent`, each ledger's next account, which is not open, is tried
     /// too.
-    fn new(
-        home: &[u64],
-        far: &[u64],
-        numbers: &[u64],
-        most: u64,
-        absent: bool,
-        every_order: bool,
-    ) -> World {
-        let opening = Opening::new(home, far);
+    fn new(opening: Opening, numbers: &[u64], most: u64, absent: bool, every_order: bool) -> World {
         let mut alphabet = Vec::new();
         for ledger in Ledger::BOTH {
             for kind in super::faults::kinds(ledger) {
@@ -105,7 +103,7 @@ impl World {
     }
 
     fn book(&self) -> RunningBook {
-        RunningBook::open(&self.opening.home, &self.opening.far).expect("a lawful opening")
+        self.opening.book()
     }
 
     /// The state after the steps, all of which pass.

@@ -12,11 +12,11 @@ use crate::runner::absent::{Beside, Sort};
 use crate::runner::calls::fields::{Field, Fields};
 use crate::runner::calls::Both;
 use crate::runner::rng::Rng;
-use crate::runner::trader::unequal_opening;
+use crate::runner::trader::{maybe_charged, unequal_opening};
 
 /// The steps that a scenario goes on through the sorts of records, and through
 /// the held records.
-const SORTS: u64 = 16;
+const SORTS: u64 = 18;
 const HELD: u64 = 3;
 
 pub fn scenario<C: Checker>(both: &mut Both, rng: &mut Rng) {
@@ -46,7 +46,7 @@ pub fn scenario<C: Checker>(both: &mut Both, rng: &mut Rng) {
 
 /// A state with some held records, an arrival on each ledger among them.
 fn base<C: Checker>(both: &mut Both, rng: &mut Rng, larger: Ledger) -> Reached<C> {
-    let opening = unequal_opening(rng, larger);
+    let opening = maybe_charged(rng, |rng| unequal_opening(rng, larger));
     let targets = [rng.within(8, 30) as usize, rng.within(8, 30) as usize];
     let mut base = filled_from::<C>(both, rng, opening, targets);
     let crossings = Ledger::BOTH.map(|from| {
@@ -60,7 +60,7 @@ fn base<C: Checker>(both: &mut Both, rng: &mut Rng, larger: Ledger) -> Reached<C
 /// A state with full tables.
 fn full_base<C: Checker>(both: &mut Both, rng: &mut Rng) -> Reached<C> {
     let larger = rng.pick(&Ledger::BOTH);
-    let opening = unequal_opening(rng, larger);
+    let opening = maybe_charged(rng, |rng| unequal_opening(rng, larger));
     filled_from(both, rng, opening, [CAPACITY; 2])
 }
 

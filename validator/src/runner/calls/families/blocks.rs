@@ -1,19 +1,28 @@
 //! Blocks of each kind and number, sound or with every sort of damage, the
 //! check stale or computed anew, and the calls that judge and read them.
 
+use super::forged::steps;
 use super::plain::{LAWFUL_BLOCKS, OTHER_BLOCKS};
-use crate::journal::{kind_of, seal, BLOCK, CHECK, FULL, ITEMS, RECORDS, STAKE};
+use crate::charge::{Charge, MAX_RATE};
+use crate::journal::{
+    kind_of, seal, BLOCK, CHARGE_ACCOUNT, CHECK, FULL, ITEMS, RATE, RECORDS, STAKE,
+};
 use crate::record::RECORD;
 use crate::rules::MAX_ACCOUNTS;
-use crate::runner::build::lawful_block;
+use crate::runner::build::{charged_block, lawful_block, set_u16, Block};
 use crate::runner::calls::{Both, Part};
 use crate::runner::rng::Rng;
 
-/// The bytes of a block that a scenario goes on through.
+/// The bytes of a block that a scenario goes on through, and the sets of faults of
+/// block 0.
 const SWEPT: u64 = 8;
+const CHARGES_SWEPT: u64 = 3;
 
 pub fn scenario(both: &mut Both, rng: &mut Rng) {
     sweep(both, rng);
+    for step in steps(both.scenario(), CHARGES_SWEPT) {
+        sweep_charge(both, rng, step);
+    }
     for _ in 0..6 {
         let right = if rng.chance(1, 4) {
             rng.below(2)
@@ -21,6 +30,9 @@ pub fn scenario(both: &mut Both, rng: &mut Rng) {
             rng.pick(&LAWFUL_BLOCKS)
         };
         let block = some_block(rng, right);
+        if right < 2 {
+            both.block_balances(&block, right, 0);
+        }
         for _ in 0..2 {
             let number = some_number(rng, right);
             let before = told_count(rng, number);
@@ -39,13 +51,41 @@ fn sweep(both: &mut Both, rng: &mut Rng) {
         let (size, _) = layout(number);
         let count = rng.within(1, 3) as usize;
         let items = rng.bytes(size * count);
-        let mut block = lawful_block(number, &items);
+        let mut block = written(rng, number, &items);
         block[step as usize % BLOCK] ^= 1 << rng.below(8);
         if rng.chance(5, 6) {
             seal(&mut block);
         }
         both.block_judge(&block, number, 14);
     }
+}
+
+/// Block 0 with each set of faults in turn: a wrong rate, a wrong account, a byte
+/// after them, a wrong kind, a stale check.
+fn sweep_charge(both: &mut Both, rng: &mut Rng, step: u64) {
+    let has = |bit: u32| step >> bit & 1 == 1;
+    let mut block = sound_block(rng, 0);
+    let count = u16::from(block[5]);
+    if has(0) {
+        set_u16(&mut block, RATE, rng.pick(&[10_001, 0x4000, 65_535]));
+    }
+    if has(1) {
+        let low_byte_open = 0x100 | (count - 1);
+        let account = rng.pick(&[count, low_byte_open, 65_535]);
+        set_u16(&mut block, CHARGE_ACCOUNT, account);
+    }
+    if has(2) {
+        block[rng.pick(&[10, 11, 31])] = 1;
+    }
+    if has(3) {
+        block[4] = 2;
+    }
+    if !has(4) || !step.is_multiple_of(3) {
+        seal(&mut block);
+    }
+    let place = rng.pick(&[0, 13, 14]);
+    both.block_balances(&block, 0, 0);
+    all_calls(both, rng, &block, [0, 0, place]);
 }
 
 /// The count of the block before, mostly one that is let pass.
@@ -132,7 +172,19 @@ fn sound_block(rng: &mut Rng, number: u64) -> Vec<u8> {
     let random = rng.within(1, most as u64) as usize;
     let count = rng.pick(&[1, most, most - 1, random, random]);
     let items = rng.bytes(size * count);
-    lawful_block(number, &items).to_vec()
+    written(rng, number, &items).to_vec()
+}
+
+/// A block as it is written; every other block 0 has a charge.
+fn written(rng: &mut Rng, number: u64, items: &[u8]) -> Block {
+    if number > 0 || rng.chance(1, 2) {
+        return lawful_block(number, items);
+    }
+    let last = (items.len() / STAKE) as u64 - 1;
+    let account = rng.within(0, last);
+    let any = rng.within(0, MAX_RATE);
+    let rate = rng.pick(&[0, 50, MAX_RATE, any]);
+    charged_block(Charge::new(rate, rng.pick(&[account, last])), items)
 }
 
 fn layout(number: u64) -> (usize, usize) {
@@ -148,6 +200,9 @@ fn damage(rng: &mut Rng, block: &mut [u8], number: u64) {
     let (size, most) = layout(number);
     let used = ITEMS + usize::from(block[5]) * size;
     let bit = 1 << rng.below(8);
+    if number == 0 && rng.chance(1, 2) {
+        return damage_charge(rng, block);
+    }
     match rng.below(8) {
         0 => block[rng.index(4)] ^= bit,
         1 => block[4] = rng.pick(&[0, 1, 2, 3, 4, 131, 255]),
@@ -159,12 +214,26 @@ fn damage(rng: &mut Rng, block: &mut [u8], number: u64) {
             let count = block[5];
             block[5] = rng.pick(&[count.wrapping_add(1), count.wrapping_sub(1), 0]);
         }
-        4 => block[rng.pick(&[6, 7, 31, 6, 16])] ^= bit,
+        4 => block[rng.pick(&[6, 7, 8, 9, 10, 31, 6, 16])] ^= bit,
         5 if (ITEMS..CHECK).contains(&used) => {
             let random = rng.within(used as u64, CHECK as u64 - 1) as usize;
             block[rng.pick(&[used, CHECK - 1, random])] ^= bit;
         }
         6 => block[rng.pick(&[CHECK, BLOCK - 1, CHECK + 15])] ^= bit,
         _ => block[rng.index(BLOCK)] ^= bit,
+    }
+}
+
+/// The rate or the charge account of block 0 is altered, mostly to a wrong one.
+fn damage_charge(rng: &mut Rng, block: &mut [u8]) {
+    let any = rng.word() as u16;
+    let count = u16::from(block[5]);
+    if rng.chance(1, 2) {
+        let rate = rng.pick(&[10_000, 10_001, 10_001, 0x1127, 0x8000, 65_535, any]);
+        set_u16(block, RATE, rate);
+    } else {
+        let low = count.saturating_sub(1);
+        let account = rng.pick(&[low, count, count, 56, 0x100 | low, 65_535, any]);
+        set_u16(block, CHARGE_ACCOUNT, account);
     }
 }

@@ -2,6 +2,7 @@
 //! both in the same way.
 
 use crate::answer::Answer;
+use crate::charge::Charge;
 use crate::record::{Ledger, Record, RECORD};
 use crate::rules::{Book, CAPACITY};
 use crate::runner::build::{Bytes, Opening};
@@ -9,7 +10,7 @@ use crate::runner::calls::fields::Fields;
 use crate::runner::calls::makers::{self, due_list, home_record, lawful, pair_record, take_back};
 use crate::runner::calls::{Both, Part};
 use crate::runner::rng::Rng;
-use crate::runner::trader::{rich_opening, Trader};
+use crate::runner::trader::{maybe_charged, rich_opening, Trader};
 use crate::states::{HomeState, PairState};
 
 /// The calls of one of the two checkers.
@@ -57,7 +58,8 @@ impl Checker for Pair {
     type State = PairState;
 
     fn open(both: &mut Both, opening: &Opening) -> (Answer, Box<PairState>) {
-        both.pair_open(&opening.home, &opening.far)
+        let Charge { rate, account } = opening.charge;
+        both.pair_open(&opening.home, &opening.far, rate, account)
     }
 
     fn check_record(both: &mut Both, state: &PairState, bytes: &[u8]) -> (Answer, Box<PairState>) {
@@ -105,7 +107,8 @@ impl Checker for Home {
 
     fn open(both: &mut Both, opening: &Opening) -> (Answer, Box<HomeState>) {
         let total = opening.far.iter().fold(0, |a: u64, &b| a.saturating_add(b));
-        both.home_open(&opening.home, opening.far.len(), total)
+        let Charge { rate, account } = opening.charge;
+        both.home_open(&opening.home, opening.far.len(), total, rate, account)
     }
 
     fn check_record(both: &mut Both, state: &HomeState, bytes: &[u8]) -> (Answer, Box<HomeState>) {
@@ -312,7 +315,7 @@ pub fn full<C: Checker>(both: &mut Both, rng: &mut Rng) -> Reached<C> {
 
 /// Fills the tables of a rich opening so far by few list calls.
 fn filled<C: Checker>(both: &mut Both, rng: &mut Rng, targets: [usize; 2]) -> Reached<C> {
-    let opening = rich_opening(rng);
+    let opening = maybe_charged(rng, rich_opening);
     filled_from(both, rng, opening, targets)
 }
 

@@ -24,8 +24,8 @@ pub(super) const ARRIVAL: u64 = 3;
 /// The steps that a scenario goes on through the fields, through their pairs,
 /// and through the forgeries of held records and counts.
 const SWEPT: u64 = 18;
-const PAIRS_SWEPT: u64 = 12;
-const HELD_SWEPT: u64 = 12;
+const PAIRS_SWEPT: u64 = 15;
+const HELD_SWEPT: u64 = 14;
 
 pub fn scenario<C: Checker>(both: &mut Both, rng: &mut Rng) {
     let base = reached::<C>(both, rng);
@@ -45,7 +45,7 @@ pub fn scenario<C: Checker>(both: &mut Both, rng: &mut Rng) {
         sweep_held(rng, &mut *branch.state, step);
         call(both, rng, &mut branch);
     }
-    for _ in 0..18 {
+    for _ in 0..15 {
         let mut branch = base.branch(rng);
         forge(rng, &mut *branch.state);
         call(both, rng, &mut branch);

@@ -1,4 +1,4 @@
-//! Held records and counts forged in turn, one thing at a time. In every other
+//! Held records, counts and the charge forged in turn, one thing at a time. In every other
 //! round the supply follows the sum, so that nothing else is wrong.
 
 use super::forged::{accounts, count, held_entry, put, some_ledger, some_place, under_number};
@@ -30,8 +30,9 @@ const VALUES: [(Field, u64); 15] = [
     (Field::Verdicts, 255),
 ];
 
-/// Numbers of accounts and of held records that are out of bounds.
-const COUNTS: [(Field, u64); 8] = [
+/// Numbers of accounts and of held records, rates and charge accounts that are out
+/// of bounds.
+const COUNTS: [(Field, u64); 14] = [
     (Field::Counts, CAPACITY as u64 + 1),
     (Field::Counts, 1 << 32),
     (Field::Counts, u64::MAX),
@@ -40,6 +41,12 @@ const COUNTS: [(Field, u64); 8] = [
     (Field::Accounts, 65_535),
     (Field::Accounts, 1 << 32),
     (Field::Accounts, u64::MAX),
+    (Field::Rate, 10_001),
+    (Field::Rate, 65_536),
+    (Field::Rate, 1 << 32),
+    (Field::ChargeAccount, 57),
+    (Field::ChargeAccount, 65_536),
+    (Field::ChargeAccount, 1 << 32),
 ];
 
 /// Bits of a count above those that it needs.
@@ -51,10 +58,12 @@ enum Forgery {
     Value(Field, u64),
     /// A byte of a held record that must be zero.
     ZeroByte(usize),
-    /// The count of accounts or of held records.
+    /// The count of accounts or of held records, the rate or its account.
     Count(Field, u64),
     /// Such a count, whose low bits stay as they are.
     HighBit(Field, u32),
+    /// The charge account is the first that is not open at home.
+    ChargeAccountNext,
     /// One byte of a held arrival's sending.
     SendingByte(usize),
     /// An account of a held arrival's sending, mostly another open one.
@@ -73,6 +82,7 @@ fn forgeries() -> Vec<Forgery> {
     for field in [Field::Counts, Field::Accounts] {
         all.extend(HIGH_BITS.map(|bit| Forgery::HighBit(field, bit)));
     }
+    all.push(Forgery::ChargeAccountNext);
     all.extend((0..RECORD).map(Forgery::SendingByte));
     all.extend([Field::Senders, Field::Receivers].map(Forgery::SendingAccount));
     all.extend([LOCAL, ARRIVAL].map(Forgery::SendingKind));
@@ -110,6 +120,10 @@ fn forge<S: Fields>(rng: &mut Rng, state: &mut S, forgery: Forgery) {
             let index = rng.index(S::length(field));
             let value = state.get(field, index) | 1 << bit;
             state.set(field, index, value);
+        }
+        Forgery::ChargeAccountNext => {
+            let next = state.get(Field::Accounts, 0);
+            state.set(Field::ChargeAccount, 0, next);
         }
         Forgery::SendingByte(byte) => {
             if let Some(entry) = some_crossing(rng, state) {

@@ -4,6 +4,7 @@
 pub mod accounts;
 pub mod beyond;
 pub mod blocks;
+pub mod charges;
 pub mod checker;
 pub mod forged;
 pub mod held;
@@ -25,7 +26,7 @@ pub struct Family {
     pub run: fn(&mut Both, &mut Rng),
 }
 
-pub const FAMILIES: [Family; 15] = [
+pub const FAMILIES: [Family; 17] = [
     family("pair_runs", 17, runs::scenario::<Pair>),
     family("home_runs", 13, runs::scenario::<Home>),
     family("pair_forged", 22, forged::scenario::<Pair>),
@@ -37,10 +38,12 @@ pub const FAMILIES: [Family; 15] = [
     family("records_read", 2, plain::records_read),
     family("records_encoded", 2, plain::records_encoded),
     family("sha256", 1, plain::sha256),
-    family("pair_accounts", 7, accounts::scenario::<Pair>),
+    family("pair_accounts", 8, accounts::scenario::<Pair>),
     family("home_accounts", 5, accounts::scenario::<Home>),
     family("pair_numbers", 8, numbers::scenario::<Pair>),
     family("home_numbers", 5, numbers::scenario::<Home>),
+    family("pair_charges", 5, charges::scenario::<Pair>),
+    family("home_charges", 5, charges::scenario::<Home>),
 ];
 
 const fn family(name: &'static str, share: u64, run: fn(&mut Both, &mut Rng)) -> Family {

@@ -14,7 +14,7 @@ use crate::runner::build::{arrival, local, sending, Bytes};
 use crate::runner::calls::fields::{Field, Fields};
 use crate::runner::calls::Both;
 use crate::runner::rng::Rng;
-use crate::runner::trader::{rich_opening, Numbers, Sharing};
+use crate::runner::trader::{maybe_charged, rich_opening, Numbers, Sharing};
 use crate::states::HELD;
 
 /// The steps that a scenario goes on through the probes of what is held, and
@@ -51,7 +51,7 @@ pub fn scenario<C: Checker>(both: &mut Both, rng: &mut Rng) {
 /// An opening with credit, and a trader whose numbers are all different. In
 /// every other scenario their low 12 bits are alike.
 fn open<C: Checker>(both: &mut Both, rng: &mut Rng) -> Reached<C> {
-    let opening = rich_opening(rng);
+    let opening = maybe_charged(rng, rich_opening);
     let mut base = Reached::<C>::open(both, rng, opening);
     base.trader.thrifty = true;
     base.trader.sharing = Sharing::Never;

@@ -1,23 +1,25 @@
 //! Calls without a state: blocks written, records read and encoded, SHA-256.
 
+use crate::charge::{Charge, MAX_RATE};
 use crate::journal::{kind_of, BLOCK, FULL, STAKE};
 use crate::record::{Held, MAX_AMOUNT, RECORD};
 use crate::rules::MAX_ACCOUNTS;
 use crate::runner::build::{set_u64, Bytes, AMOUNT, RESERVED, VERDICT};
+use crate::runner::calls::makers::doubtful_charge;
 use crate::runner::calls::{Both, Part};
 use crate::runner::families::faults::spoil_form;
 use crate::runner::rng::Rng;
 
 /// Block numbers, lawful and not.
-pub const LAWFUL_BLOCKS: [u64; 12] = [0, 1, 2, 2, 3, 3, 4, 14, 255, 256, 65_534, 65_535];
+pub const LAWFUL_BLOCKS: [u64; 13] = [0, 0, 1, 2, 2, 3, 3, 4, 14, 255, 256, 65_534, 65_535];
 pub const OTHER_BLOCKS: [u64; 6] = [65_536, 65_537, 1 << 17, 1 << 32, (1 << 32) + 2, u64::MAX];
 
 pub fn writes(both: &mut Both, rng: &mut Rng) {
     for _ in 0..20 {
-        let number = if rng.chance(1, 8) {
-            rng.pick(&OTHER_BLOCKS)
-        } else {
-            rng.pick(&LAWFUL_BLOCKS)
+        let number = match rng.below(8) {
+            0 => rng.pick(&OTHER_BLOCKS),
+            1 | 2 => 0,
+            _ => rng.pick(&LAWFUL_BLOCKS),
         };
         let kind = if rng.chance(1, 6) {
             rng.pick(&[0, 1, 2, 3, 4, 255])
@@ -31,7 +33,20 @@ pub fn writes(both: &mut Both, rng: &mut Rng) {
         };
         let mut output = rng.bytes(length);
         let items = items(rng, kind_of(number) == 3);
-        both.block_write(&mut output, number, kind, &items);
+        let Charge { rate, account } = write_charge(rng, number, &items);
+        both.block_write(&mut output, number, kind, rate, account, &items);
+    }
+}
+
+/// A charge for block 0, right or not for its stakes; any for other blocks.
+fn write_charge(rng: &mut Rng, number: u64, items: &[u8]) -> Charge {
+    let stakes = items.len() / STAKE;
+    match rng.below(4) {
+        0 => doubtful_charge(rng, stakes),
+        1 | 2 if number > 0 => Charge::new(rng.word(), rng.word()),
+        1 => doubtful_charge(rng, stakes),
+        2 => Charge::new(rng.within(0, MAX_RATE), rng.below(stakes.max(1) as u64)),
+        _ => Charge::NONE,
     }
 }
 

@@ -3,6 +3,7 @@
 //! beyond.
 
 use super::checker::{full, Checker, Reached};
+use crate::charge::Charge;
 use crate::record::{Ledger, Record};
 use crate::runner::build::{local, sending, Opening};
 use crate::runner::calls::makers::{doubtful_opening, lawful_opening};
@@ -42,7 +43,8 @@ fn refused_openings<C: Checker>(both: &mut Both, rng: &mut Rng) {
         }
         let fars = rng.pick(&[1, 1, 56, 0, 57, usize::MAX]);
         let total = rng.pick(&[0, 1, (1 << 63) - 1, 1 << 63, u64::MAX]);
-        both.home_open(&opening.home, fars, total);
+        let Charge { rate, account } = opening.charge;
+        both.home_open(&opening.home, fars, total, rate, account);
     }
 }
 

@@ -2,6 +2,7 @@
 //! of them at once.
 
 use super::forged::{accounts, count, some_place};
+use crate::charge::MAX_RATE;
 use crate::record::MAX_AMOUNT;
 use crate::rules::{CAPACITY, MAX_ACCOUNTS};
 use crate::runner::calls::fields::{Field, Fields};
@@ -148,6 +149,8 @@ fn lawful<S: Fields>(rng: &mut Rng, state: &S, field: Field, ledger: usize) -> u
         Field::Pool => rng.within(0, state.get(Field::Supply, 0).min(MAX_AMOUNT)),
         Field::Accounts => rng.within(1, MAX_ACCOUNTS as u64),
         Field::Counts => rng.within(0, CAPACITY as u64),
+        Field::Rate => rng.within(0, MAX_RATE),
+        Field::ChargeAccount => rng.below(state.get(Field::Accounts, 0).max(1)),
         Field::Balances => {
             let open = rng.index(accounts(state, ledger).max(1));
             state.get(Field::Balances, ledger * MAX_ACCOUNTS + open)
