@@ -6,7 +6,7 @@
 //! cross by value. All are plain integers, so any bits will do. The library takes every value, keeps nothing and has no data that is
 //! written.
 
-use crate::{ffi, STATE_VERSION, VERSION};
+use crate::{ffi, Tariff, STATE_VERSION, VERSION};
 use std::sync::OnceLock;
 
 /// Panics, each time, if the archive is not of this crate's version. It is asked once.
@@ -26,10 +26,12 @@ pub(crate) fn state_version() -> u32 {
     unsafe { ffi::moatbetony_state_version() }
 }
 
-pub(crate) fn pair_open(home_balances: &[u64], far_balances: &[u64]) -> ffi::PlainPairOutcome {
+pub(crate) fn pair_open(home_balances: &[u64], far_balances: &[u64], tariff: Tariff) -> ffi::PlainPairOutcome {
     belongs();
+    let Tariff { rate, charge_account } = tariff;
+    let (homes, fars) = (home_balances.len(), far_balances.len());
     // SAFETY: both slices are lent with their lengths.
-    unsafe { ffi::moatbetony_pair_open(home_balances.as_ptr(), home_balances.len(), far_balances.as_ptr(), far_balances.len()) }
+    unsafe { ffi::moatbetony_pair_open(home_balances.as_ptr(), homes, far_balances.as_ptr(), fars, rate, charge_account) }
 }
 
 pub(crate) fn pair_take(state: &mut ffi::PairValidator, bytes: &[u8]) -> ffi::PlainAnswer {
@@ -74,10 +76,12 @@ pub(crate) fn pair_places_left(state: &ffi::PairValidator) -> ffi::PlainPairPlac
     unsafe { ffi::moatbetony_pair_places_left(*state) }
 }
 
-pub(crate) fn home_open(home_balances: &[u64], far_accounts: usize, far_total: u64) -> ffi::PlainHomeOutcome {
+pub(crate) fn home_open(home_balances: &[u64], far_accounts: usize, far_total: u64, tariff: Tariff) -> ffi::PlainHomeOutcome {
     belongs();
+    let Tariff { rate, charge_account } = tariff;
+    let homes = home_balances.len();
     // SAFETY: the slice is lent with its length.
-    unsafe { ffi::moatbetony_home_open(home_balances.as_ptr(), home_balances.len(), far_accounts, far_total) }
+    unsafe { ffi::moatbetony_home_open(home_balances.as_ptr(), homes, far_accounts, far_total, rate, charge_account) }
 }
 
 pub(crate) fn home_take(state: &mut ffi::HomeValidator, bytes: &[u8]) -> ffi::PlainAnswer {
@@ -172,10 +176,12 @@ pub(crate) fn block_balances(block: &[u8], number: u64, before: u64) -> ffi::Pla
     unsafe { ffi::moatbetony_block_balances(block.as_ptr(), block.len(), number, before) }
 }
 
-pub(crate) fn block_write(out: &mut [u8], number: u64, kind: u8, items: &[u8]) -> ffi::PlainAnswer {
+pub(crate) fn block_write(out: &mut [u8], number: u64, kind: u8, tariff: Tariff, items: &[u8]) -> ffi::PlainAnswer {
     belongs();
+    let Tariff { rate, charge_account } = tariff;
+    let (size, from, length) = (out.len(), items.as_ptr(), items.len());
     // SAFETY: both slices are lent with their lengths, the output for writing; being borrowed so, they do not overlap.
-    unsafe { ffi::moatbetony_block_write(out.as_mut_ptr(), out.len(), number, kind, items.as_ptr(), items.len()) }
+    unsafe { ffi::moatbetony_block_write(out.as_mut_ptr(), size, number, kind, rate, charge_account, from, length) }
 }
 
 pub(crate) fn sha256(message: &[u8]) -> ffi::PlainDigest {
@@ -195,8 +201,8 @@ pub(crate) unsafe trait Plain: Copy {}
 unsafe impl Plain for ffi::PairValidator {}
 // SAFETY: as above.
 unsafe impl Plain for ffi::HomeValidator {}
-const _: () = assert!(size_of::<ffi::PairValidator>() == 8 * (2 * 512 * 4 + 2 * 56 + 1 + 2 + 2));
-const _: () = assert!(size_of::<ffi::HomeValidator>() == 8 * (512 * 4 + 56 + 5));
+const _: () = assert!(size_of::<ffi::PairValidator>() == 8 * (2 * 512 * 4 + 2 * 56 + 1 + 2 + 2 + 2));
+const _: () = assert!(size_of::<ffi::HomeValidator>() == 8 * (512 * 4 + 56 + 7));
 
 /// The bytes of a state.
 pub(crate) fn bytes_of<T: Plain>(state: &T) -> &[u8] {

@@ -25,6 +25,8 @@ pub(crate) struct PairValidator {
     pub(crate) supply: u64,
     pub(crate) accounts: [u64; 2],
     pub(crate) counts: [u64; 2],
+    pub(crate) rate: u64,
+    pub(crate) charge_account: u64,
 }
 
 #[repr(C)]
@@ -37,6 +39,8 @@ pub(crate) struct HomeValidator {
     pub(crate) home_accounts: u64,
     pub(crate) far_accounts: u64,
     pub(crate) count: u64,
+    pub(crate) rate: u64,
+    pub(crate) charge_account: u64,
 }
 
 #[repr(C)]
@@ -120,6 +124,8 @@ pub(crate) struct PlainCount {
 pub(crate) struct PlainBalances {
     pub(crate) answer: PlainAnswer,
     pub(crate) count: u64,
+    pub(crate) rate: u64,
+    pub(crate) charge_account: u64,
     pub(crate) balances: [u64; 56],
 }
 
@@ -136,6 +142,8 @@ extern "C" {
         home_balances_len: usize,
         far_balances: *const u64,
         far_balances_len: usize,
+        rate: u64,
+        charge_account: u64,
     ) -> PlainPairOutcome;
     pub(crate) fn moatbetony_pair_take(state: *mut PairValidator, bytes: *const u8, bytes_len: usize) -> PlainAnswer;
     pub(crate) fn moatbetony_pair_take_list(state: *mut PairValidator, bytes: *const u8, bytes_len: usize) -> PlainAnswer;
@@ -149,6 +157,8 @@ extern "C" {
         home_balances_len: usize,
         far_accounts: usize,
         far_total: u64,
+        rate: u64,
+        charge_account: u64,
     ) -> PlainHomeOutcome;
     pub(crate) fn moatbetony_home_take(state: *mut HomeValidator, bytes: *const u8, bytes_len: usize) -> PlainAnswer;
     pub(crate) fn moatbetony_home_take_list(state: *mut HomeValidator, bytes: *const u8, bytes_len: usize) -> PlainAnswer;
@@ -183,6 +193,8 @@ extern "C" {
         out_len: usize,
         number: u64,
         kind: u8,
+        rate: u64,
+        charge_account: u64,
         items: *const u8,
         items_len: usize,
     ) -> PlainAnswer;

@@ -5,10 +5,10 @@
 //! [`Answer::Passed`] and the record pays the desk:
 //!
 //! ```
-//! use moatbetony::{Answer, HomeValidator, Kind, Ledger, Record};
+//! use moatbetony::{Answer, HomeValidator, Kind, Ledger, Record, Tariff};
 //!
-//! // Home balances of two accounts; one far account, with 20.
-//! let mut desk = HomeValidator::open(&[100, 50], 1, 20)?;
+//! // Home balances of two accounts; one far account, with 20; no charge on home's sendings.
+//! let mut desk = HomeValidator::open(&[100, 50], 1, 20, Tariff::FREE)?;
 //!
 //! // What came in: a customer pays 30 from account 0 into the desk's account 1.
 //! # let sent = Record {
@@ -42,14 +42,17 @@
 //! Passed says that the record is in order and its credit has moved. Whether it pays you, and enough, you read with [`Record::read`]: a
 //! local or an arrival on home, to your account, from another one if it is a local, of the price.
 //!
+//! Home's network takes a charge on each home sending, which its sender pays beside the amount: a [`Tariff`] tells the rate and the
+//! account that is paid, and what a sending costs, so that a desk can show it before.
+//!
 //! A validator takes any bytes, always answers, and a refusal leaves it untouched. `take` and `take_list` alter its state in place, by
 //! proved calls; `check_record` and `check_list` answer the same, by calls that are handed a copy of it. A state can be stored and taken
 //! up again:
 //!
 //! ```
-//! use moatbetony::{sha256, HomeValidator, STATE_VERSION};
+//! use moatbetony::{sha256, HomeValidator, Tariff, STATE_VERSION};
 //!
-//! let desk = HomeValidator::open(&[100, 50], 1, 20)?;
+//! let desk = HomeValidator::open(&[100, 50], 1, 20, Tariff::FREE)?;
 //! let (version, stored, digest) = (STATE_VERSION, desk.as_bytes().to_vec(), sha256(desk.as_bytes()));
 //!
 //! // Only under the same layout, and only where the digest is the same.
@@ -60,9 +63,9 @@
 //! ```
 //!
 //! Every call judges its state first (refusal 3). 3 says that a state's numbers fit together, and no more. It does not see two balances
-//! exchanged, a balance raised together with the supply (home: or at the far pool's cost), held records left out, so that they pass
-//! again, or an older state put back. Keep the latest digest of a stored state where nobody else can write it, and store a new state
-//! before goods are handed over on it.
+//! exchanged, a balance raised together with the supply (home: or at the far pool's cost), another tariff that an opening would take,
+//! held records left out, so that they pass again, or an older state put back. Keep the latest digest of a stored state where nobody
+//! else can write it, and store a new state before goods are handed over on it.
 //!
 //! A validator holds [`CAPACITY`] passed records of a ledger, and then passes no further one (41, [`Refusal::Full`]): no record makes
 //! room again. Ask [`HomeValidator::places_left`] or [`PairValidator::places_left`] before each record, so that you see 41 coming: warn
@@ -91,22 +94,26 @@ mod ffi;
 pub mod journal;
 mod record;
 mod refusal;
+mod tariff;
 mod validators;
 
 pub use record::{Kind, Ledger, Record};
 pub use refusal::{Answer, Refusal};
+pub use tariff::Tariff;
 pub use validators::{HomeFigures, HomeValidator, PairFigures, PairPlaces, PairValidator};
 
 /// The library's version that this crate was written for: major * 10,000 + minor * 100 + patch.
-pub const VERSION: u32 = 500;
+pub const VERSION: u32 = 600;
 /// The layout of the two states. Store it with a state, and take a state up only under its own.
-pub const STATE_VERSION: u32 = 2;
+pub const STATE_VERSION: u32 = 3;
 /// The bytes of a record.
 pub const RECORD_SIZE: usize = 32;
 /// The most accounts of a ledger.
 pub const MAX_ACCOUNTS: usize = 56;
 /// The passed records that a validator holds of a ledger.
 pub const CAPACITY: usize = 512;
+/// The greatest rate of the charge on home's sendings, in ten-thousandths of what is sent.
+pub const MAX_RATE: u64 = 10_000;
 /// The most credit that both ledgers hold, and the most that a record moves: 2^63-1.
 pub const MAX_SUPPLY: u64 = (1 << 63) - 1;
 

@@ -146,12 +146,13 @@ refusals! {
     Account = 22, "sender's account, or the account asked for, not open", "the record's author, of a balance by the maker who calls";
     Verdict = 23, "bad signature", "the record's author";
     NumberUsed = 24, "number already used on this ledger (arrivals counted apart)", "the record's author";
-    Balance = 25, "balance too small", "the record's author";
+    Balance = 25, "balance too small (a home sending needs its charge too)", "the record's author";
     NoSending = 31, "arrival without a matching sending", "the far ledger";
     AbovePool = 32, "arrival above the far pool", "the far ledger";
     FarRecord = 33, "far record handed to the home validator", "the maker who calls";
     Full = 41, "ledger holds 512 passed records", "nobody: it is the size of the part";
     Receiver = 51, "receiver's account not open", "the record's author";
+    Tariff = 52, "rate above 10,000, or charge account not open at home", "the maker who calls, of a block by the journal's keeper";
 }
 
 impl std::error::Error for Refusal {}

@@ -1,7 +1,7 @@
 //! The two validators.
 
 use crate::refusal::{value, Answer, Refusal};
-use crate::{calls, ffi, Ledger};
+use crate::{calls, ffi, Ledger, Tariff};
 use std::fmt;
 
 /// The totals that a [`PairValidator`] gives. The three make the supply.
@@ -11,7 +11,7 @@ pub struct PairFigures {
     pub home: u64,
     /// The balances of far.
     pub far: u64,
-    /// In flight: passed sendings whose arrival has not passed.
+    /// In flight: passed sendings whose arrival has not passed, without their charges.
     pub flight: u64,
 }
 
@@ -36,9 +36,9 @@ pub struct HomeFigures {
 /// The checker that sees the records of both ledgers in one order (the networks' word: pair book).
 ///
 /// ```
-/// use moatbetony::{Answer, Kind, Ledger, PairFigures, PairValidator, Record, Refusal};
+/// use moatbetony::{Answer, Kind, Ledger, PairFigures, PairValidator, Record, Refusal, Tariff};
 ///
-/// let mut pair = PairValidator::open(&[100, 50], &[20])?;
+/// let mut pair = PairValidator::open(&[100, 50], &[20], Tariff::FREE)?;
 /// let sent = Record {
 ///     kind: Kind::Sending, ledger: Ledger::Home, sender: 0, receiver: 0, number: 7, amount: 30, verified: true,
 /// };
@@ -59,9 +59,9 @@ pub struct PairValidator {
 /// more arrive than the far opening total and what home has sent.
 ///
 /// ```
-/// use moatbetony::{HomeFigures, HomeValidator, Kind, Ledger, Record, Refusal};
+/// use moatbetony::{HomeFigures, HomeValidator, Kind, Ledger, Record, Refusal, Tariff};
 ///
-/// let mut home = HomeValidator::open(&[100, 50], 1, 20)?;
+/// let mut home = HomeValidator::open(&[100, 50], 1, 20, Tariff::FREE)?;
 /// let arrival = Record {
 ///     kind: Kind::Arrival, ledger: Ledger::Home, sender: 0, receiver: 1, number: 9, amount: 21, verified: true,
 /// };
@@ -77,7 +77,7 @@ pub struct HomeValidator {
     state: Box<ffi::HomeValidator>,
 }
 
-// What both have: the calls with records, and the state as bytes.
+// What both have: the calls with records, the tariff, and the state as bytes.
 macro_rules! validator {
     ($name:ident, $told:ident, $take:ident, $take_list:ident, $check_record:ident, $check_list:ident, $refusals:literal) => {
         impl $name {
@@ -129,6 +129,16 @@ macro_rules! validator {
                 answer
             }
 
+            /// The charge on home's sendings, as the opening told it: what a stored state that was taken up goes on with.
+            ///
+            /// # Errors
+            ///
+            /// [`Refusal::State`].
+            pub fn tariff(&self) -> Result<Tariff, Refusal> {
+                self.figures()?;
+                Ok(Tariff { rate: self.state.rate, charge_account: self.state.charge_account })
+            }
+
             /// The state's bytes, to be stored. Store [`STATE_VERSION`](crate::STATE_VERSION) and a digest with them, and keep the
             /// latest digest where nobody else can write it.
             #[must_use]
@@ -140,8 +150,8 @@ macro_rules! validator {
             ///
             /// Every call judges the state first (refusal 3, [`Refusal::State`]). 3 says that a state's numbers fit together, and no
             /// more. It does not see two balances exchanged, a balance raised together with the supply (home: or at the far pool's
-            /// cost), held records left out, so that they pass again, or an older state put back. Compare a digest before, and keep
-            /// the latest one where nobody else can write it.
+            /// cost), another tariff that an opening would take, held records left out, so that they pass again, or an older state
+            /// put back. Compare a digest before, and keep the latest one where nobody else can write it.
             #[must_use]
             pub fn from_bytes(bytes: &[u8]) -> Option<Self> {
                 Some($name { state: calls::from_bytes(bytes)? })
@@ -179,13 +189,13 @@ validator!(
 );
 
 impl PairValidator {
-    /// Opens with the balances of each ledger, one for each account from 0.
+    /// Opens with the balances of each ledger, one for each account from 0, and the charge on home's sendings.
     ///
     /// # Errors
     ///
-    /// [`Refusal::AccountCount`], then [`Refusal::Supply`].
-    pub fn open(home_balances: &[u64], far_balances: &[u64]) -> Result<PairValidator, Refusal> {
-        let told = calls::pair_open(home_balances, far_balances);
+    /// [`Refusal::AccountCount`], then [`Refusal::Supply`], then [`Refusal::Tariff`].
+    pub fn open(home_balances: &[u64], far_balances: &[u64], tariff: Tariff) -> Result<PairValidator, Refusal> {
+        let told = calls::pair_open(home_balances, far_balances, tariff);
         value(told.answer, ())?;
         Ok(PairValidator { state: Box::new(told.state) })
     }
@@ -213,9 +223,9 @@ impl PairValidator {
     /// The places left: how many more records of each ledger can pass before [`Refusal::Full`]. No record makes room again.
     ///
     /// ```
-    /// use moatbetony::{Kind, Ledger, PairPlaces, PairValidator, Record, CAPACITY};
+    /// use moatbetony::{Kind, Ledger, PairPlaces, PairValidator, Record, Tariff, CAPACITY};
     ///
-    /// let mut pair = PairValidator::open(&[100, 50], &[20])?;
+    /// let mut pair = PairValidator::open(&[100, 50], &[20], Tariff::FREE)?;
     /// let all = CAPACITY as u64;
     /// assert_eq!(pair.places_left()?, PairPlaces { home: all, far: all });
     /// let sent = Record {
@@ -236,13 +246,14 @@ impl PairValidator {
 }
 
 impl HomeValidator {
-    /// Opens with the home balances, one for each account from 0, the number of far accounts and their total.
+    /// Opens with the home balances, one for each account from 0, the number of far accounts and their total, and the charge on home's
+    /// sendings.
     ///
     /// # Errors
     ///
-    /// [`Refusal::AccountCount`], then [`Refusal::Supply`].
-    pub fn open(home_balances: &[u64], far_accounts: usize, far_total: u64) -> Result<HomeValidator, Refusal> {
-        let told = calls::home_open(home_balances, far_accounts, far_total);
+    /// [`Refusal::AccountCount`], then [`Refusal::Supply`], then [`Refusal::Tariff`].
+    pub fn open(home_balances: &[u64], far_accounts: usize, far_total: u64, tariff: Tariff) -> Result<HomeValidator, Refusal> {
+        let told = calls::home_open(home_balances, far_accounts, far_total, tariff);
         value(told.answer, ())?;
         Ok(HomeValidator { state: Box::new(told.state) })
     }
@@ -270,9 +281,9 @@ impl HomeValidator {
     /// The places left: how many more home records can pass before [`Refusal::Full`]. No record makes room again.
     ///
     /// ```
-    /// use moatbetony::{HomeValidator, CAPACITY};
+    /// use moatbetony::{HomeValidator, Tariff, CAPACITY};
     ///
-    /// let home = HomeValidator::open(&[100, 50], 1, 20)?;
+    /// let home = HomeValidator::open(&[100, 50], 1, 20, Tariff::FREE)?;
     /// assert_eq!(home.places_left()?, CAPACITY as u64);
     /// # Ok::<(), moatbetony::Refusal>(())
     /// ```
@@ -293,6 +304,8 @@ impl fmt::Debug for PairValidator {
             .field("supply", &self.state.supply)
             .field("accounts", &self.state.accounts)
             .field("counts", &self.state.counts)
+            .field("rate", &self.state.rate)
+            .field("charge_account", &self.state.charge_account)
             .finish_non_exhaustive()
     }
 }
@@ -306,6 +319,8 @@ impl fmt::Debug for HomeValidator {
             .field("home_accounts", &self.state.home_accounts)
             .field("far_accounts", &self.state.far_accounts)
             .field("count", &self.state.count)
+            .field("rate", &self.state.rate)
+            .field("charge_account", &self.state.charge_account)
             .finish_non_exhaustive()
     }
 }
@@ -344,14 +359,14 @@ mod tests {
 
     stores_what_passed!(
         pair_stores_what_passed,
-        PairValidator::open(&[100, 50], &[20]),
-        PairValidator::open(&[99, 51], &[20]),
+        PairValidator::open(&[100, 50], &[20], Tariff::FREE),
+        PairValidator::open(&[99, 51], &[20], Tariff::FREE),
         PlainPairOutcome
     );
     stores_what_passed!(
         home_stores_what_passed,
-        HomeValidator::open(&[100, 50], 1, 20),
-        HomeValidator::open(&[99, 51], 1, 20),
+        HomeValidator::open(&[100, 50], 1, 20, Tariff::FREE),
+        HomeValidator::open(&[99, 51], 1, 20, Tariff::FREE),
         PlainHomeOutcome
     );
 }

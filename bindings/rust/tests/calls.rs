@@ -1,8 +1,9 @@
-//! The crate's calls: the cases of document 01, states as bytes, journals.
+//! The crate's calls: the cases of document 01, the charge of document 02 (U3), states as bytes, journals.
 
-use moatbetony::journal::{self, BlockKind};
+use moatbetony::journal::{self, BlockKind, Opening};
 use moatbetony::{
-    sha256, Answer, HomeFigures, HomeValidator, Kind, Ledger, PairFigures, PairPlaces, PairValidator, Record, Refusal, MAX_SUPPLY,
+    sha256, Answer, HomeFigures, HomeValidator, Kind, Ledger, PairFigures, PairPlaces, PairValidator, Record, Refusal, Tariff,
+    MAX_RATE, MAX_SUPPLY,
 };
 
 fn record(kind: Kind, ledger: Ledger, sender: u16, receiver: u16, number: u64, amount: u64) -> [u8; 32] {
@@ -18,28 +19,32 @@ fn refused(refusal: Refusal, place: u64) -> Answer {
 }
 
 fn pair() -> PairValidator {
-    PairValidator::open(&[100, 50], &[20]).expect("an opening")
+    PairValidator::open(&[100, 50], &[20], Tariff::FREE).expect("an opening")
 }
 
 fn home() -> HomeValidator {
-    HomeValidator::open(&[100, 50], 1, 20).expect("an opening")
+    HomeValidator::open(&[100, 50], 1, 20, Tariff::FREE).expect("an opening")
 }
 
 #[test]
 fn versions_agree() {
     assert_eq!(moatbetony::version(), moatbetony::VERSION);
     assert_eq!(moatbetony::state_version(), moatbetony::STATE_VERSION);
-    assert_eq!(PairValidator::STATE_SIZE, 33_704);
-    assert_eq!(HomeValidator::STATE_SIZE, 16_872);
+    assert_eq!(PairValidator::STATE_SIZE, 33_720);
+    assert_eq!(HomeValidator::STATE_SIZE, 16_888);
 }
 
 #[test]
 fn refusals_have_their_numbers() {
     let numbers: Vec<u32> = Refusal::ALL.iter().map(|refusal| refusal.number()).collect();
-    assert_eq!(numbers, [1, 2, 3, 4, 11, 12, 13, 14, 21, 22, 23, 24, 25, 31, 32, 33, 41, 51]);
+    assert_eq!(numbers, [1, 2, 3, 4, 11, 12, 13, 14, 21, 22, 23, 24, 25, 31, 32, 33, 41, 51, 52]);
     let error: Box<dyn std::error::Error> = Box::new(Refusal::AbovePool);
     assert_eq!(error.to_string(), "arrival above the far pool");
-    assert_eq!(refused(Refusal::Balance, 3).to_string(), "refused with 25 at 3: balance too small");
+    assert_eq!(
+        refused(Refusal::Balance, 3).to_string(),
+        "refused with 25 at 3: balance too small (a home sending needs its charge too)"
+    );
+    assert_eq!(Refusal::Tariff.to_string(), "rate above 10,000, or charge account not open at home");
     assert_eq!(Answer::Passed.to_string(), "passed");
     assert_eq!(refused(Refusal::Full, 0).into_result(), Err(Refusal::Full));
 }
@@ -193,13 +198,76 @@ in_place_as_by_value!(home_in_place_as_by_value, HomeValidator, home());
 
 #[test]
 fn openings() {
-    assert_eq!(PairValidator::open(&[1; 57], &[1]).err(), Some(Refusal::AccountCount));
-    assert_eq!(PairValidator::open(&[], &[1]).err(), Some(Refusal::AccountCount));
-    assert!(PairValidator::open(&[1; 56], &[1; 56]).is_ok());
-    assert!(PairValidator::open(&[MAX_SUPPLY], &[0]).is_ok());
-    assert_eq!(PairValidator::open(&[MAX_SUPPLY], &[1]).err(), Some(Refusal::Supply));
-    assert_eq!(HomeValidator::open(&[1], 57, 0).err(), Some(Refusal::AccountCount));
-    assert_eq!(HomeValidator::open(&[1], 1, MAX_SUPPLY).err(), Some(Refusal::Supply));
+    let free = Tariff::FREE;
+    assert_eq!(PairValidator::open(&[1; 57], &[1], free).err(), Some(Refusal::AccountCount));
+    assert_eq!(PairValidator::open(&[], &[1], free).err(), Some(Refusal::AccountCount));
+    assert!(PairValidator::open(&[1; 56], &[1; 56], free).is_ok());
+    assert!(PairValidator::open(&[MAX_SUPPLY], &[0], free).is_ok());
+    assert_eq!(PairValidator::open(&[MAX_SUPPLY], &[1], free).err(), Some(Refusal::Supply));
+    assert_eq!(HomeValidator::open(&[1], 57, 0, free).err(), Some(Refusal::AccountCount));
+    assert_eq!(HomeValidator::open(&[1], 1, MAX_SUPPLY, free).err(), Some(Refusal::Supply));
+}
+
+// Rate and account as they came, in both openings; 52 after 1 and 2, at rate 0 too, and of numbers that 16 bits would cut.
+#[test]
+fn tariffs_of_openings() {
+    for (rate, charge_account, refusal) in [
+        (0, 1, None),
+        (MAX_RATE, 1, None),
+        (MAX_RATE + 1, 1, Some(Refusal::Tariff)),
+        (65_536, 1, Some(Refusal::Tariff)),
+        (u64::MAX, 1, Some(Refusal::Tariff)),
+        (0, 2, Some(Refusal::Tariff)),
+        (50, 2, Some(Refusal::Tariff)),
+        (50, 65_537, Some(Refusal::Tariff)),
+        (0, u64::MAX, Some(Refusal::Tariff)),
+    ] {
+        let tariff = Tariff { rate, charge_account };
+        let opened = PairValidator::open(&[100, 50], &[20, 0, 0], tariff);
+        assert_eq!(opened.and_then(|it| it.tariff()), refusal.map_or(Ok(tariff), Err));
+        let opened = HomeValidator::open(&[100, 50], 3, 20, tariff);
+        assert_eq!(opened.and_then(|it| it.tariff()), refusal.map_or(Ok(tariff), Err));
+        if refusal.is_some() {
+            assert_eq!(PairValidator::open(&[], &[20], tariff).err(), Some(Refusal::AccountCount));
+            assert_eq!(PairValidator::open(&[MAX_SUPPLY, 0], &[1], tariff).err(), Some(Refusal::Supply));
+            assert_eq!(HomeValidator::open(&[100, 50], 0, 20, tariff).err(), Some(Refusal::AccountCount));
+            assert_eq!(HomeValidator::open(&[100, 50], 1, MAX_SUPPLY, tariff).err(), Some(Refusal::Supply));
+        }
+    }
+}
+
+// A home sending takes amount and charge, and pays the charge; nothing else costs more than its amount. At rate 500: 96 and 4 are 100.
+#[test]
+fn charges() {
+    let tariff = Tariff { rate: 500, charge_account: 1 };
+    let sending = |sender, number, amount| record(Kind::Sending, Ledger::Home, sender, 0, number, amount);
+    let mut it = PairValidator::open(&[100, 50], &[20], tariff).expect("an opening");
+    assert_eq!((tariff.most_to_send(100), tariff.charge(96)), (96, 4));
+    assert_eq!(it.take(&sending(0, 7, 97)), refused(Refusal::Balance, 0));
+    assert!(it.take(&sending(0, 7, 96)).is_passed());
+    assert_eq!((it.balance(Ledger::Home, 0), it.balance(Ledger::Home, 1)), (Ok(0), Ok(54)));
+    assert_eq!(it.figures(), Ok(PairFigures { home: 54, far: 20, flight: 96 }));
+    let others = [
+        record(Kind::Arrival, Ledger::Far, 0, 0, 7, 96),
+        record(Kind::Sending, Ledger::Far, 0, 0, 8, 116),
+        record(Kind::Arrival, Ledger::Home, 0, 0, 8, 116),
+        local(0, 1, 9, 116),
+    ];
+    assert!(it.take_list(&others.concat()).is_passed());
+    assert_eq!(it.balance(Ledger::Home, 1), Ok(170));
+    // The charge account needs both, and then gets the charge.
+    assert_eq!(it.take(&sending(1, 10, 163)), refused(Refusal::Balance, 0));
+    assert!(it.take(&sending(1, 10, 162)).is_passed());
+    assert_eq!(it.figures(), Ok(PairFigures { home: 8, far: 0, flight: 162 }));
+    assert_eq!((it.balance(Ledger::Home, 1), it.tariff()), (Ok(8), Ok(tariff)));
+
+    let mut it = HomeValidator::open(&[100, 50], 1, 20, tariff).expect("an opening");
+    assert_eq!(it.take_list(&[sending(1, 6, 1), sending(0, 7, 97)].concat()), refused(Refusal::Balance, 1));
+    assert!(it.take(&sending(0, 7, 96)).is_passed());
+    assert_eq!((it.balance(0), it.balance(1)), (Ok(0), Ok(54)));
+    assert_eq!(it.figures(), Ok(HomeFigures { home: 54, pool: 116 }));
+    assert!(it.take(&record(Kind::Arrival, Ledger::Home, 0, 0, 7, 116)).is_passed());
+    assert_eq!((it.balance(0), it.tariff()), (Ok(116), Ok(tariff)));
 }
 
 #[test]
@@ -269,6 +337,14 @@ fn states_as_bytes() {
         assert_eq!(forged.places_left(), Err(Refusal::State));
         assert_eq!(forged.as_bytes(), bytes);
     }
+    // Its last two words are rate and charge account.
+    for (word, value) in [(2, MAX_RATE + 1), (1, 2)] {
+        let mut bytes = home().as_bytes().to_vec();
+        let at = bytes.len() - 8 * word;
+        bytes[at..at + 8].copy_from_slice(&value.to_le_bytes());
+        let forged = HomeValidator::from_bytes(&bytes).expect("a state's length");
+        assert_eq!((forged.figures(), forged.tariff()), (Err(Refusal::State), Err(Refusal::State)));
+    }
     let mut forged = PairValidator::from_bytes(&[0xff; PairValidator::STATE_SIZE]).expect("a state's length");
     assert_eq!(forged.take(&[]), refused(Refusal::State, 0));
     assert_eq!(forged.take_list(&[]), refused(Refusal::State, 0));
@@ -279,8 +355,14 @@ fn states_as_bytes() {
 
 #[test]
 fn states_print_short() {
-    assert_eq!(format!("{:?}", pair()), "PairValidator { supply: 170, accounts: [2, 1], counts: [0, 0], .. }");
-    assert_eq!(format!("{:?}", home()), "HomeValidator { supply: 170, pool: 20, home_accounts: 2, far_accounts: 1, count: 0, .. }");
+    assert_eq!(
+        format!("{:?}", pair()),
+        "PairValidator { supply: 170, accounts: [2, 1], counts: [0, 0], rate: 0, charge_account: 0, .. }"
+    );
+    assert_eq!(
+        format!("{:?}", home()),
+        "HomeValidator { supply: 170, pool: 20, home_accounts: 2, far_accounts: 1, count: 0, rate: 0, charge_account: 0, .. }"
+    );
 }
 
 #[test]
@@ -316,7 +398,7 @@ fn calls_fit_their_stacks() {
         (0..512).flat_map(|number| local(0, 1, number << 16, 1)).collect()
     }
     fits(256 * 1024, || {
-        let mut it = PairValidator::open(&[1000; 56], &[0; 56]).expect("an opening");
+        let mut it = PairValidator::open(&[1000; 56], &[0; 56], Tariff::FREE).expect("an opening");
         let before = it.clone();
         let mut by_value = it.clone();
         assert!(it.take_list(&list()).is_passed() && by_value.check_list(&list()).is_passed());
@@ -328,7 +410,7 @@ fn calls_fit_their_stacks() {
         assert!(it.figures().is_ok() && it != before && PairValidator::from_bytes(it.as_bytes()) == Some(it));
     });
     fits(128 * 1024, || {
-        let mut it = HomeValidator::open(&[1000; 56], 56, 0).expect("an opening");
+        let mut it = HomeValidator::open(&[1000; 56], 56, 0, Tariff::FREE).expect("an opening");
         let before = it.clone();
         let mut by_value = it.clone();
         assert!(it.take_list(&list()).is_passed() && by_value.check_list(&list()).is_passed());
@@ -345,11 +427,12 @@ fn calls_fit_their_stacks() {
 fn journal_blocks() {
     let items: Vec<u8> = (0..14).flat_map(|n| local(0, 1, n, 1 + n)).collect();
     let mut block = [0xee; journal::BLOCK_SIZE];
-    assert_eq!(journal::write_block(&mut block, 3, BlockKind::HomeBalances, &items), refused(Refusal::BlockRequest, 3));
-    assert_eq!(journal::write_block(&mut block[1..], 3, BlockKind::Records, &items), refused(Refusal::BlockRequest, 3));
-    assert_eq!(journal::write_block(&mut block, 3, BlockKind::Records, &[]), refused(Refusal::BlockRequest, 3));
+    let free = Tariff::FREE;
+    assert_eq!(journal::write_block(&mut block, 3, BlockKind::HomeBalances, free, &items), refused(Refusal::BlockRequest, 3));
+    assert_eq!(journal::write_block(&mut block[1..], 3, BlockKind::Records, free, &items), refused(Refusal::BlockRequest, 3));
+    assert_eq!(journal::write_block(&mut block, 3, BlockKind::Records, free, &[]), refused(Refusal::BlockRequest, 3));
     assert_eq!(block, [0xee; journal::BLOCK_SIZE]);
-    assert!(journal::write_block(&mut block, 3, BlockKind::of(3), &items).is_passed());
+    assert!(journal::write_block(&mut block, 3, BlockKind::of(3), free, &items).is_passed());
     assert_eq!(block[480..], sha256(&block[..480]));
     assert!(journal::judge(&block, 3, 14).is_passed());
     assert_eq!(journal::judge(&block, 3, 13), refused(Refusal::BlockForm, 3));
@@ -371,7 +454,39 @@ fn journal_blocks() {
     assert_eq!(journal::count(&block, 3, 14), Err(Refusal::BlockCheck));
 
     let balances: Vec<u8> = (1..=56u64).flat_map(u64::to_be_bytes).collect();
-    assert!(journal::write_block(&mut block, 1, BlockKind::FarBalances, &balances).is_passed());
-    assert_eq!(journal::opening_balances(&block, 1, 0), Ok((1..=56).collect()));
+    assert!(journal::write_block(&mut block, 1, BlockKind::FarBalances, free, &balances).is_passed());
+    assert_eq!(journal::opening_balances(&block, 1, 0), Ok(Opening { balances: (1..=56).collect(), tariff: free }));
     assert_eq!(journal::record_part(&block, 1, 0, 0), Err(Refusal::BlockRequest));
+}
+
+// Block 0 has rate and charge account; no other block looks at them.
+#[test]
+fn journal_tariffs() {
+    let items = [100u64.to_be_bytes(), 50u64.to_be_bytes()].concat();
+    let mut block = [0xee; journal::BLOCK_SIZE];
+    let write = |block: &mut [u8], rate, charge_account| {
+        journal::write_block(block, 0, BlockKind::HomeBalances, Tariff { rate, charge_account }, &items)
+    };
+    for (rate, charge_account) in [(MAX_RATE + 1, 0), (65_536, 0), (0, 2), (0, 65_536), (u64::MAX, u64::MAX)] {
+        assert_eq!(write(&mut block, rate, charge_account), refused(Refusal::BlockRequest, 0));
+        assert_eq!(block, [0xee; journal::BLOCK_SIZE]);
+    }
+    assert!(write(&mut block, 50, 1).is_passed());
+    assert_eq!(block[6..10], [0, 50, 0, 1]);
+    let tariff = Tariff { rate: 50, charge_account: 1 };
+    assert_eq!(journal::opening_balances(&block, 0, 0), Ok(Opening { balances: vec![100, 50], tariff }));
+    // A block by hand whose charge account is not open.
+    block[9] = 2;
+    let digest = sha256(&block[..480]);
+    block[480..].copy_from_slice(&digest);
+    assert_eq!(journal::judge(&block, 0, 0), refused(Refusal::Tariff, 0));
+    assert_eq!(journal::judge_record(&block, 0, 0, 0), refused(Refusal::Tariff, 0));
+    assert_eq!(journal::count(&block, 0, 0), Err(Refusal::Tariff));
+    assert_eq!(journal::opening_balances(&block, 0, 0), Err(Refusal::Tariff));
+    assert_eq!(journal::judge(&block, 1, 0), refused(Refusal::BlockNumber, 1));
+
+    let wrong = Tariff { rate: u64::MAX, charge_account: u64::MAX };
+    assert!(journal::write_block(&mut block, 1, BlockKind::FarBalances, wrong, &items).is_passed());
+    assert_eq!(block[6..32], [0; 26]);
+    assert_eq!(journal::opening_balances(&block, 1, 0), Ok(Opening { balances: vec![100, 50], tariff: Tariff::FREE }));
 }

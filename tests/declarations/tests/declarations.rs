@@ -21,6 +21,7 @@ const EXPORTS: &str = "crates/moatbetony/src/lib.rt";
 const LEDGERS: &str = "crates/ledgers/src/lib.rt";
 const NUMBER_INDEX: &str = "crates/places/src/number_index.rt";
 const TABLE: &str = "crates/table/src/lib.rt";
+const TARIFFS: &str = "crates/tariffs/src/lib.rt";
 
 // A validator: its name here; the source that has its state's struct, and the one that has the words of its fields, with that crate's name;
 // the fields after the records with the constants for the words at which they start, in order, and under no name that for all words.
@@ -42,6 +43,8 @@ const PAIR: Validator = Validator {
         ("supply", "SUPPLY_WORD"),
         ("accounts", "ACCOUNTS_WORD"),
         ("counts", "COUNTS_WORD"),
+        ("rate", "RATE_WORD"),
+        ("charge_account", "CHARGE_ACCOUNT_WORD"),
         ("", "WORDS"),
     ],
 };
@@ -58,6 +61,8 @@ const HOME: Validator = Validator {
         ("home_accounts", "HOME_ACCOUNTS_WORD"),
         ("far_accounts", "FAR_ACCOUNTS_WORD"),
         ("count", "COUNT_WORD"),
+        ("rate", "RATE_WORD"),
+        ("charge_account", "CHARGE_ACCOUNT_WORD"),
         ("", "WORDS"),
     ],
 };
@@ -161,6 +166,8 @@ fn constants_agree() {
     let header = macros(&source(HEADER));
     assert_eq!(header.get("MOATBETONY_MAX_ACCOUNTS").copied(), rattle.get("Ledger::ACCOUNTS"));
     assert_eq!(header.get("MOATBETONY_CAPACITY").copied(), rattle.get("Ledger::CAPACITY"));
+    let rate = header.get("MOATBETONY_MAX_RATE").expect("the greatest rate");
+    assert!(source(TARIFFS).contains(&format!("pub const PARTS: u64 = {rate};")));
     let lib = source("bindings/rust/src/lib.rs");
     let journal = source("bindings/rust/src/journal.rs");
     let number = |text: &str, name: &str| -> Option<u64> {
@@ -172,6 +179,7 @@ fn constants_agree() {
         (&lib, "RECORD_SIZE"),
         (&lib, "MAX_ACCOUNTS"),
         (&lib, "CAPACITY"),
+        (&lib, "MAX_RATE"),
         (&journal, "BLOCK_SIZE"),
         (&journal, "HEADER_SIZE"),
         (&journal, "BALANCE_SIZE"),
@@ -273,6 +281,12 @@ fn differences_in_the_header_are_found() {
         "u32 where a word of 64 bits is wanted",
     );
     found("uint32_t moatbetony_version(void)", "uint64_t moatbetony_version(void)", "moatbetony_version: its result");
+    found("uint64_t far_total, uint64_t rate,", "uint64_t far_total, uint16_t rate,", "moatbetony_home_open: parameter 5");
+    found(
+        "uint64_t rate, uint64_t charge_account, const",
+        "uint64_t rate, uint16_t charge_account, const",
+        "moatbetony_block_write: parameter 6",
+    );
     // order and names
     found("uint8_t ledger, uint16_t account", "uint16_t account, uint8_t ledger", "moatbetony_pair_balance: parameter 2");
     found(
@@ -297,9 +311,19 @@ fn differences_in_the_header_are_found() {
         "PlainAnswer: field 1",
     );
     found("uint64_t flight;", "uint64_t floating;", "PlainPairFigures: field 4");
+    found(
+        "    uint64_t rate;\n    uint64_t charge_account;\n    uint64_t balances[56];",
+        "    uint64_t charge_account;\n    uint64_t rate;\n    uint64_t balances[56];",
+        "PlainBalances: field 3",
+    );
+    found(
+        "uint64_t rate, uint64_t charge_account, const",
+        "uint64_t charge_account, uint64_t rate, const",
+        "moatbetony_block_write: parameter 5",
+    );
     // pointers
     found("    uint8_t *out,", "    const uint8_t *out,", "moatbetony_block_write: parameter 1");
-    found("uint8_t kind, const uint8_t *items", "uint8_t kind, uint8_t *items", "moatbetony_block_write: parameter 5");
+    found("charge_account, const uint8_t *items", "charge_account, uint8_t *items", "moatbetony_block_write: parameter 7");
     found(
         "moatbetony_pair_take(moatbetony_pair_t *state",
         "moatbetony_pair_take(const moatbetony_pair_t *state",
@@ -339,6 +363,12 @@ fn differences_in_the_binding_are_found() {
     found("ledger: u8, account: u16", "account: u16, ledger: u8", "moatbetony_pair_balance: parameter 2");
     found("        far_accounts: usize,", "        far_accounts: u32,", "moatbetony_home_open: parameter 3");
     found("out: *mut u8", "out: *const u8", "moatbetony_block_write: parameter 1");
+    found(
+        "        far_total: u64,\n        rate: u64,\n        charge_account: u64,",
+        "        far_total: u64,\n        charge_account: u64,\n        rate: u64,",
+        "moatbetony_home_open: parameter 5",
+    );
+    found("        kind: u8,\n        rate: u64,", "        kind: u8,\n        rate: u16,", "moatbetony_block_write: parameter 5");
     found(
         "pub(crate) home_accounts: u64,\n    pub(crate) far_accounts: u64,",
         "pub(crate) far_accounts: u64,\n    pub(crate) home_accounts: u64,",
@@ -404,7 +434,9 @@ fn differences_in_the_exports_are_found() {
     found(HOME.core, "COUNT_WORD: usize = SUPPLY_WORD + 4", "COUNT_WORD: usize = SUPPLY_WORD + 3", "HomeValidator: field 7");
     found(HOME.core, "POOL_WORD: usize = SUPPLY_WORD + 1", "POOL_WORD: usize = SUPPLY_WORD + 2", "HomeValidator: field 4");
     found(HOME.core, "BALANCES_WORD: usize = 4 * ", "BALANCES_WORD: usize = 3 * ", "HomeValidator: field 2");
-    found(HOME.core, "WORDS: usize = SUPPLY_WORD + 5", "WORDS: usize = SUPPLY_WORD + 6", "moatbetony_home_take: parameter 1");
+    found(HOME.core, "RATE_WORD: usize = SUPPLY_WORD + 5", "RATE_WORD: usize = SUPPLY_WORD + 6", "HomeValidator: field 8");
+    found(PAIR.core, "ACCOUNT_WORD: usize = SUPPLY_WORD + 6", "ACCOUNT_WORD: usize = SUPPLY_WORD + 5", "PairValidator: field 7");
+    found(HOME.core, " WORDS: usize = SUPPLY_WORD + 7", " WORDS: usize = SUPPLY_WORD + 8", "moatbetony_home_take: parameter 1");
     found(LEDGERS, "CAPACITY: usize = 512", "CAPACITY: usize = 1730", "PairValidator: field 2");
-    found(LEDGERS, "ACCOUNTS: usize = 56", "ACCOUNTS: usize = 57", "PlainBalances: field 3");
+    found(LEDGERS, "ACCOUNTS: usize = 56", "ACCOUNTS: usize = 57", "PlainBalances: field 5");
 }
