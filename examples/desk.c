@@ -1,13 +1,14 @@
 /* A paying desk that sees the home ledger alone. It takes records one by one, hands goods over where a record passed and pays the desk,
-   says why not otherwise, keeps its state in a file and takes it up again, warns when the ledger has few places left, and closes when it
-   has none.
+   says why not otherwise, shows what a payment to the far ledger costs before it is made, keeps its state in a file and takes it up again,
+   warns when the ledger has few places left, and closes when it has none.
 
        cc desk.c $(pkg-config --cflags --libs moatbetony) -o desk && ./desk STATE_FILE
 
    The file has the layout's version in 4 bytes, the state, and the SHA-256 of both. What guards a stored state:
    - The digest finds damage, and a change by anyone who cannot write the digest too.
    - Refusal 3 says that a state's numbers fit together, and no more. It does not see two balances exchanged, a balance raised together
-     with the supply or at the far pool's cost, held records left out, so that they pass again, or an older state put back.
+     with the supply or at the far pool's cost, another rate or charge account, held records left out, so that they pass again, or an
+     older state put back.
    - Neither finds a forger who rewrites state and digest to fit, or who puts an older pair of them back. Keep the latest digest where
      nobody else can write it. */
 #define _POSIX_C_SOURCE 200809L
@@ -22,6 +23,7 @@
 enum { VERSION_SIZE = 4, STATE_SIZE = sizeof(moatbetony_home_t), SEALED_SIZE = VERSION_SIZE + STATE_SIZE };
 enum { FILE_SIZE = SEALED_SIZE + MOATBETONY_DIGEST_SIZE };
 enum { OURS = 1, PRICE = 30, FEW_PLACES = 50 }; /* the desk's account, what its goods cost, and below how many places it warns */
+enum { RATE = 50, CHARGE_ACCOUNT = 3 }; /* what home's network takes of a sending, in ten-thousandths, and its account */
 
 static void must(int holds, const char *what)
 {
@@ -115,10 +117,12 @@ static void print_refused(const char *label, moatbetony_answer_t answer)
 static void print_figures(const char *label, const moatbetony_home_t *state)
 {
     moatbetony_home_figures_t figures = moatbetony_home_figures(*state);
-    if (figures.answer.passed)
-        printf("%s: home %llu, far pool %llu\n", label, (unsigned long long)figures.home, (unsigned long long)figures.pool);
+    moatbetony_balance_t charges = moatbetony_home_balance(*state, CHARGE_ACCOUNT);
+    if (figures.answer.passed && charges.answer.passed)
+        printf("%s: home %llu, of it %llu on the charge account, far pool %llu\n", label, (unsigned long long)figures.home,
+            (unsigned long long)charges.balance, (unsigned long long)figures.pool);
     else
-        print_refused(label, figures.answer);
+        print_refused(label, figures.answer.passed ? charges.answer : figures.answer);
 }
 
 /* Whether a record that passed pays the desk the price. One account paying itself, or somebody else, passes too. */
@@ -210,6 +214,19 @@ static const uint8_t *payment(uint64_t number, uint64_t amount)
     return wire(MOATBETONY_LOCAL, MOATBETONY_HOME, 0, OURS, number, amount);
 }
 
+/* A payment of ours to far account 0. Before it is signed it shows what leaves our account, which is the amount and home's charge on it,
+   and the most that what we have allows. */
+static void pay_out(const char *path, moatbetony_home_t *state, const char *label, uint64_t number, uint64_t amount)
+{
+    moatbetony_balance_t ours = moatbetony_home_balance(*state, OURS);
+    uint64_t charge = moatbetony_charge(state->rate, amount);
+    must(ours.answer.passed, "no balance of ours");
+    printf("%s: costs %llu with its charge of %llu; we have %llu, for %llu at most\n", label, (unsigned long long)(amount + charge),
+        (unsigned long long)charge, (unsigned long long)ours.balance,
+        (unsigned long long)moatbetony_most_to_send(state->rate, ours.balance));
+    serve(path, state, label, wire(MOATBETONY_SENDING, MOATBETONY_HOME, OURS, 0, number, amount), 32, 1);
+}
+
 static void serve_customers(const char *path, moatbetony_home_t *state)
 {
     enum { LOCAL = MOATBETONY_LOCAL, SENDING = MOATBETONY_SENDING, ARRIVAL = MOATBETONY_ARRIVAL };
@@ -231,11 +248,12 @@ static void serve_customers(const char *path, moatbetony_home_t *state)
     serve(path, state, "a payment of the customer to itself", wire(LOCAL, HOME, 0, 0, 4, 30), 32, 1);
     serve(path, state, "a payment of our account to itself", wire(LOCAL, HOME, OURS, OURS, 5, 30), 32, 1);
     serve(path, state, "an arrival of 21, above the far pool of 20", wire(ARRIVAL, HOME, 0, OURS, 6, 21), 32, 1);
-    serve(path, state, "a sending of 30", wire(SENDING, HOME, OURS, 0, 7, 30), 32, 1);
+    pay_out(path, state, "a sending of 530", 7, 530);
+    pay_out(path, state, "a sending of 400", 7, 400);
     /* arrivals' numbers are counted apart: the number of a payment does not stop one, that of an arrival does */
-    serve(path, state, "an arrival of 50, now in the far pool, under the first payment's number", wire(ARRIVAL, HOME, 0, OURS, 1, 50),
+    serve(path, state, "an arrival of 420, now in the far pool, under the first payment's number", wire(ARRIVAL, HOME, 0, OURS, 1, 420),
         32, 1);
-    serve(path, state, "the same arrival again", wire(ARRIVAL, HOME, 0, OURS, 1, 50), 32, 1);
+    serve(path, state, "the same arrival again", wire(ARRIVAL, HOME, 0, OURS, 1, 420), 32, 1);
     serve(path, state, "a sending under that number", wire(SENDING, HOME, OURS, 0, 1, 30), 32, 1);
     serve(path, state, "an arrival of 1 more", wire(ARRIVAL, HOME, 0, OURS, 8, 1), 32, 1);
 
@@ -308,7 +326,7 @@ static void tamper(const char *path, const moatbetony_home_t *good, const char *
 int main(int argc, char **argv)
 {
     enum { YESTERDAYS = 1, FRESH = 11 };
-    static const uint64_t home_balances[] = {100, 50, 0};
+    static const uint64_t home_balances[] = {100, 500, 0, 0};
     static moatbetony_home_t state, busy;
     static uint8_t first_file[FILE_SIZE];
     moatbetony_home_outcome_t opened;
@@ -316,7 +334,7 @@ int main(int argc, char **argv)
     must(path != NULL, "usage: desk STATE_FILE");
     must(moatbetony_version() == MOATBETONY_VERSION, "library and header do not belong together");
 
-    opened = moatbetony_home_open(home_balances, 3, 1, 20);
+    opened = moatbetony_home_open(home_balances, 4, 1, 20, RATE, CHARGE_ACCOUNT);
     must(opened.answer.passed, "the opening was refused");
     state = opened.state;
     store(path, &state);

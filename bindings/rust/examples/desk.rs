@@ -1,17 +1,18 @@
 //! A paying desk that sees the home ledger alone. It takes records one by one, hands goods over where a record passed and pays the
-//! desk, says why not otherwise, keeps its state in a file and takes it up again, warns when the ledger has few places left, and closes
-//! when it has none.
+//! desk, says why not otherwise, shows what a payment to the far ledger costs before it is made, keeps its state in a file and takes it
+//! up again, warns when the ledger has few places left, and closes when it has none.
 //!
 //!     cargo run --example desk STATE_FILE
 //!
 //! The file has the layout's version in 4 bytes, the state, and the SHA-256 of both. What guards a stored state:
 //! - The digest finds damage, and a change by anyone who cannot write the digest too.
 //! - Refusal 3 says that a state's numbers fit together, and no more. It does not see two balances exchanged, a balance raised together
-//!   with the supply or at the far pool's cost, held records left out, so that they pass again, or an older state put back.
+//!   with the supply or at the far pool's cost, another rate or charge account, held records left out, so that they pass again, or an
+//!   older state put back.
 //! - Neither finds a forger who rewrites state and digest to fit, or who puts an older pair of them back. Keep the latest digest where
 //!   nobody else can write it.
 
-use moatbetony::{sha256, state_version, Answer, HomeValidator, Kind, Ledger, Record, Refusal, CAPACITY};
+use moatbetony::{sha256, state_version, Answer, HomeFigures, HomeValidator, Kind, Ledger, Record, Refusal, Tariff, CAPACITY};
 use std::error::Error;
 use std::fs::{self, File};
 use std::io::Write;
@@ -23,6 +24,10 @@ type Outcome<T> = Result<T, Box<dyn Error>>;
 const OURS: u16 = 1;
 const PRICE: u64 = 30;
 const FEW_PLACES: u64 = 50;
+
+// What home's network takes of a sending, in ten-thousandths, and its account.
+const RATE: u64 = 50;
+const CHARGE_ACCOUNT: u16 = 3;
 
 // Where a state's balances and its count of held records stand in its bytes (include/moatbetony.h). Only somebody who alters a state
 // needs to know.
@@ -36,7 +41,8 @@ struct Desk {
 
 impl Desk {
     fn open(path: &Path) -> Outcome<Desk> {
-        let desk = Desk { path: path.into(), validator: HomeValidator::open(&[100, 50, 0], 1, 20)? };
+        let tariff = Tariff { rate: RATE, charge_account: CHARGE_ACCOUNT.into() };
+        let desk = Desk { path: path.into(), validator: HomeValidator::open(&[100, 500, 0, 0], 1, 20, tariff)? };
         desk.store()?;
         Ok(desk)
     }
@@ -56,9 +62,11 @@ impl Desk {
     }
 
     fn print_figures(&self, label: &str) {
-        match self.validator.figures() {
-            Ok(figures) => println!("{label}: home {}, far pool {}", figures.home, figures.pool),
-            Err(refusal) => print_refused(label, refusal),
+        match (self.validator.figures(), self.validator.balance(CHARGE_ACCOUNT)) {
+            (Ok(HomeFigures { home, pool }), Ok(charges)) => {
+                println!("{label}: home {home}, of it {charges} on the charge account, far pool {pool}")
+            }
+            (Err(refusal), _) | (_, Err(refusal)) => print_refused(label, refusal),
         }
     }
 
@@ -131,6 +139,15 @@ impl Desk {
         Ok(())
     }
 
+    // A payment of ours to far account 0. Before it is signed it shows what leaves our account, which is the amount and home's charge on
+    // it, and the most that what we have allows.
+    fn pay_out(&mut self, label: &str, number: u64, amount: u64) -> Outcome<()> {
+        let (ours, tariff) = (self.validator.balance(OURS)?, self.validator.tariff()?);
+        let (charge, most) = (tariff.charge(amount), tariff.most_to_send(ours));
+        println!("{label}: costs {} with its charge of {charge}; we have {ours}, for {most} at most", amount + charge);
+        self.serve(label, &wire(Kind::Sending, Ledger::Home, OURS, 0, number, amount)?, true)
+    }
+
     fn serve_customers(&mut self) -> Outcome<()> {
         let home = |kind, sender, receiver, number, amount| wire(kind, Ledger::Home, sender, receiver, number, amount);
         self.serve("a payment of 30", &payment(1, 30)?, true)?;
@@ -148,10 +165,11 @@ impl Desk {
         self.serve("a payment of the customer to itself", &home(Kind::Local, 0, 0, 4, 30)?, true)?;
         self.serve("a payment of our account to itself", &home(Kind::Local, OURS, OURS, 5, 30)?, true)?;
         self.serve("an arrival of 21, above the far pool of 20", &home(Kind::Arrival, 0, OURS, 6, 21)?, true)?;
-        self.serve("a sending of 30", &home(Kind::Sending, OURS, 0, 7, 30)?, true)?;
+        self.pay_out("a sending of 530", 7, 530)?;
+        self.pay_out("a sending of 400", 7, 400)?;
         // Arrivals' numbers are counted apart: the number of a payment does not stop one, that of an arrival does.
-        let arrival = home(Kind::Arrival, 0, OURS, 1, 50)?;
-        self.serve("an arrival of 50, now in the far pool, under the first payment's number", &arrival, true)?;
+        let arrival = home(Kind::Arrival, 0, OURS, 1, 420)?;
+        self.serve("an arrival of 420, now in the far pool, under the first payment's number", &arrival, true)?;
         self.serve("the same arrival again", &arrival, true)?;
         self.serve("a sending under that number", &home(Kind::Sending, OURS, 0, 1, 30)?, true)?;
         self.serve("an arrival of 1 more", &home(Kind::Arrival, 0, OURS, 8, 1)?, true)?;
