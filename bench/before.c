@@ -8,6 +8,13 @@
 #include "moatbetony.h"
 #include "old_moatbetony.h"
 
+/* An opening of the earlier build without a charge: from 0.6.0 on it tells rate and charge account, before there is none. */
+#if OLD_MOATBETONY_VERSION < 600
+#define OLD_OPEN(open, ...) open(__VA_ARGS__)
+#else
+#define OLD_OPEN(open, ...) open(__VA_ARGS__, 0, 0)
+#endif
+
 #define HELD (MOATBETONY_CAPACITY - 1)
 #define RUNS 401
 enum { OLD_RECORD, RECORD, OLD_TAKE, TAKE, OLD_LIST, LIST, TAKE_LIST, ALL_PAIRS, TIMED };
@@ -152,8 +159,8 @@ static void home(const uint64_t *balances, int numbers)
     for (int i = 0; i < HELD; i++)
         record(list + 32 * i, !is_twice(numbers) ? 1 + (int)below(3) : i % 2 ? 3 : 1 + (int)below(2), 0, number(numbers, (uint64_t)i));
     record(last, 3, 0, number(numbers, HELD + 6));
-    empty = moatbetony_home_open(balances, 56, 56, (uint64_t)56 << 40).state;
-    old_empty = old_moatbetony_home_open(balances, 56, 56, (uint64_t)56 << 40).state;
+    empty = moatbetony_home_open(balances, 56, 56, (uint64_t)56 << 40, 0, 0).state;
+    old_empty = OLD_OPEN(old_moatbetony_home_open, balances, 56, 56, (uint64_t)56 << 40).state;
     full = moatbetony_home_check_list(empty, list, 32 * HELD).state;
     must(full.count == HELD);
     old_full = old_moatbetony_home_check_list(old_empty, list, 32 * HELD).state;
@@ -194,8 +201,8 @@ static void pair(const uint64_t *balances, int numbers)
         b[32] = b[0] == 2 ? 3 : 1, b[33] = 1 - b[1];
     }
     record(last, 1, 0, number(numbers, HELD + 6));
-    empty = moatbetony_pair_open(balances, 56, balances, 56).state;
-    old_empty = old_moatbetony_pair_open(balances, 56, balances, 56).state;
+    empty = moatbetony_pair_open(balances, 56, balances, 56, 0, 0).state;
+    old_empty = OLD_OPEN(old_moatbetony_pair_open, balances, 56, balances, 56).state;
     full = moatbetony_pair_check_list(empty, list, sizeof list).state;
     must(full.counts[0] == HELD && full.counts[1] == HELD);
     old_full = old_moatbetony_pair_check_list(old_empty, list, sizeof list).state;

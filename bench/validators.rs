@@ -48,6 +48,8 @@ pub struct Pair {
     supply: u64,
     accounts: [u64; 2],
     counts: [u64; 2],
+    rate: u64,
+    charge_account: u64,
 }
 
 #[repr(C)]
@@ -60,6 +62,8 @@ pub struct Home {
     home_accounts: u64,
     far_accounts: u64,
     count: u64,
+    rate: u64,
+    charge_account: u64,
 }
 
 #[repr(C)]
@@ -99,14 +103,14 @@ pub struct HomeFigures {
 // A slice is a pointer and a length. A returned struct is written where a pointer before the arguments says, as the calling convention
 // has it; where it is named here, the caller chooses the place.
 extern "C" {
-    fn moatbetony_pair_open(homes: *const u64, h: usize, fars: *const u64, f: usize) -> Outcome<Pair>;
+    fn moatbetony_pair_open(homes: *const u64, h: usize, fars: *const u64, f: usize, rate: u64, account: u64) -> Outcome<Pair>;
     fn moatbetony_pair_take(state: *mut Pair, bytes: *const u8, n: usize) -> Answer;
     fn moatbetony_pair_take_list(state: *mut Pair, bytes: *const u8, n: usize) -> Answer;
     fn moatbetony_pair_check_record(out: *mut Outcome<Pair>, state: Pair, bytes: *const u8, n: usize) -> *mut Outcome<Pair>;
     fn moatbetony_pair_check_list(out: *mut Outcome<Pair>, state: Pair, bytes: *const u8, n: usize) -> *mut Outcome<Pair>;
     fn moatbetony_pair_figures(state: Pair) -> PairFigures;
     fn bench_pair_echo(out: *mut Outcome<Pair>, state: Pair) -> *mut Outcome<Pair>;
-    fn moatbetony_home_open(balances: *const u64, h: usize, fars: usize, far_total: u64) -> Outcome<Home>;
+    fn moatbetony_home_open(balances: *const u64, h: usize, fars: usize, far_total: u64, rate: u64, account: u64) -> Outcome<Home>;
     fn moatbetony_home_take(state: *mut Home, bytes: *const u8, n: usize) -> Answer;
     fn moatbetony_home_take_list(state: *mut Home, bytes: *const u8, n: usize) -> Answer;
     fn moatbetony_home_check_record(out: *mut Outcome<Home>, state: Home, bytes: *const u8, n: usize) -> *mut Outcome<Home>;
@@ -137,7 +141,7 @@ impl Validator for Pair {
     const NAME: &'static str = "pair";
     fn open() -> Outcome<Pair> {
         let balances = [BALANCE; ACCOUNTS];
-        unsafe { moatbetony_pair_open(balances.as_ptr(), ACCOUNTS, balances.as_ptr(), ACCOUNTS) }
+        unsafe { moatbetony_pair_open(balances.as_ptr(), ACCOUNTS, balances.as_ptr(), ACCOUNTS, 0, 0) }
     }
     #[inline(always)]
     fn one(&self, out: &mut MaybeUninit<Outcome<Pair>>, bytes: &[u8]) {
@@ -199,7 +203,7 @@ impl Validator for Home {
     const NAME: &'static str = "home";
     fn open() -> Outcome<Home> {
         let balances = [BALANCE; ACCOUNTS];
-        unsafe { moatbetony_home_open(balances.as_ptr(), ACCOUNTS, ACCOUNTS, ACCOUNTS as u64 * BALANCE) }
+        unsafe { moatbetony_home_open(balances.as_ptr(), ACCOUNTS, ACCOUNTS, ACCOUNTS as u64 * BALANCE, 0, 0) }
     }
     #[inline(always)]
     fn one(&self, out: &mut MaybeUninit<Outcome<Home>>, bytes: &[u8]) {

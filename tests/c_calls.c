@@ -1,7 +1,8 @@
-/* Calls every export and helper of moatbetony.h with good and bad input: the cases of document 01 at this boundary, wrong lengths, NULL
-   with length 0, forged states, refused writes; the calls in place beside those by value. Arguments are chosen so that a wrong width or
-   order in the header shows. Records and blocks are made here by hand, and not by the calls under test. Bytes are lent where they end at a
-   page that nobody may touch, and results come back over what stood there before. The last line is 'N checks, 0 failed'. */
+/* Calls every export and helper of moatbetony.h with good and bad input: the cases of document 01 at this boundary, the charge of document
+   02 (U3), wrong lengths, NULL with length 0, forged states, refused writes; the calls in place beside those by value. Arguments are
+   chosen so that a wrong width or order in the header shows. Records and blocks are made here by hand, and not by the calls under test.
+   Bytes are lent where they end at a page that nobody may touch, and results come back over what stood there before. The last line is
+   'N checks, 0 failed'. */
 #ifndef _GNU_SOURCE
 #define _GNU_SOURCE
 #endif
@@ -41,6 +42,7 @@ static void check_answer(moatbetony_answer_t a, uint32_t number, uint64_t place,
 
 #define MAX MOATBETONY_MAX_SUPPLY
 #define WIDE (UINT64_C(1) << 32)
+#define NO_CHARGE 0, 0 /* as arguments: rate and charge account */
 
 /* ## Bytes by hand */
 
@@ -167,13 +169,13 @@ static const uint8_t *lent(const void *bytes, size_t length)
 
 static void versions(void)
 {
-    static const uint32_t known[] = {0, 1, 2, 3, 4, 11, 12, 13, 14, 21, 22, 23, 24, 25, 31, 32, 33, 41, 51};
+    static const uint32_t known[] = {0, 1, 2, 3, 4, 11, 12, 13, 14, 21, 22, 23, 24, 25, 31, 32, 33, 41, 51, 52};
     size_t i, j;
     CHECK(moatbetony_version() == MOATBETONY_VERSION);
-    CHECK(moatbetony_version() == 500);
-    CHECK(strcmp(MOATBETONY_VERSION_TEXT, "0.5.0") == 0);
+    CHECK(moatbetony_version() == 600);
+    CHECK(strcmp(MOATBETONY_VERSION_TEXT, "0.6.0") == 0);
     CHECK(moatbetony_state_version() == MOATBETONY_STATE_VERSION);
-    CHECK(moatbetony_state_version() == 2);
+    CHECK(moatbetony_state_version() == 3);
     for (i = 0; i < sizeof known / sizeof *known; i++) {
         CHECK(strcmp(moatbetony_refusal_text(known[i]), moatbetony_refusal_text(99)) != 0);
         for (j = 0; j < i; j++)
@@ -262,9 +264,22 @@ static void records(void)
 static const uint64_t HOMES[2] = {100, 50};
 static const uint64_t FARS[1] = {20};
 
+/* Rates and charge accounts beside two home accounts, with what an opening says of them: those within bounds, those that 52 is about, also
+   at rate 0, and those that look good once they are cut to 16 or to 32 bits. */
+static const struct tariff {
+    uint64_t rate, account;
+    uint32_t number;
+} TARIFFS[] = {
+    {0, 0, 0}, {0, 1, 0}, {1, 0, 0}, {258, 1, 0}, {9999, 0, 0}, {10000, 1, 0},
+    {10001, 0, 52}, {32768, 1, 52}, {65535, 1, 52}, {65536, 0, 52}, {65536 + 50, 1, 52}, {WIDE, 0, 52}, {WIDE + 50, 1, 52},
+    {UINT64_MAX, 0, 52}, {0, 2, 52}, {50, 2, 52}, {50, 3, 52}, {0, 56, 52}, {0, 256, 52}, {0, 257, 52}, {50, 65535, 52}, {0, 65536, 52},
+    {50, 65537, 52}, {0, WIDE, 52}, {50, WIDE + 1, 52}, {0, UINT64_MAX, 52}, {10001, 2, 52}, {UINT64_MAX, UINT64_MAX, 52},
+};
+enum { TARIFF_COUNT = sizeof TARIFFS / sizeof *TARIFFS };
+
 static moatbetony_pair_t pair_opened(void)
 {
-    moatbetony_pair_outcome_t o = moatbetony_pair_open(NUMBERS(HOMES, 2), NUMBERS(FARS, 1));
+    moatbetony_pair_outcome_t o = moatbetony_pair_open(NUMBERS(HOMES, 2), NUMBERS(FARS, 1), NO_CHARGE);
     ANSWER(o.answer, 0, 0);
     return o.state;
 }
@@ -322,7 +337,7 @@ static void pair_openings(void)
     for (i = 0; i < 57; i++)
         many[i] = 1000 + i;
 
-    o = moatbetony_pair_open(NUMBERS(many, 2), NUMBERS(many + 10, 3));
+    o = moatbetony_pair_open(NUMBERS(many, 2), NUMBERS(many + 10, 3), NO_CHARGE);
     ANSWER(o.answer, 0, 0);
     CHECK(o.state.supply == 1000 + 1001 + 1010 + 1011 + 1012);
     CHECK(o.state.accounts[0] == 2 && o.state.accounts[1] == 3 && o.state.counts[0] == 0 && o.state.counts[1] == 0);
@@ -331,12 +346,12 @@ static void pair_openings(void)
     CHECK(all_zero(o.state.records, sizeof o.state.records));
 
     /* Case 14, on both ledgers; nothing at all. */
-    ANSWER(moatbetony_pair_open(NUMBERS(many, 56), NUMBERS(many, 56)).answer, 0, 0);
-    ANSWER(moatbetony_pair_open(NUMBERS(many, 57), NUMBERS(many, 56)).answer, 1, 0);
-    ANSWER(moatbetony_pair_open(NUMBERS(many, 56), NUMBERS(many, 57)).answer, 1, 0);
-    ANSWER(moatbetony_pair_open(NULL, 0, NUMBERS(many, 1)).answer, 1, 0);
-    ANSWER(moatbetony_pair_open(NUMBERS(many, 1), NULL, 0).answer, 1, 0);
-    o = moatbetony_pair_open(NULL, 0, NULL, 0);
+    ANSWER(moatbetony_pair_open(NUMBERS(many, 56), NUMBERS(many, 56), NO_CHARGE).answer, 0, 0);
+    ANSWER(moatbetony_pair_open(NUMBERS(many, 57), NUMBERS(many, 56), NO_CHARGE).answer, 1, 0);
+    ANSWER(moatbetony_pair_open(NUMBERS(many, 56), NUMBERS(many, 57), NO_CHARGE).answer, 1, 0);
+    ANSWER(moatbetony_pair_open(NULL, 0, NUMBERS(many, 1), NO_CHARGE).answer, 1, 0);
+    ANSWER(moatbetony_pair_open(NUMBERS(many, 1), NULL, 0, NO_CHARGE).answer, 1, 0);
+    o = moatbetony_pair_open(NULL, 0, NULL, 0, NO_CHARGE);
     ANSWER(o.answer, 1, 0);
     CHECK(all_zero(&o.state, sizeof o.state));
     ANSWER(moatbetony_pair_figures(o.state).answer, 3, 0);
@@ -344,16 +359,16 @@ static void pair_openings(void)
     /* Case 12; sums that pass 64 bits; 1 before 2. */
     large[0] = MAX;
     large[1] = 0;
-    ANSWER(moatbetony_pair_open(NUMBERS(large, 1), NUMBERS(large + 1, 1)).answer, 0, 0);
-    ANSWER(moatbetony_pair_open(NUMBERS(large + 1, 1), NUMBERS(large, 1)).answer, 0, 0);
+    ANSWER(moatbetony_pair_open(NUMBERS(large, 1), NUMBERS(large + 1, 1), NO_CHARGE).answer, 0, 0);
+    ANSWER(moatbetony_pair_open(NUMBERS(large + 1, 1), NUMBERS(large, 1), NO_CHARGE).answer, 0, 0);
     large[1] = 1;
-    o = moatbetony_pair_open(NUMBERS(large, 1), NUMBERS(large + 1, 1));
+    o = moatbetony_pair_open(NUMBERS(large, 1), NUMBERS(large + 1, 1), NO_CHARGE);
     ANSWER(o.answer, 2, 0);
     CHECK(all_zero(&o.state, sizeof o.state));
     large[0] = UINT64_MAX;
-    ANSWER(moatbetony_pair_open(NUMBERS(large, 1), NUMBERS(large + 1, 1)).answer, 2, 0);
-    ANSWER(moatbetony_pair_open(NUMBERS(large + 1, 1), NUMBERS(large, 2)).answer, 2, 0);
-    ANSWER(moatbetony_pair_open(NUMBERS(large, 2), NULL, 0).answer, 1, 0);
+    ANSWER(moatbetony_pair_open(NUMBERS(large, 1), NUMBERS(large + 1, 1), NO_CHARGE).answer, 2, 0);
+    ANSWER(moatbetony_pair_open(NUMBERS(large + 1, 1), NUMBERS(large, 2), NO_CHARGE).answer, 2, 0);
+    ANSWER(moatbetony_pair_open(NUMBERS(large, 2), NULL, 0, NO_CHARGE).answer, 1, 0);
 }
 
 static void pair_cases(void)
@@ -441,16 +456,76 @@ static void pair_accounts(void)
     PAIR(s, arrival(0, 0, 1, 2, 1), 0);
 }
 
+static moatbetony_pair_t pair_charged(uint64_t rate, uint64_t account)
+{
+    moatbetony_pair_outcome_t o = moatbetony_pair_open(NUMBERS(HOMES, 2), NUMBERS(FARS, 1), rate, account);
+    ANSWER(o.answer, 0, 0);
+    return o.state;
+}
+
+/* A home sending needs amount and charge, takes both and pays the charge; all else costs its amount. At rate 500: 96 and 4 are 100. */
+static void pair_charges(void)
+{
+    moatbetony_pair_t s = pair_charged(500, 1), before;
+    bytes32 list[2];
+    PAIR(s, sending(0, 0, 0, 7, 97), 25);
+    PAIR(s, sending(0, 0, 0, 7, 100), 25);
+    PAIR(s, sending(0, 0, 0, 7, MAX), 25);
+    PAIR(s, sending(0, 0, 0, 7, 96), 0);
+    pair_balance_is(&s, 0, 0, 0, __LINE__);
+    pair_balance_is(&s, 0, 1, 54, __LINE__);
+    pair_figures_are(&s, 54, 20, 96, __LINE__);
+    CHECK(s.rate == 500 && s.charge_account == 1 && s.supply == 170 && s.records[0][0].amount == 96);
+    PAIR(s, arrival(1, 0, 0, 7, 100), 31);
+    PAIR(s, arrival(1, 0, 0, 7, 96), 0);
+    PAIR(s, sending(1, 0, 0, 8, 116), 0);
+    PAIR(s, arrival(0, 0, 0, 8, 116), 0);
+    PAIR(s, local(0, 0, 1, 9, 116), 0);
+    pair_balance_is(&s, 0, 1, 170, __LINE__);
+    PAIR(s, sending(0, 1, 0, 10, 163), 25); /* the charge account needs both: 163 and 8 */
+    PAIR(s, sending(0, 1, 0, 10, 162), 0);  /* and then gets the charge */
+    pair_balance_is(&s, 0, 1, 8, __LINE__);
+    pair_figures_are(&s, 8, 0, 162, __LINE__);
+
+    s = pair_charged(50, 1); /* rounded down */
+    PAIR(s, local(0, 1, 0, 1, 50), 0);
+    PAIR(s, sending(0, 0, 0, 2, 150), 0);
+    pair_figures_are(&s, 0, 20, 150, __LINE__);
+    s = pair_charged(10000, 1); /* as much again */
+    PAIR(s, sending(0, 0, 0, 7, 51), 25);
+    PAIR(s, sending(0, 0, 0, 7, 50), 0);
+    pair_balance_is(&s, 0, 1, 100, __LINE__);
+    s = pair_charged(10000, 0);
+    PAIR(s, sending(0, 0, 0, 7, 51), 25);
+    PAIR(s, sending(0, 0, 0, 7, 50), 0);
+    pair_balance_is(&s, 0, 0, 50, __LINE__);
+    s = pair_charged(0, 1);
+    PAIR(s, sending(0, 0, 0, 7, 100), 0);
+    pair_balance_is(&s, 0, 1, 50, __LINE__);
+
+    /* In a list the charge account can spend what the record before paid it, and no more. */
+    s = before = pair_charged(500, 1);
+    list[0] = sending(0, 0, 0, 7, 96);
+    list[1] = local(0, 1, 0, 8, 55);
+    ANSWER(moatbetony_pair_take_list(&s, BYTES(list, 64)), 25, 1);
+    SAME(s, before);
+    list[1] = local(0, 1, 0, 8, 54);
+    ANSWER(moatbetony_pair_take_list(&s, BYTES(list, 64)), 0, 0);
+    pair_balance_is(&s, 0, 0, 54, __LINE__);
+    pair_balance_is(&s, 0, 1, 0, __LINE__);
+}
+
 static void pair_fields(void)
 {
     static const uint64_t homes[3] = {1000, 2000, 3000}, fars[4] = {10, 20, 30, 40};
-    moatbetony_pair_t s = moatbetony_pair_open(NUMBERS(homes, 3), NUMBERS(fars, 4)).state;
+    moatbetony_pair_t s = moatbetony_pair_open(NUMBERS(homes, 3), NUMBERS(fars, 4), 100, 1).state;
     PAIR(s, local(0, 0, 1, 0x1122334455667788, 1), 0);
     PAIR(s, sending(0, 2, 3, UINT64_C(0xfedcba9876543210), 300), 0);
     PAIR(s, arrival(1, 2, 3, UINT64_C(0xfedcba9876543210), 300), 0);
     pair_left(&s, 510, 511, __LINE__);
     CHECK(s.counts[0] == 2 && s.counts[1] == 1 && s.accounts[0] == 3 && s.accounts[1] == 4 && s.supply == 6100);
-    CHECK(s.balances[0][0] == 999 && s.balances[0][1] == 2001 && s.balances[0][2] == 2700 && s.balances[1][3] == 340);
+    CHECK(s.rate == 100 && s.charge_account == 1);
+    CHECK(s.balances[0][0] == 999 && s.balances[0][1] == 2004 && s.balances[0][2] == 2697 && s.balances[1][3] == 340);
     CHECK(s.records[0][0].head == head(1, 0, 0, 1) && s.records[0][0].number == 0x1122334455667788);
     CHECK(s.records[0][0].amount == 1 && s.records[0][0].tail == tail(1));
     CHECK(s.records[0][1].head == head(2, 0, 2, 3) && s.records[0][1].number == UINT64_C(0xfedcba9876543210));
@@ -461,7 +536,7 @@ static void pair_fields(void)
     CHECK(all_zero(s.records[0] + 2, 510 * 32) && all_zero(s.records[1] + 1, 511 * 32));
     pair_figures_are(&s, 5700, 400, 0, __LINE__);
     pair_balance_is(&s, 1, 2, 30, __LINE__);
-    pair_balance_is(&s, 0, 2, 2700, __LINE__);
+    pair_balance_is(&s, 0, 2, 2697, __LINE__);
     ANSWER(moatbetony_pair_balance(s, 0, 3).answer, 22, 0);
     ANSWER(moatbetony_pair_balance(s, 1, 3).answer, 0, 0);
     ANSWER(moatbetony_pair_balance(s, 1, 4).answer, 22, 0);
@@ -652,6 +727,14 @@ static void pair_states(void)
     PAIR_FORGED(f.counts[1] = SIZE_MAX);
     PAIR_FORGED(f.counts[1] = 1);
     PAIR_FORGED(f.counts[0] = 3);
+    PAIR_FORGED(f.rate = 10001);
+    PAIR_FORGED(f.rate = 65536);
+    PAIR_FORGED(f.rate += WIDE);
+    PAIR_FORGED(f.rate = UINT64_MAX);
+    PAIR_FORGED(f.charge_account = 2);
+    PAIR_FORGED(f.charge_account = 65536);
+    PAIR_FORGED(f.charge_account += WIDE);
+    PAIR_FORGED(f.charge_account = UINT64_MAX);
     PAIR_FORGED(f.supply = MAX + 1);
     PAIR_FORGED(f.supply += 1);
     PAIR_FORGED(f.supply += WIDE);
@@ -719,7 +802,11 @@ static void pair_states(void)
     CHECK(odd.counts[1] == 3 && holds(odd.records[1][2], local(1, 0, 0, 10, 1)));
     CHECK(all_are(odd.records[0] + 3, 509 * 32, 0xaa) && all_are(odd.records[1] + 3, 509 * 32, 0xaa));
     pair_left(&odd, 509, 509, __LINE__);
-    /* A balance raised together with the supply; a held record left out, which passes again. */
+    /* Another rate and charge account; a balance raised together with the supply; a held record left out, which passes again. */
+    odd = good;
+    odd.rate = 10000;
+    odd.charge_account = 1;
+    pair_figures_are(&odd, 120, 48, 2, __LINE__);
     odd = good;
     odd.balances[0][0] += 5;
     odd.supply += 5;
@@ -757,7 +844,7 @@ static void pair_full(void)
 
 static moatbetony_home_t home_opened(void)
 {
-    moatbetony_home_outcome_t o = moatbetony_home_open(NUMBERS(HOMES, 2), 1, 20);
+    moatbetony_home_outcome_t o = moatbetony_home_open(NUMBERS(HOMES, 2), 1, 20, NO_CHARGE);
     ANSWER(o.answer, 0, 0);
     return o.state;
 }
@@ -813,30 +900,30 @@ static void home_openings(void)
     size_t i;
     for (i = 0; i < 57; i++)
         many[i] = 1000 + i;
-    o = moatbetony_home_open(NUMBERS(many, 2), 3, WIDE + 4);
+    o = moatbetony_home_open(NUMBERS(many, 2), 3, WIDE + 4, NO_CHARGE);
     ANSWER(o.answer, 0, 0);
     CHECK(o.state.supply == WIDE + 2005 && o.state.pool == WIDE + 4 && o.state.count == 0);
     CHECK(o.state.home_accounts == 2 && o.state.far_accounts == 3);
     CHECK(o.state.balances[0] == 1000 && o.state.balances[1] == 1001 && all_zero(o.state.balances + 2, 54 * 8));
     CHECK(all_zero(o.state.records, sizeof o.state.records));
 
-    ANSWER(moatbetony_home_open(NUMBERS(many, 56), 56, 0).answer, 0, 0);
-    ANSWER(moatbetony_home_open(NUMBERS(many, 57), 56, 0).answer, 1, 0);
-    ANSWER(moatbetony_home_open(NUMBERS(many, 56), 57, 0).answer, 1, 0);
-    ANSWER(moatbetony_home_open(NUMBERS(many, 56), 0, 0).answer, 1, 0);
-    ANSWER(moatbetony_home_open(NUMBERS(many, 56), WIDE + 1, 0).answer, 1, 0);
-    ANSWER(moatbetony_home_open(NUMBERS(many, 56), SIZE_MAX, UINT64_MAX).answer, 1, 0);
-    o = moatbetony_home_open(NULL, 0, 1, 20);
+    ANSWER(moatbetony_home_open(NUMBERS(many, 56), 56, 0, NO_CHARGE).answer, 0, 0);
+    ANSWER(moatbetony_home_open(NUMBERS(many, 57), 56, 0, NO_CHARGE).answer, 1, 0);
+    ANSWER(moatbetony_home_open(NUMBERS(many, 56), 57, 0, NO_CHARGE).answer, 1, 0);
+    ANSWER(moatbetony_home_open(NUMBERS(many, 56), 0, 0, NO_CHARGE).answer, 1, 0);
+    ANSWER(moatbetony_home_open(NUMBERS(many, 56), WIDE + 1, 0, NO_CHARGE).answer, 1, 0);
+    ANSWER(moatbetony_home_open(NUMBERS(many, 56), SIZE_MAX, UINT64_MAX, NO_CHARGE).answer, 1, 0);
+    o = moatbetony_home_open(NULL, 0, 1, 20, NO_CHARGE);
     ANSWER(o.answer, 1, 0);
     CHECK(all_zero(&o.state, sizeof o.state));
-    ANSWER(moatbetony_home_open(NUMBERS(&zero, 1), 1, MAX).answer, 0, 0);
-    o = moatbetony_home_open(NUMBERS(&zero, 1), 1, MAX + 1);
+    ANSWER(moatbetony_home_open(NUMBERS(&zero, 1), 1, MAX, NO_CHARGE).answer, 0, 0);
+    o = moatbetony_home_open(NUMBERS(&zero, 1), 1, MAX + 1, NO_CHARGE);
     ANSWER(o.answer, 2, 0);
     CHECK(all_zero(&o.state, sizeof o.state));
     ANSWER(moatbetony_home_figures(o.state).answer, 3, 0);
     zero = 1;
-    ANSWER(moatbetony_home_open(NUMBERS(&zero, 1), 1, MAX).answer, 2, 0);
-    ANSWER(moatbetony_home_open(NUMBERS(&zero, 1), 1, UINT64_MAX).answer, 2, 0);
+    ANSWER(moatbetony_home_open(NUMBERS(&zero, 1), 1, MAX, NO_CHARGE).answer, 2, 0);
+    ANSWER(moatbetony_home_open(NUMBERS(&zero, 1), 1, UINT64_MAX, NO_CHARGE).answer, 2, 0);
 }
 
 static void home_cases(void)
@@ -900,7 +987,7 @@ static void home_accounts(void)
     HOME(s, arrival(0, 0, 1, 2, 1), 0);
     HOME(s, arrival(0, 0, 2, 2, 1), 51); /* before 24 */
 
-    s = moatbetony_home_open(NUMBERS(homes, 2), 4, 20).state;
+    s = moatbetony_home_open(NUMBERS(homes, 2), 4, 20, NO_CHARGE).state;
     HOME(s, sending(0, 0, 4, 1, 1), 51);
     HOME(s, sending(0, 2, 3, 1, 1), 22);
     HOME(s, sending(0, 0, 3, 1, 1), 0);
@@ -909,14 +996,58 @@ static void home_accounts(void)
     HOME(s, arrival(0, 3, 1, 2, 1), 0);
 }
 
+static moatbetony_home_t home_charged(uint64_t rate, uint64_t account)
+{
+    moatbetony_home_outcome_t o = moatbetony_home_open(NUMBERS(HOMES, 2), 1, 20, rate, account);
+    ANSWER(o.answer, 0, 0);
+    return o.state;
+}
+
+/* As pair_charges; the far pool leaves the charge out. */
+static void home_charges(void)
+{
+    moatbetony_home_t s = home_charged(500, 1), before;
+    bytes32 list[2];
+    HOME(s, sending(0, 0, 0, 7, 97), 25);
+    HOME(s, sending(0, 0, 0, 7, MAX), 25);
+    HOME(s, sending(0, 0, 0, 7, 96), 0);
+    home_balance_is(&s, 0, 0, __LINE__);
+    home_balance_is(&s, 1, 54, __LINE__);
+    home_figures_are(&s, 54, 116, __LINE__);
+    CHECK(s.rate == 500 && s.charge_account == 1 && s.supply == 170 && s.records[0].amount == 96);
+    HOME(s, arrival(0, 0, 0, 8, 117), 32);
+    HOME(s, arrival(0, 0, 0, 8, 116), 0);
+    HOME(s, local(0, 0, 1, 9, 116), 0);
+    home_balance_is(&s, 1, 170, __LINE__);
+    HOME(s, sending(0, 1, 0, 10, 163), 25);
+    HOME(s, sending(0, 1, 0, 10, 162), 0);
+    home_balance_is(&s, 1, 8, __LINE__);
+    home_figures_are(&s, 8, 162, __LINE__);
+    s = home_charged(10000, 0);
+    HOME(s, sending(0, 0, 0, 7, 51), 25);
+    HOME(s, sending(0, 0, 0, 7, 50), 0);
+    home_balance_is(&s, 0, 50, __LINE__);
+
+    s = before = home_charged(500, 1);
+    list[0] = sending(0, 0, 0, 7, 96);
+    list[1] = local(0, 1, 0, 8, 55);
+    ANSWER(moatbetony_home_take_list(&s, BYTES(list, 64)), 25, 1);
+    SAME(s, before);
+    list[1] = local(0, 1, 0, 8, 54);
+    ANSWER(moatbetony_home_take_list(&s, BYTES(list, 64)), 0, 0);
+    home_balance_is(&s, 0, 54, __LINE__);
+    home_balance_is(&s, 1, 0, __LINE__);
+}
+
 static void home_fields(void)
 {
     static const uint64_t homes[3] = {1000, 2000, 3000};
-    moatbetony_home_t s = moatbetony_home_open(NUMBERS(homes, 3), 5, 400).state;
+    moatbetony_home_t s = moatbetony_home_open(NUMBERS(homes, 3), 5, 400, 100, 1).state;
     HOME(s, sending(0, 2, 4, 0x1122334455667788, 300), 0);
     HOME(s, arrival(0, 3, 1, UINT64_C(0xfedcba9876543210), 7), 0);
     CHECK(s.supply == 6400 && s.pool == 693 && s.home_accounts == 3 && s.far_accounts == 5 && s.count == 2);
-    CHECK(s.balances[0] == 1000 && s.balances[1] == 2007 && s.balances[2] == 2700);
+    CHECK(s.rate == 100 && s.charge_account == 1);
+    CHECK(s.balances[0] == 1000 && s.balances[1] == 2010 && s.balances[2] == 2697);
     CHECK(s.records[0].head == head(2, 0, 2, 4) && s.records[0].number == 0x1122334455667788);
     CHECK(s.records[0].amount == 300 && s.records[0].tail == tail(1));
     CHECK(s.records[1].head == head(3, 0, 3, 1) && s.records[1].number == UINT64_C(0xfedcba9876543210));
@@ -924,7 +1055,7 @@ static void home_fields(void)
     CHECK(holds(s.records[0], sending(0, 2, 4, 0x1122334455667788, 300)));
     CHECK(all_zero(s.records + 2, 510 * 32));
     home_figures_are(&s, 5707, 693, __LINE__);
-    home_balance_is(&s, 2, 2700, __LINE__);
+    home_balance_is(&s, 2, 2697, __LINE__);
     ANSWER(moatbetony_home_balance(s, 3).answer, 22, 0);
     ANSWER(moatbetony_home_balance(s, 256).answer, 22, 0);
     ANSWER(moatbetony_home_balance(s, 65535).answer, 22, 0);
@@ -1080,6 +1211,14 @@ static void home_states(void)
     HOME_FORGED(f.count += WIDE);
     HOME_FORGED(f.count = SIZE_MAX);
     HOME_FORGED(f.count = 3);
+    HOME_FORGED(f.rate = 10001);
+    HOME_FORGED(f.rate = 65536);
+    HOME_FORGED(f.rate += WIDE);
+    HOME_FORGED(f.rate = UINT64_MAX);
+    HOME_FORGED(f.charge_account = 2);
+    HOME_FORGED(f.charge_account = 65536);
+    HOME_FORGED(f.charge_account += WIDE);
+    HOME_FORGED(f.charge_account = UINT64_MAX);
     HOME_FORGED(f.supply = MAX + 1);
     HOME_FORGED(f.supply += 1);
     HOME_FORGED(f.supply += WIDE);
@@ -1133,6 +1272,10 @@ static void home_states(void)
     CHECK(odd.count == 3 && holds(odd.records[2], local(0, 0, 1, 10, 1)) && all_are(odd.records + 3, 509 * 32, 0xaa));
     home_left(&odd, 509, __LINE__);
     odd = good;
+    odd.rate = 10000;
+    odd.charge_account = 1;
+    home_figures_are(&odd, 125, 45, __LINE__);
+    odd = good;
     odd.balances[0] += 5;
     odd.supply += 5;
     home_figures_are(&odd, 130, 45, __LINE__);
@@ -1162,6 +1305,97 @@ static void home_full(void)
     HOME(s, local(0, 0, 0, 1511, 1), 24);
     HOME(s, arrival(0, 0, 0, 2000, 21), 32);
     home_figures_are(&s, 150, 20, __LINE__);
+}
+
+/* ## Rate and charge account, in both validators */
+
+/* 52 of openings, after 1 and 2. Far has more accounts than home, which do not help. */
+static void tariffs(void)
+{
+    static const uint64_t fars[4] = {5, 6, 7, 8}, large[2] = {MAX, 0};
+    uint64_t many[57];
+    int i;
+    for (i = 0; i < TARIFF_COUNT; i++) {
+        uint64_t rate = TARIFFS[i].rate, account = TARIFFS[i].account;
+        moatbetony_pair_outcome_t pair = moatbetony_pair_open(NUMBERS(HOMES, 2), NUMBERS(fars, 4), rate, account);
+        moatbetony_home_outcome_t home = moatbetony_home_open(NUMBERS(HOMES, 2), 4, 26, rate, account);
+        ANSWER(pair.answer, TARIFFS[i].number, 0);
+        ANSWER(home.answer, TARIFFS[i].number, 0);
+        if (TARIFFS[i].number == 0) {
+            CHECK(pair.state.rate == rate && pair.state.charge_account == account && pair.state.supply == 176);
+            CHECK(home.state.rate == rate && home.state.charge_account == account && home.state.supply == 176);
+        } else {
+            CHECK(all_zero(&pair.state, sizeof pair.state) && all_zero(&home.state, sizeof home.state));
+        }
+        ANSWER(moatbetony_pair_open(NULL, 0, NUMBERS(fars, 4), rate, account).answer, 1, 0);
+        ANSWER(moatbetony_pair_open(NUMBERS(HOMES, 2), NULL, 0, rate, account).answer, 1, 0);
+        ANSWER(moatbetony_pair_open(NUMBERS(large, 2), NUMBERS(fars, 1), rate, account).answer, 2, 0);
+        ANSWER(moatbetony_home_open(NULL, 0, 4, 26, rate, account).answer, 1, 0);
+        ANSWER(moatbetony_home_open(NUMBERS(HOMES, 2), 57, 26, rate, account).answer, 1, 0);
+        ANSWER(moatbetony_home_open(NUMBERS(large, 2), 4, 1, rate, account).answer, 2, 0);
+    }
+    memset(many, 0, sizeof many);
+    ANSWER(moatbetony_pair_open(NUMBERS(many, 56), NUMBERS(many, 56), 10000, 55).answer, 0, 0);
+    ANSWER(moatbetony_pair_open(NUMBERS(many, 56), NUMBERS(many, 56), 10000, 56).answer, 52, 0);
+    ANSWER(moatbetony_home_open(NUMBERS(many, 56), 56, 0, 10000, 55).answer, 0, 0);
+    ANSWER(moatbetony_home_open(NUMBERS(many, 55), 56, 0, 10000, 55).answer, 52, 0);
+}
+
+/* What is sent at most from a balance of account 0, with account 1 paid: by the helpers, and by both validators. */
+static void most_sent(uint64_t rate, uint64_t balance, uint64_t most, uint64_t charge, int line)
+{
+    uint64_t homes[2] = {0, 0};
+    moatbetony_pair_t pair;
+    moatbetony_home_t home;
+    homes[0] = balance;
+    check(moatbetony_most_to_send(rate, balance) == most, "the most to send", line);
+    check(moatbetony_charge(rate, most) == charge, "the charge", line);
+    check(most + charge <= balance && most + 1 + moatbetony_charge(rate, most + 1) > balance, "and no more", line);
+    pair = moatbetony_pair_open(NUMBERS(homes, 2), NUMBERS(homes + 1, 1), rate, 1).state;
+    home = moatbetony_home_open(NUMBERS(homes, 2), 1, 0, rate, 1).state;
+    pair_one(&pair, sending(0, 0, 0, 1, most + 1), most == MAX ? 21 : 25, line);
+    home_one(&home, sending(0, 0, 0, 1, most + 1), most == MAX ? 21 : 25, line);
+    if (most == 0)
+        return;
+    pair_one(&pair, sending(0, 0, 0, 1, most), 0, line);
+    home_one(&home, sending(0, 0, 0, 1, most), 0, line);
+    pair_balance_is(&pair, 0, 0, balance - most - charge, line);
+    pair_balance_is(&pair, 0, 1, charge, line);
+    pair_figures_are(&pair, balance - most, 0, most, line);
+    home_balance_is(&home, 0, balance - most - charge, line);
+    home_balance_is(&home, 1, charge, line);
+    home_figures_are(&home, balance - most, most, line);
+}
+
+#define MOST(rate, balance, most, charge) most_sent(rate, balance, most, charge, __LINE__)
+
+static void exact_charges(void)
+{
+    MOST(0, 0, 0, 0);
+    MOST(0, 100, 100, 0);
+    MOST(0, MAX, MAX, 0);
+    MOST(1, 9999, 9999, 0);
+    MOST(1, 10000, 9999, 0);
+    MOST(1, 10001, 10000, 1);
+    MOST(50, 1, 1, 0);
+    MOST(50, 199, 199, 0);
+    MOST(50, 200, 199, 0);
+    MOST(50, 201, 200, 1);
+    MOST(50, 531, 529, 2);
+    MOST(9999, 1, 1, 0);
+    MOST(9999, 3, 2, 1);
+    MOST(10000, 0, 0, 0);
+    MOST(10000, 1, 0, 0);
+    MOST(10000, 7, 3, 3);
+    /* amount times rate goes beyond 64 bits, but for the first */
+    MOST(1, MAX, UINT64_C(9222449791875588249), UINT64_C(922244979187558));
+    MOST(50, MAX, UINT64_C(9177484613785846575), UINT64_C(45887423068929232));
+    MOST(9999, MAX, UINT64_C(4611916614258100809), UINT64_C(4611455422596674998));
+    MOST(10000, MAX, UINT64_C(4611686018427387903), UINT64_C(4611686018427387903));
+    CHECK(moatbetony_charge(10000, UINT64_MAX) == UINT64_MAX);
+    CHECK(moatbetony_charge(9999, UINT64_MAX) == UINT64_C(18444899399302180659));
+    CHECK(moatbetony_most_to_send(0, UINT64_MAX) == UINT64_MAX);
+    CHECK(moatbetony_most_to_send(10000, UINT64_MAX) == UINT64_MAX / 2);
 }
 
 /* ## The journal */
@@ -1198,7 +1432,7 @@ static void refused_block(const uint8_t *block, size_t length, uint64_t k, uint6
     check_answer(c.answer, number, k, line);
     check(c.count == 0, "no count", line);
     check_answer(b.answer, number, k, line);
-    check(b.count == 0 && all_zero(b.balances, sizeof b.balances), "no balances", line);
+    check(b.count == 0 && b.rate == 0 && b.charge_account == 0 && all_zero(b.balances, sizeof b.balances), "no balances", line);
 }
 
 #define REFUSED(length, k, before, number) refused_block(BYTES(block, length), k, before, number, __LINE__)
@@ -1213,23 +1447,118 @@ static void balances_blocks(void)
         uint8_t kind = (uint8_t)(k + 1);
         moatbetony_balances_t b;
         block_by_hand(by_hand, k, kind, 3, items, 24);
+        if (k == 0) {
+            put(by_hand + 6, 2, 0x0102);
+            put(by_hand + 8, 2, 2);
+            sealed(by_hand);
+        }
         memset(block, 0xee, 512);
-        ANSWER(moatbetony_block_write(block, 512, k, kind, BYTES(items, 24)), 0, 0);
+        ANSWER(moatbetony_block_write(block, 512, k, kind, 0x0102, 2, BYTES(items, 24)), 0, 0);
         CHECK(memcmp(block, by_hand, 512) == 0);
         ANSWER(moatbetony_block_judge(block, 512, k, UINT64_MAX), 0, 0);
         CHECK(moatbetony_block_count(block, 512, k, 0).count == 3);
         b = moatbetony_block_balances(block, 512, k, 0);
         ANSWER(b.answer, 0, 0);
         CHECK(b.count == 3 && b.balances[0] == UINT64_C(0x0102030405060700) && b.balances[2] == UINT64_C(0x0102030405060702));
+        CHECK(b.rate == (k == 0 ? 0x0102 : 0) && b.charge_account == (k == 0 ? 2 : 0));
         CHECK(all_zero(b.balances + 3, 53 * 8));
         ANSWER(moatbetony_block_judge_record(block, 512, k, 0, 0), 4, k);
         ANSWER(moatbetony_block_record(block, 512, k, 0, 0).answer, 4, k);
         REFUSED(512, k + 1, 14, 13);
         REFUSED(512, k + WIDE, 14, 11);
-        ANSWER(moatbetony_block_write(block, 512, k, kind, BYTES(items, 56 * 8)), 0, 0);
+        ANSWER(moatbetony_block_write(block, 512, k, kind, 10000, 55, BYTES(items, 56 * 8)), 0, 0);
         b = moatbetony_block_balances(block, 512, k, 0);
         CHECK(b.count == 56 && b.balances[55] == UINT64_C(0x0102030405060700) + 55);
+        CHECK(b.rate == (k == 0 ? 10000 : 0) && b.charge_account == (k == 0 ? 55 : 0));
     }
+}
+
+/* Block 0 by hand, with two balances. */
+static void block_0_by_hand(uint8_t *block, uint64_t rate, uint64_t account)
+{
+    uint8_t items[16];
+    memset(items, 0x11, sizeof items);
+    block_by_hand(block, 0, 1, 2, items, sizeof items);
+    put(block + 6, 2, rate);
+    put(block + 8, 2, account);
+    sealed(block);
+}
+
+/* Rate and charge account in block 0: 52 after 11 to 14 and before 4, and of no other block. */
+static void tariff_blocks(void)
+{
+    uint8_t *block = guarded(512);
+    int i, k;
+    for (i = 0; i < TARIFF_COUNT; i++) {
+        uint64_t rate = TARIFFS[i].rate, account = TARIFFS[i].account;
+        moatbetony_balances_t b;
+        if (rate > 0xffff || account > 0xffff)
+            continue;
+        block_0_by_hand(block, rate, account);
+        if (TARIFFS[i].number != 0) {
+            REFUSED(512, 0, 0, 52);
+            continue;
+        }
+        b = moatbetony_block_balances(block, 512, 0, UINT64_MAX);
+        ANSWER(b.answer, 0, 0);
+        CHECK(b.count == 2 && b.rate == rate && b.charge_account == account && b.balances[1] == UINT64_C(0x1111111111111111));
+        ANSWER(moatbetony_block_judge(block, 512, 0, UINT64_MAX), 0, 0);
+        CHECK(moatbetony_block_count(block, 512, 0, 0).count == 2);
+        ANSWER(moatbetony_block_judge_record(block, 512, 0, 0, 0), 4, 0);
+        ANSWER(moatbetony_block_record(block, 512, 0, 0, 0).answer, 4, 0);
+    }
+
+    block_0_by_hand(block, 10001, 2);
+    ANSWER(moatbetony_block_judge_record(block, 512, 0, 0, UINT64_MAX), 52, 0);
+    REFUSED(511, 0, 0, 11);
+    REFUSED(512, 1, 0, 13);
+    block[9] ^= 1;
+    REFUSED(512, 0, 0, 12);
+    for (i = 10; i < 32; i++) {
+        block_0_by_hand(block, 10001, 2);
+        block[i] = 1;
+        sealed(block);
+        REFUSED(512, 0, 0, 14);
+    }
+    for (k = 1; k < 3; k++)
+        for (i = 6; i < 32; i++) {
+            uint8_t items[32] = {0};
+            block_by_hand(block, (uint64_t)k, k + 1, k == 1 ? 4 : 1, items, 32);
+            ANSWER(moatbetony_block_judge(block, 512, (uint64_t)k, 0), 0, 0);
+            block[i] = 1;
+            sealed(block);
+            REFUSED(512, (uint64_t)k, 0, 14);
+        }
+}
+
+/* The writer looks at them for block 0 alone, and answers 4 where 52 would refuse the block. */
+static void tariff_writes(void)
+{
+    uint8_t items[32], by_hand[512], before[512], *out = guarded(512);
+    int i, k;
+    memset(items, 0x11, sizeof items);
+    memset(before, 0xee, sizeof before);
+    for (i = 0; i < TARIFF_COUNT; i++) {
+        uint64_t rate = TARIFFS[i].rate, account = TARIFFS[i].account;
+        uint32_t number = TARIFFS[i].number == 0 ? 0 : 4;
+        memset(out, 0xee, 512);
+        ANSWER(moatbetony_block_write(out, 512, 0, 1, rate, account, BYTES(items, 16)), number, 0);
+        block_0_by_hand(by_hand, rate, account);
+        CHECK(memcmp(out, number == 0 ? by_hand : before, 512) == 0);
+        for (k = 1; k < 3; k++) {
+            memset(out, 0xee, 512);
+            ANSWER(moatbetony_block_write(out, 512, (uint64_t)k, (uint8_t)(k + 1), rate, account, BYTES(items, 32)), 0, 0);
+            block_by_hand(by_hand, (uint64_t)k, k + 1, k == 1 ? 4 : 1, items, 32);
+            CHECK(memcmp(out, by_hand, 512) == 0);
+        }
+        memset(out, 0xee, 512);
+        ANSWER(moatbetony_block_write(out, 512, WIDE, 1, rate, account, BYTES(items, 16)), 4, WIDE);
+        ANSWER(moatbetony_block_write(out, 512, 0, 2, rate, account, BYTES(items, 16)), 4, 0);
+        CHECK(memcmp(out, before, 512) == 0);
+    }
+    /* Open is what is written beside it. */
+    ANSWER(moatbetony_block_write(out, 512, 0, 1, 50, 1, BYTES(items, 8)), 4, 0);
+    ANSWER(moatbetony_block_write(out, 512, 0, 1, 50, 2, BYTES(items, 24)), 0, 0);
 }
 
 static void record_blocks(void)
@@ -1240,7 +1569,7 @@ static void record_blocks(void)
     for (i = 0; i < sizeof items; i++)
         items[i] = (uint8_t)(i * 7 + 1);
     block_by_hand(by_hand, 0x0102, 3, 14, items, sizeof items);
-    ANSWER(moatbetony_block_write(block, 512, 0x0102, 3, BYTES(items, sizeof items)), 0, 0);
+    ANSWER(moatbetony_block_write(block, 512, 0x0102, 3, NO_CHARGE, BYTES(items, sizeof items)), 0, 0);
     CHECK(memcmp(block, by_hand, 512) == 0);
     for (i = 0; i < 14; i++) {
         ANSWER(moatbetony_block_judge_record(block, 512, 0x0102, 14, i), 0, 0);
@@ -1306,10 +1635,10 @@ static void record_blocks(void)
     sealed(block);
     REFUSED(512, 0x0102, 14, 14);
     REFUSED(512, 0x0103, 14, 13);
-    ANSWER(moatbetony_block_write(block, 512, 2, 3, BYTES(items, 32)), 0, 0);
+    ANSWER(moatbetony_block_write(block, 512, 2, 3, NO_CHARGE, BYTES(items, 32)), 0, 0);
     ANSWER(moatbetony_block_judge(block, 512, 2, 0), 0, 0);
     ANSWER(moatbetony_block_record(block, 512, 2, 0, 1).answer, 4, 2);
-    ANSWER(moatbetony_block_write(block, 512, 65535, 3, BYTES(items, 64)), 0, 0);
+    ANSWER(moatbetony_block_write(block, 512, 65535, 3, NO_CHARGE, BYTES(items, 64)), 0, 0);
     CHECK(moatbetony_block_count(block, 512, 65535, 14).count == 2);
 }
 
@@ -1320,7 +1649,7 @@ static void unwritten(size_t out_length, uint64_t k, int kind, size_t items_leng
     memset(out, 0xee, out_length);
     memset(before, 0xee, sizeof before);
     memset(items, 0x11, sizeof items);
-    check_answer(moatbetony_block_write(out, out_length, k, (uint8_t)kind, BYTES(items, items_length)), 4, k, line);
+    check_answer(moatbetony_block_write(out, out_length, k, (uint8_t)kind, NO_CHARGE, BYTES(items, items_length)), 4, k, line);
     check(memcmp(out, before, out_length) == 0, "output as it came", line);
 }
 
@@ -1349,10 +1678,10 @@ static void refused_writes(void)
     unwritten(512, 2, 3, 15 * 32, __LINE__);
     unwritten(512, 0, 1, 57 * 8, __LINE__);
     unwritten(512, 0, 1, 7, __LINE__);
-    ANSWER(moatbetony_block_write(out, 512, 2, 3, NULL, 0), 4, 2);
+    ANSWER(moatbetony_block_write(out, 512, 2, 3, NO_CHARGE, NULL, 0), 4, 2);
     CHECK(memcmp(out, before, 512) == 0);
-    ANSWER(moatbetony_block_write(NULL, 0, 2, 3, BYTES(items, 32)), 4, 2);
-    ANSWER(moatbetony_block_write(NULL, 0, 7, 3, NULL, 0), 4, 7);
+    ANSWER(moatbetony_block_write(NULL, 0, 2, 3, NO_CHARGE, BYTES(items, 32)), 4, 2);
+    ANSWER(moatbetony_block_write(NULL, 0, 7, 3, NO_CHARGE, NULL, 0), 4, 7);
 }
 
 /* ## Results in a slot where something else stood */
@@ -1365,13 +1694,13 @@ typedef void (*any_call)(void);
 #define INTO(call, type, ...) \
     static type *(*volatile into_##call)(type *, __VA_ARGS__) = (type * (*)(type *, __VA_ARGS__))(any_call)moatbetony_##call
 
-INTO(pair_open, moatbetony_pair_outcome_t, const uint64_t *, size_t, const uint64_t *, size_t);
+INTO(pair_open, moatbetony_pair_outcome_t, const uint64_t *, size_t, const uint64_t *, size_t, uint64_t, uint64_t);
 INTO(pair_check_record, moatbetony_pair_outcome_t, moatbetony_pair_t, const uint8_t *, size_t);
 INTO(pair_check_list, moatbetony_pair_outcome_t, moatbetony_pair_t, const uint8_t *, size_t);
 INTO(pair_figures, moatbetony_pair_figures_t, moatbetony_pair_t);
 INTO(pair_balance, moatbetony_balance_t, moatbetony_pair_t, uint8_t, uint16_t);
 INTO(pair_places_left, moatbetony_pair_places_t, moatbetony_pair_t);
-INTO(home_open, moatbetony_home_outcome_t, const uint64_t *, size_t, size_t, uint64_t);
+INTO(home_open, moatbetony_home_outcome_t, const uint64_t *, size_t, size_t, uint64_t, uint64_t, uint64_t);
 INTO(home_check_record, moatbetony_home_outcome_t, moatbetony_home_t, const uint8_t *, size_t);
 INTO(home_check_list, moatbetony_home_outcome_t, moatbetony_home_t, const uint8_t *, size_t);
 INTO(home_figures, moatbetony_home_figures_t, moatbetony_home_t);
@@ -1400,8 +1729,9 @@ static void pair_slots(void)
     moatbetony_pair_t good = pair_opened(), forged = good;
     bytes32 passes = local(0, 0, 1, 1, 1), refused = local(0, 0, 1, 1, 101);
     forged.supply++;
-    SLOT(pair_open, moatbetony_pair_outcome_t, 0, 0, HOMES, 2, FARS, 1);
-    SLOT(pair_open, moatbetony_pair_outcome_t, 1, 0, HOMES, 0, FARS, 1);
+    SLOT(pair_open, moatbetony_pair_outcome_t, 0, 0, HOMES, 2, FARS, 1, 50, 1);
+    SLOT(pair_open, moatbetony_pair_outcome_t, 1, 0, HOMES, 0, FARS, 1, NO_CHARGE);
+    SLOT(pair_open, moatbetony_pair_outcome_t, 52, 0, HOMES, 2, FARS, 1, 50, 2);
     SLOT(pair_check_record, moatbetony_pair_outcome_t, 0, 0, good, passes.at, 32);
     SLOT(pair_check_record, moatbetony_pair_outcome_t, 25, 0, good, refused.at, 32);
     SLOT(pair_check_record, moatbetony_pair_outcome_t, 3, 0, forged, passes.at, 32);
@@ -1421,8 +1751,9 @@ static void home_slots(void)
     moatbetony_home_t good = home_opened(), forged = good;
     bytes32 passes = local(0, 0, 1, 1, 1), refused = local(0, 0, 1, 1, 101);
     forged.supply++;
-    SLOT(home_open, moatbetony_home_outcome_t, 0, 0, HOMES, 2, 1, 20);
-    SLOT(home_open, moatbetony_home_outcome_t, 2, 0, HOMES, 2, 1, MAX);
+    SLOT(home_open, moatbetony_home_outcome_t, 0, 0, HOMES, 2, 1, 20, 50, 1);
+    SLOT(home_open, moatbetony_home_outcome_t, 2, 0, HOMES, 2, 1, MAX, NO_CHARGE);
+    SLOT(home_open, moatbetony_home_outcome_t, 52, 0, HOMES, 2, 1, 20, 10001, 1);
     SLOT(home_check_record, moatbetony_home_outcome_t, 0, 0, good, passes.at, 32);
     SLOT(home_check_record, moatbetony_home_outcome_t, 25, 0, good, refused.at, 32);
     SLOT(home_check_record, moatbetony_home_outcome_t, 3, 0, forged, passes.at, 32);
@@ -1440,9 +1771,10 @@ static void home_slots(void)
 static void other_slots(void)
 {
     bytes32 r = local(0, 0, 1, 1, 1);
-    uint8_t records_block[512], balances_block[512], balance[8] = {0};
-    ANSWER(moatbetony_block_write(records_block, 512, 2, MOATBETONY_BLOCK_RECORDS, r.at, 32), 0, 0);
-    ANSWER(moatbetony_block_write(balances_block, 512, 1, MOATBETONY_BLOCK_FAR_BALANCES, balance, 8), 0, 0);
+    uint8_t records_block[512], balances_block[512], tariff_block[512], balance[8] = {0};
+    ANSWER(moatbetony_block_write(records_block, 512, 2, MOATBETONY_BLOCK_RECORDS, NO_CHARGE, r.at, 32), 0, 0);
+    ANSWER(moatbetony_block_write(balances_block, 512, 1, MOATBETONY_BLOCK_FAR_BALANCES, NO_CHARGE, balance, 8), 0, 0);
+    block_0_by_hand(tariff_block, 10001, 0);
     SLOT(record_read, moatbetony_record_t, 0, 0, r.at, 32);
     SLOT(record_read, moatbetony_record_t, 21, 0, r.at, 31);
     SLOT(record_encode, moatbetony_encoded_t, 0, 0, 1, 0, 0, 0, 0, 1, 1);
@@ -1453,6 +1785,9 @@ static void other_slots(void)
     SLOT(block_count, moatbetony_count_t, 11, 2, records_block, 511, 2, 0);
     SLOT(block_balances, moatbetony_balances_t, 0, 0, balances_block, 512, 1, 0);
     SLOT(block_balances, moatbetony_balances_t, 13, 0, balances_block, 512, 0, 0);
+    SLOT(block_balances, moatbetony_balances_t, 52, 0, tariff_block, 512, 0, 0);
+    SLOT(block_record, moatbetony_part_t, 52, 0, tariff_block, 512, 0, 0, 0);
+    SLOT(block_count, moatbetony_count_t, 52, 0, tariff_block, 512, 0, 0);
 }
 
 /* ## Wide figures and lengths */
@@ -1460,8 +1795,8 @@ static void other_slots(void)
 static void wide_figures(void)
 {
     static const uint64_t homes[2] = {WIDE + 1, 2 * WIDE}, fars[1] = {3 * WIDE + 7};
-    moatbetony_pair_t pair = moatbetony_pair_open(NUMBERS(homes, 2), NUMBERS(fars, 1)).state;
-    moatbetony_home_t home = moatbetony_home_open(NUMBERS(homes, 2), 1, 3 * WIDE + 7).state;
+    moatbetony_pair_t pair = moatbetony_pair_open(NUMBERS(homes, 2), NUMBERS(fars, 1), NO_CHARGE).state;
+    moatbetony_home_t home = moatbetony_home_open(NUMBERS(homes, 2), 1, 3 * WIDE + 7, NO_CHARGE).state;
     PAIR(pair, sending(0, 1, 0, 1, WIDE + 5), 0);
     pair_figures_are(&pair, 2 * WIDE - 4, 3 * WIDE + 7, WIDE + 5, __LINE__);
     pair_balance_is(&pair, 0, 0, WIDE + 1, __LINE__);
@@ -1484,9 +1819,9 @@ static void wide_lengths(void)
     CHECK(mapped != MAP_FAILED);
     if (mapped == MAP_FAILED)
         return;
-    ANSWER(moatbetony_pair_open(numbers, WIDE + 2, FARS, 1).answer, 1, 0);
-    ANSWER(moatbetony_pair_open(HOMES, 2, numbers, WIDE + 1).answer, 1, 0);
-    ANSWER(moatbetony_home_open(numbers, WIDE + 2, 1, 20).answer, 1, 0);
+    ANSWER(moatbetony_pair_open(numbers, WIDE + 2, FARS, 1, NO_CHARGE).answer, 1, 0);
+    ANSWER(moatbetony_pair_open(HOMES, 2, numbers, WIDE + 1, NO_CHARGE).answer, 1, 0);
+    ANSWER(moatbetony_home_open(numbers, WIDE + 2, 1, 20, NO_CHARGE).answer, 1, 0);
     memcpy(much, r.at, 32);
     ANSWER(moatbetony_record_read(much, WIDE + 32).answer, 21, 0);
     ANSWER(moatbetony_pair_take(&pair, much, WIDE + 32), 21, 0);
@@ -1500,12 +1835,12 @@ static void wide_lengths(void)
     SAME(pair, pair_before);
     SAME(home, home_before);
     memset(items, 1, 32);
-    ANSWER(moatbetony_block_write(much, 512, 2, 3, items, 32), 0, 0);
+    ANSWER(moatbetony_block_write(much, 512, 2, 3, NO_CHARGE, items, 32), 0, 0);
     refused_block(much, WIDE + 512, 2, 0, 11, __LINE__);
-    ANSWER(moatbetony_block_write(much, WIDE + 512, 2, 3, items, 32), 4, 2);
+    ANSWER(moatbetony_block_write(much, WIDE + 512, 2, 3, NO_CHARGE, items, 32), 4, 2);
     memset(block, 0xee, 512);
     memset(before, 0xee, 512);
-    ANSWER(moatbetony_block_write(block, 512, 2, 3, much, WIDE + 32), 4, 2);
+    ANSWER(moatbetony_block_write(block, 512, 2, 3, NO_CHARGE, much, WIDE + 32), 4, 2);
     SAME(block, before);
     munmap(mapped, size);
 }
@@ -1551,6 +1886,7 @@ int main(void)
     pair_cases();
     pair_numbers();
     pair_accounts();
+    pair_charges();
     pair_fields();
     pair_lists();
     pair_states();
@@ -1559,13 +1895,18 @@ int main(void)
     home_cases();
     home_numbers();
     home_accounts();
+    home_charges();
     home_fields();
     home_lists();
     home_states();
     home_full();
+    tariffs();
+    exact_charges();
     balances_blocks();
+    tariff_blocks();
     record_blocks();
     refused_writes();
+    tariff_writes();
     pair_slots();
     home_slots();
     other_slots();

@@ -163,12 +163,13 @@ static void put_any(uint8_t *at, int ledger, uint64_t number)
 /* ## Runs from an opening to full tables */
 
 static const uint64_t BALANCES[3] = {100000, 50000, 2000};
+enum { RATE = 2500, CHARGE_ACCOUNT = 2 };
 
 static void pair_run(void)
 {
     static uint8_t list[6 * RECORD];
     static moatbetony_pair_t from;
-    moatbetony_pair_outcome_t opened = moatbetony_pair_open(BALANCES, 3, BALANCES, 3);
+    moatbetony_pair_outcome_t opened = moatbetony_pair_open(BALANCES, 3, BALANCES, 3, RATE, CHARGE_ACCOUNT);
     uint64_t number, i;
     check(opened.answer.passed == 1, "an opening", "pair");
     from = opened.state;
@@ -197,7 +198,7 @@ static void home_run(void)
 {
     static uint8_t list[6 * RECORD];
     static moatbetony_home_t from;
-    moatbetony_home_outcome_t opened = moatbetony_home_open(BALANCES, 3, 3, 90);
+    moatbetony_home_outcome_t opened = moatbetony_home_open(BALANCES, 3, 3, 90, RATE, CHARGE_ACCOUNT);
     uint64_t number, i;
     check(opened.answer.passed == 1, "an opening", "home");
     from = opened.state;

@@ -14,9 +14,9 @@
 enum { STACK = 1 << 20, FILL = 0xa5, RECORDS = MOATBETONY_CAPACITY, HALF = RECORDS / 2 };
 
 /* What the calls are given, and where their results go; not on the stack. */
-static moatbetony_pair_t pair, pair_half, pair_room;
-static moatbetony_home_t home, home_half, home_room;
-static uint8_t pair_list[2 * HALF * 32], home_list[HALF * 32], one_arrival[32], block[512], balances_block[512];
+static moatbetony_pair_t pair, pair_half, pair_room, pair_to_send;
+static moatbetony_home_t home, home_half, home_room, home_to_send;
+static uint8_t pair_list[2 * HALF * 32], home_list[HALF * 32], one_arrival[32], one_sending[32], block[512], balances_block[512];
 static uint64_t balances[MOATBETONY_MAX_ACCOUNTS];
 static moatbetony_pair_outcome_t pair_outcome;
 static moatbetony_pair_figures_t pair_figures;
@@ -45,21 +45,25 @@ static const char *frame; /* of the function that calls */
 
 MEASURED(m_version, version = moatbetony_version())
 MEASURED(m_state_version, version = moatbetony_state_version())
-MEASURED(m_pair_open, pair_outcome = moatbetony_pair_open(balances, 56, balances, 56))
+MEASURED(m_pair_open, pair_outcome = moatbetony_pair_open(balances, 56, balances, 56, 50, 55))
 MEASURED(m_pair_record, pair_outcome = moatbetony_pair_check_record(pair_room, one_arrival, 32))
 MEASURED(m_pair_list, pair_outcome = moatbetony_pair_check_list(pair_half, pair_list, sizeof pair_list))
 MEASURED(m_pair_figures, pair_figures = moatbetony_pair_figures(pair))
 MEASURED(m_pair_balance, balance = moatbetony_pair_balance(pair, 1, 55))
 MEASURED(m_pair_places, pair_places = moatbetony_pair_places_left(pair))
 MEASURED(m_pair_take, answer = moatbetony_pair_take(&pair_room, one_arrival, 32))
+MEASURED(m_pair_sending, pair_outcome = moatbetony_pair_check_record(pair_to_send, one_sending, 32))
+MEASURED(m_pair_take_sending, answer = moatbetony_pair_take(&pair_to_send, one_sending, 32))
 MEASURED(m_pair_take_list, answer = moatbetony_pair_take_list(&pair_half, pair_list, sizeof pair_list))
-MEASURED(m_home_open, home_outcome = moatbetony_home_open(balances, 56, 56, 0))
+MEASURED(m_home_open, home_outcome = moatbetony_home_open(balances, 56, 56, 0, 50, 55))
 MEASURED(m_home_record, home_outcome = moatbetony_home_check_record(home_room, one_arrival, 32))
 MEASURED(m_home_list, home_outcome = moatbetony_home_check_list(home_half, home_list, sizeof home_list))
 MEASURED(m_home_figures, home_figures = moatbetony_home_figures(home))
 MEASURED(m_home_balance, balance = moatbetony_home_balance(home, 55))
 MEASURED(m_home_places, home_places = moatbetony_home_places_left(home))
 MEASURED(m_home_take, answer = moatbetony_home_take(&home_room, one_arrival, 32))
+MEASURED(m_home_sending, home_outcome = moatbetony_home_check_record(home_to_send, one_sending, 32))
+MEASURED(m_home_take_sending, answer = moatbetony_home_take(&home_to_send, one_sending, 32))
 MEASURED(m_home_take_list, answer = moatbetony_home_take_list(&home_half, home_list, sizeof home_list))
 MEASURED(m_record_read, record = moatbetony_record_read(one_arrival, 32))
 MEASURED(m_record_encode, encoded = moatbetony_record_encode(1, 0, 2, 3, 4, 5, 1))
@@ -68,7 +72,8 @@ MEASURED(m_block_judge_record, answer = moatbetony_block_judge_record(block, 512
 MEASURED(m_block_record, part = moatbetony_block_record(block, 512, 3, 14, 13))
 MEASURED(m_block_count, count = moatbetony_block_count(block, 512, 3, 14))
 MEASURED(m_block_balances, opening = moatbetony_block_balances(balances_block, 512, 0, 0))
-MEASURED(m_block_write, answer = moatbetony_block_write(block, 512, 3, 3, home_list, 14 * 32))
+MEASURED(m_block_write, answer = moatbetony_block_write(block, 512, 3, 3, 0, 0, home_list, 14 * 32))
+MEASURED(m_block_write_0, answer = moatbetony_block_write(balances_block, 512, 0, 1, 50, 55, home_list, 56 * 8))
 MEASURED(m_sha256, digest = moatbetony_sha256(pair_list, sizeof pair_list - 5))
 
 static void need(int holds, const char *what)
@@ -133,8 +138,8 @@ static void fill(void)
     uint64_t i;
     for (i = 0; i < MOATBETONY_MAX_ACCOUNTS; i++)
         balances[i] = UINT64_C(1) << 40;
-    pair = moatbetony_pair_open(balances, 56, balances, 56).state;
-    home = moatbetony_home_open(balances, 56, 56, UINT64_C(1) << 40).state;
+    pair = moatbetony_pair_open(balances, 56, balances, 56, 50, 55).state;
+    home = moatbetony_home_open(balances, 56, 56, UINT64_C(1) << 40, 50, 55).state;
     for (i = 0; i < HALF; i++) {
         put_record(sendings + 32 * i, MOATBETONY_SENDING, MOATBETONY_FAR, i << 16);
         put_record(arrivals + 32 * i, MOATBETONY_ARRIVAL, MOATBETONY_HOME, i << 16);
@@ -143,6 +148,7 @@ static void fill(void)
         put_record(home_list + 32 * i, MOATBETONY_ARRIVAL, MOATBETONY_HOME, (HALF + i) << 16);
     }
     memcpy(one_arrival, home_list + 32 * (HALF - 1), 32);
+    put_record(one_sending, MOATBETONY_SENDING, MOATBETONY_HOME, RECORDS << 16);
     need(moatbetony_pair_take_list(&pair, sendings, sizeof sendings).passed == 1, "sendings");
     need(moatbetony_pair_take_list(&pair, arrivals, sizeof arrivals).passed == 1, "arrivals");
     need(moatbetony_home_take_list(&home, arrivals, sizeof arrivals).passed == 1, "arrivals at home");
@@ -150,11 +156,14 @@ static void fill(void)
     home_half = home_room = home;
     need(moatbetony_pair_take_list(&pair_room, pair_list, sizeof pair_list - 32).passed == 1, "a pair list but for its last record");
     need(moatbetony_home_take_list(&home_room, home_list, sizeof home_list - 32).passed == 1, "a home list but for its last record");
+    pair_to_send = pair_room;
+    home_to_send = home_room;
     need(moatbetony_pair_take_list(&pair, pair_list, sizeof pair_list).passed == 1, "a pair list");
     need(moatbetony_home_take_list(&home, home_list, sizeof home_list).passed == 1, "a home list");
     need(pair.counts[0] == RECORDS && pair.counts[1] == RECORDS && home.count == RECORDS, "full tables");
-    need(moatbetony_block_write(block, 512, 3, MOATBETONY_BLOCK_RECORDS, home_list, 14 * 32).passed == 1, "a block");
-    need(moatbetony_block_write(balances_block, 512, 0, MOATBETONY_BLOCK_HOME_BALANCES, home_list, 56 * 8).passed == 1, "a block");
+    need(moatbetony_block_write(block, 512, 3, MOATBETONY_BLOCK_RECORDS, 0, 0, home_list, 14 * 32).passed == 1, "a block");
+    need(moatbetony_block_write(balances_block, 512, 0, MOATBETONY_BLOCK_HOME_BALANCES, 50, 55, home_list, 56 * 8).passed == 1,
+        "a block");
 }
 
 int main(void)
@@ -175,6 +184,10 @@ int main(void)
     need(answer.passed == 1, "the record passes");
     measure("pair_take, 24", m_pair_take, MOATBETONY_STACK_PAIR);
     need(answer.passed == 0 && answer.number == 24, "the record is refused");
+    measure("pair, sending", m_pair_sending, MOATBETONY_STACK_PAIR);
+    need(pair_outcome.answer.passed == 1, "the sending passes");
+    measure("the same, take", m_pair_take_sending, MOATBETONY_STACK_PAIR);
+    need(answer.passed == 1, "the sending passes");
     measure("pair_take_list", m_pair_take_list, MOATBETONY_STACK_PAIR);
     need(answer.passed == 1, "the list passes");
     measure("the same, 24", m_pair_take_list, MOATBETONY_STACK_PAIR);
@@ -194,6 +207,10 @@ int main(void)
     need(answer.passed == 1, "the record passes");
     measure("home_take, 24", m_home_take, MOATBETONY_STACK_HOME);
     need(answer.passed == 0 && answer.number == 24, "the record is refused");
+    measure("home, sending", m_home_sending, MOATBETONY_STACK_HOME);
+    need(home_outcome.answer.passed == 1, "the sending passes");
+    measure("the same, take", m_home_take_sending, MOATBETONY_STACK_HOME);
+    need(answer.passed == 1, "the sending passes");
     measure("home_take_list", m_home_take_list, MOATBETONY_STACK_HOME);
     need(answer.passed == 1, "the list passes");
     measure("the same, 24", m_home_take_list, MOATBETONY_STACK_HOME);
@@ -213,6 +230,8 @@ int main(void)
     measure("block_balances", m_block_balances, MOATBETONY_STACK_OTHER);
     need(opening.answer.passed == 1, "the balances pass");
     measure("block_write", m_block_write, MOATBETONY_STACK_OTHER);
+    need(answer.passed == 1, "the write passes");
+    measure("block_write, 0", m_block_write_0, MOATBETONY_STACK_OTHER);
     need(answer.passed == 1, "the write passes");
     measure("sha256", m_sha256, MOATBETONY_STACK_OTHER);
     measure("version", m_version, MOATBETONY_STACK_OTHER);

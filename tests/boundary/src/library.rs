@@ -2,7 +2,7 @@
 //! too, lies flush against a closed page, and an empty slice goes as a null pointer.
 
 use second_validator::answer::Answer;
-use second_validator::journal::Balances;
+use second_validator::journal::Stakes;
 use second_validator::record::{Held, RECORD};
 use second_validator::runner::calls::Part;
 use second_validator::states::{HomeState, PairState};
@@ -100,8 +100,9 @@ fn home_out(told: ffi::PlainHomeOutcome) -> (Answer, Box<HomeState>) {
 // SAFETY of every call below: a pointer and its length are those of one slice, lent for the call; states and numbers go by value. The
 // calls in place are made above.
 impl Part for Library {
-    fn pair_open(&mut self, home: &[u64], far: &[u64]) -> (Answer, Box<PairState>) {
-        pair_out(unsafe { ffi::moatbetony_pair_open(self.first.lend(home), home.len(), self.second.lend(far), far.len()) })
+    fn pair_open(&mut self, home: &[u64], far: &[u64], rate: u64, charge_account: u64) -> (Answer, Box<PairState>) {
+        let (homes, fars) = (self.first.lend(home), self.second.lend(far));
+        pair_out(unsafe { ffi::moatbetony_pair_open(homes, home.len(), fars, far.len(), rate, charge_account) })
     }
 
     fn pair_take(&mut self, state: &mut PairState, bytes: &[u8]) -> Answer {
@@ -139,8 +140,9 @@ impl Part for Library {
         (answer(told.answer), [told.home, told.far])
     }
 
-    fn home_open(&mut self, home: &[u64], fars: usize, far_total: u64) -> (Answer, Box<HomeState>) {
-        home_out(unsafe { ffi::moatbetony_home_open(self.first.lend(home), home.len(), fars, far_total) })
+    fn home_open(&mut self, home: &[u64], fars: usize, far_total: u64, rate: u64, charge_account: u64) -> (Answer, Box<HomeState>) {
+        let homes = self.first.lend(home);
+        home_out(unsafe { ffi::moatbetony_home_open(homes, home.len(), fars, far_total, rate, charge_account) })
     }
 
     fn home_take(&mut self, state: &mut HomeState, bytes: &[u8]) -> Answer {
@@ -207,14 +209,14 @@ impl Part for Library {
         (answer(told.answer), told.count)
     }
 
-    fn block_balances(&mut self, block: &[u8], number: u64, before: u64) -> (Answer, (u64, Balances)) {
+    fn block_balances(&mut self, block: &[u8], number: u64, before: u64) -> (Answer, Stakes) {
         let told = unsafe { ffi::moatbetony_block_balances(self.first.lend(block), block.len(), number, before) };
-        (answer(told.answer), (told.count, told.balances))
+        (answer(told.answer), (told.count, told.rate, told.charge_account, told.balances))
     }
 
-    fn block_write(&mut self, output: &mut [u8], number: u64, kind: u8, items: &[u8]) -> Answer {
-        let (out, from) = (self.first.lend(output), self.second.lend(items));
-        let told = unsafe { ffi::moatbetony_block_write(out, output.len(), number, kind, from, items.len()) };
+    fn block_write(&mut self, output: &mut [u8], number: u64, kind: u8, rate: u64, charge_account: u64, items: &[u8]) -> Answer {
+        let (out, from, size) = (self.first.lend(output), self.second.lend(items), output.len());
+        let told = unsafe { ffi::moatbetony_block_write(out, size, number, kind, rate, charge_account, from, items.len()) };
         self.first.take_back(output);
         answer(told)
     }
