@@ -461,7 +461,7 @@ static inline uint64_t moatbetony_charge(uint64_t rate, uint64_t amount)
 }
 
 /* The most that can be sent from a balance of home: this amount and its charge are not above the balance, and of one more they are. For
-   a rate of 0 to 10,000. */
+   a rate of 0 to 10,000, as every state has that is not refused. */
 static inline uint64_t moatbetony_most_to_send(uint64_t rate, uint64_t balance)
 {
     return balance / (10000 + rate) * 10000 + (balance % (10000 + rate) * 10000 + 9999) / (10000 + rate);
