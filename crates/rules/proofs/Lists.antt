@@ -167,13 +167,9 @@ length-raised balances i a = length-set balances i (getD balances i 0 + a)
 
 -- a passed record leaves the number of accounts
 pub length-moved : (t : Tariff) (balances : List ℕ) (r : Record) (k : Kind) → length (moved t balances r k) ≡ length balances
-length-moved t balances r (Local l) =
-    length-raised (lowered balances (r .sender) (debit t r (Local l))) (r .receiver) (credit r)
-    ∙ length-lowered balances (r .sender) (debit t r (Local l))
-length-moved t balances r (Sending l) =
-    length-raised (lowered balances (r .sender) (debit t r (Sending l))) (t .account) (charge (t .rate) (r .amount))
-    ∙ length-lowered balances (r .sender) (debit t r (Sending l))
-length-moved t balances r (Receiving l) = length-raised balances (r .receiver) (credit r)
+length-moved t balances r (Local l) = simp (length-raised, length-lowered, length-set)
+length-moved t balances r (Sending l) = simp (length-raised, length-lowered, length-set)
+length-moved t balances r (Receiving l) = simp (length-raised, length-lowered, length-set)
 
 -- ## One account
 

@@ -18,12 +18,16 @@ short-second b t c h = ap (λ (x : Bool). refuse x 25 0) (go (ltb b (t + c)) ref
     go true q = rw q (lt-ltb (b - t) c (omega (arith, ltb-true b (t + c) q)))
     go false q = rw q (le-ltb (b - t) c (omega (arith, ltb-false b (t + c) q)))
 
+-- 25 by the same balance and the same two parts
+same-funds : {b x t y c z : ℕ} → b ≡ x → t ≡ y → c ≡ z → refuse (ltb b (t + c)) 25 0 ≡ refuse (ltb x (y + z)) 25 0
+same-funds p q r = λ i. refuse (ltb (p i) (q i + r i)) 25 0
+
 returns : tie.Need-returns
 unfolding fundsAt
 returns c =
     let d = c .before .before .balance-at in
     let e = c .before .taken-by in
-    rw (← d .ensures, ← e .ensures) (short-first (d .result) (e .result) _ (omega arith))
+    short-first (d .result) (e .result) _ (omega arith) ∙ same-funds (d .ensures) (e .ensures) refl
 
 returns-2 : tie.Need-returns-2
 unfolding fundsAt
@@ -31,7 +35,9 @@ returns-2 c =
     let d = c .before .before .before .before .balance-at in
     let e = c .before .before .before .taken-by in
     let g = c .before .charge-by in
-    c .refusal-if .ensures ∙ rw (← d .ensures, ← e .ensures, ← g .ensures) (short-second (d .result) (e .result) (g .result) (omega arith))
+    c .refusal-if .ensures
+    ∙ short-second (d .result) (e .result) (g .result) (omega arith)
+    ∙ same-funds (d .ensures) (e .ensures) (g .ensures)
 
 pub funds-refusal-spec : {M : Type 1} → statement M
 funds-refusal-spec = tie.close (tie.spec (λ c κs. search needs) (λ c κs. search needs) returns (λ c κs. search needs) (λ c κs. search needs)
