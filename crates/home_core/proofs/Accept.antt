@@ -34,7 +34,7 @@ pub record HomeBounds (s : List ℕ) : Type 0 where
   pub far-fits : farAccountsOf s ≤ accountLimit
   pub room : homeCountOf s ≤ capacity
   pub supply-fits : homeSupplyOf s ≤ maxAmount
-  pub pays : tariffAllowed (homeTariffOf s) (homeAccountsOf s) ≡ true
+  pub tariff-allowed : tariffAllowed (homeTariffOf s) (homeAccountsOf s) ≡ true
 
 -- from the test
 pub bounds-facts : (s : List ℕ) → homeBounds s ≡ true → HomeBounds s
@@ -52,7 +52,7 @@ bounds-facts s h =
       far-fits = count-facts (farAccountsOf s) (b .0) .1;
       room = leb-true (homeCountOf s) capacity (c .0);
       supply-fits = leb-true (homeSupplyOf s) maxAmount (d .0);
-      pays = e .0;
+      tariff-allowed = e .0;
     }
 
 -- and back
@@ -63,7 +63,7 @@ facts-bounds s b =
     (every-both _ _ (facts-count (farAccountsOf s) (b .far-some) (b .far-fits))
     (every-both _ _ (le-leb (homeCountOf s) capacity (b .room))
     (every-both _ _ (le-leb (homeSupplyOf s) maxAmount (b .supply-fits))
-    (every-both _ _ (b .pays)
+    (every-both _ _ (b .tariff-allowed)
     every-none))))
 
 -- ## Accepted words
@@ -179,7 +179,7 @@ module _ (s : List ℕ) (z : length s ≡ homeWords) (b : HomeBounds s) where
         far-count = facts-count (farAccountsOf s) (b .far-some) (b .far-fits);
         room = rw (length-held s) (b .room);
         supply-fits = le-leb (homeSupplyOf s) maxAmount (b .supply-fits);
-        pays = rw (length-balances s z (b .home-fits)) (b .pays);
+        tariff-allowed = rw (length-balances s z (b .home-fits)) (b .tariff-allowed);
         allowed = h .allowed;
         distinct = unshared-distinct _ (sym (apart-records s 0 (homeCountOf s)) ∙ apart);
         stand = h .stand;

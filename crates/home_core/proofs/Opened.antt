@@ -108,7 +108,7 @@ module _ (tariff : Tariff) (homes : List ℕ) (fars farTotal : ℕ) where
                 far-fits = omega (arith, last 3, f);
                 room = omega (arith, last 4);
                 supply-fits = omega (arith, last 0, leb-true (total homes + farTotal) maxAmount (o .supply-fits));
-                pays = rw (last 2, last 5, last 6) (o .pays);
+                tariff-allowed = rw (last 2, last 5, last 6) (o .tariff-allowed);
               };
           zeros = rw (last 2) (opened-stand .zeros);
           reads = rw (last 4);

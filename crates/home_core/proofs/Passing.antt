@@ -74,7 +74,7 @@ module _ (s : List ℕ) (o : HomeSound s) (r : Record) (space : homeCountOf s < 
       omega (arith, h .0 .receiver-open, own, o .bounds .home-fits, h .1, pays-by x, sums-fit s o)
   passes-by (Sending Home) h =
       let x : r .sender < homeAccountsOf s = rw own at (h .0 .sender-open) in
-      let y = allowed-open (homeTariffOf s) (homeAccountsOf s) (o .bounds .pays) in
+      let y = allowed-open (homeTariffOf s) (homeAccountsOf s) (o .bounds .tariff-allowed) in
       omega (arith, y, o .bounds .home-fits, h .1, pays-by x, sums-fit s o)
   passes-by (Receiving Home) h =
       omega (arith, h .0 .sender-open, h .0 .receiver-open, own, o .bounds .home-fits, o .bounds .far-fits, h .1, sums-fit s o)
@@ -96,7 +96,7 @@ pub paid-fits : (s : List ℕ) → HomeSound s → (r : Record) → HomePasses s
     (homeBalancesWord + payeeBy (homeTariffOf s .account) (r .kind) (r .receiver)) 0
     + creditBy (homeTariffOf s .rate) (r .kind) (r .amount) < 2 ^ 64
 paid-fits s o r p m =
-    given-fits (homeTariffOf s) s homeBalancesWord r (allowed-rate (homeTariffOf s) (homeAccountsOf s) (o .bounds .pays))
+    given-fits (homeTariffOf s) s homeBalancesWord r (allowed-rate (homeTariffOf s) (homeAccountsOf s) (o .bounds .tariff-allowed))
     (omega (arith, o .long, p .sender)) (balance-most s o (r .sender) (p .sender)) (balance-most s o _ (p .payee)) m
 
 -- what a record takes from the ledger enters the pool, and what it gives to it leaves the pool
@@ -192,7 +192,7 @@ module _ (s t : List ℕ) (w : Words) (r : Record) (o : HomeSound s) (p : HomePa
         far-fits = omega (arith, c .fars, o .bounds .far-fits);
         room = omega (arith, c .count, p .room);
         supply-fits = omega (arith, c .supply, o .bounds .supply-fits);
-        pays = rw (c .rate, c .account, c .homes) (o .bounds .pays);
+        tariff-allowed = rw (c .rate, c .account, c .homes) (o .bounds .tariff-allowed);
       }
 
   -- balances beyond the accounts stay zero

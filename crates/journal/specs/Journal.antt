@@ -124,7 +124,8 @@ ReadsOnce =
     → Reads j tariff home far records → Reads j tariff′ home′ far′ records′
     → (tariff ≡ tariff′) × (home ≡ home′) × (far ≡ far′) × (records ≡ records′)
 
--- a header with rate 0 and account 0 is the one of document 01, with zeros from byte 6 on: the journals of before U3 are those with both 0
+-- a header with rate 0 and account 0 is the one of document 01, with zeros from byte 6 on, so that the journal written with both 0 is the one
+-- of before U3; by ReadsBack these are the journals that read with both 0
 unfoldable pub HeadersOfBefore : Type 0
 HeadersOfBefore = (k count : ℕ) → header k free count ≡ bytesOf 4 k ++ (kindOfBlock k ∷ count ∷ replicate 26 0)
 

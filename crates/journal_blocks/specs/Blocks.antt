@@ -93,7 +93,7 @@ balanceTable b = balancesOf b ++ replicate (accountLimit - statedCount b) 0
 
 -- ## Form
 
--- what 14 asks of block k after a block of `before` items: kind, count and zero bytes are right, and a block from number 3
+-- what 14 asks of block k after a block of `before` items: kind, count and zero bytes (document 02, U3) are right, and a block from number 3
 -- on follows one of not fewer than 14
 unfoldable pub blockFormed : List ℕ → ℕ → ℕ → Bool
 blockFormed b k before =

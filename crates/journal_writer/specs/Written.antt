@@ -11,7 +11,7 @@ use Rattle.tariffs.specs.Tariffs.{tariffAllowed}
 use Rattle.tariffs.specs.declared.Tariff.{Tariff}
 use Rattle.wire.specs.BigEndian.{bytesOf, every}
 
--- bytes 6-9 of block k: in block 0 the rate and the charge account, in all others zeros
+-- bytes 6-9 of block k: in block 0 the rate and the charge account, in all others zeros (document 02, U3)
 abbrev pub tariffBytes : ℕ → Tariff → List ℕ
 tariffBytes zero t = bytesOf 2 (t .rate) ++ bytesOf 2 (t .account)
 tariffBytes (suc k) t = replicate 4 0

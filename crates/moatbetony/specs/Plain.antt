@@ -15,6 +15,7 @@ use Rattle.journal_reader.specs.declared.Counted.{Counted}
 use Rattle.ledgers.specs.Ledgers.{kindByte, ledgerByte, ledgerOf}
 use Rattle.moatbetony.specs.declared.PlainBalance.{PlainBalance}
 use Rattle.moatbetony.specs.declared.PlainBalances.{PlainBalances}
+use Rattle.moatbetony.specs.declared.PlainCharge.{PlainCharge}
 use Rattle.moatbetony.specs.declared.PlainCount.{PlainCount}
 use Rattle.moatbetony.specs.declared.PlainEncoded.{PlainEncoded}
 use Rattle.moatbetony.specs.declared.PlainHomeFigures.{PlainHomeFigures}
@@ -33,6 +34,7 @@ use Rattle.records.specs.Records.{readingRefusal}
 use Rattle.records.specs.declared.Reading.{Reading}
 use Rattle.records.specs.declared.Reading.the-variants.{Read, Unreadable}
 use Rattle.records.specs.declared.Record.{Record}
+use Rattle.tariffs.specs.declared.Charged.{Charged}
 use Rattle.tariffs.specs.declared.Tariff.{Tariff}
 
 -- ## Versions
@@ -125,6 +127,12 @@ plainRecord Unreadable =
 abbrev pub plainEncoded : Reading → List ℕ → PlainEncoded
 plainEncoded (Read r) b = record { answer = readAnswer (Read r); bytes = b }
 plainEncoded Unreadable b = record { answer = readAnswer Unreadable; bytes = replicate 32 0 }
+
+-- ## The charge
+
+-- the charge on an amount
+abbrev pub plainCharge : Charged → PlainCharge
+plainCharge c = record { answer = plainAnswer (c .answer); charge = c .charge }
 
 -- ## The journal
 

@@ -14,6 +14,8 @@ ghost use Rattle.journal_writer.specs.Written.{writeRefusal, written};
 ghost use Rattle.moatbetony.specs.Plain.{libraryVersion, stateVersion, plainAnswer, plainPairOutcome, plainPairFigures};
 ghost use Rattle.moatbetony.specs.Plain.{plainHomeOutcome, plainHomeFigures, plainBalance, plainRecord, plainEncoded, plainPart};
 ghost use Rattle.moatbetony.specs.Plain.{plainCount, plainBalances, plainPairPlaces, plainHomePlaces, plainTariff};
+ghost use Rattle.moatbetony.specs.Plain.{plainCharge};
+ghost use Rattle.tariffs.specs.Tariffs.{chargeTold};
 ghost use Rattle.pair_core.specs.Layout.{acceptsPair, pairWordsChecker};
 ghost use Rattle.pair_validator.specs.Figures.{pairBalanceOf, pairFiguresOf, pairPlacesOf};
 ghost use Rattle.pair_validator.specs.State.{pairChecker, pairOpenedState, pairZeroState};
@@ -472,6 +474,28 @@ pub extern "C" fn moatbetony_record_encode(
     PlainEncoded {
         answer: plain(Answer::Passed),
         bytes,
+    }
+}
+
+// ## The charge
+
+// An answer, and the charge on an amount.
+#[repr(C)]
+pub struct PlainCharge {
+    pub answer: PlainAnswer,
+    pub charge: u64,
+}
+
+// The charge on an amount that leaves home.
+#[no_mangle]
+pub extern "C" fn moatbetony_charge(rate: u64, amount: u64) -> PlainCharge
+    ensures { λ r. ⌜ r ≡ plainCharge (chargeTold rate amount) ⌝ }
+{
+    let c = tariffs::tell_charge(rate, amount);
+    let a = c.answer;
+    PlainCharge {
+        answer: plain(a),
+        charge: c.charge,
     }
 }
 

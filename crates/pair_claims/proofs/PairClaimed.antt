@@ -1,11 +1,12 @@
 -- The claims about the pair validator's calls: runs over the program's states are runs over the rules' states. Assumes nothing.
 use Rattle.wire.proofs.Prelude.{List, _+_, _-_, _∙_, _≡_, _≤_, ap, arith, dichotomy, inl, inr, leb, leb-false, leb-true, length, refl, subst}
 use Rattle.wire.proofs.Prelude.{sym, true, ℕ}
+use native.Mathlib.Decide.{ℕ-discrete}
 use Rattle.ledgers.specs.Ledgers.{counterpart, ledgerByte, ledgerOf}
 use Rattle.ledgers.specs.Limits.{capacity}
 use Rattle.pair_claims.specs.Claims.{PairCallsAsRules, PairFullWhenNoneLeft, PairHeldAccountsOpen, PairInPlaceAsByValue}
 use Rattle.pair_claims.specs.Claims.{PairListsAndRefusals, PairNothingStranded, PairOpenedAsRules, PairPlacesLeft}
-use Rattle.pair_claims.specs.Claims.{PairChargesPaid, PairRunsInPlaceAsByValue, PairRunsStrandNothing, PairSendingsCostExactly}
+use Rattle.pair_claims.specs.Claims.{PairChargesPaid, PairFarSendingsFree, PairRunsInPlaceAsByValue, PairRunsStrandNothing, PairSendingsCostExactly}
 use Rattle.pair_claims.specs.Claims.{PairStatesConserved, PairStatesFollowRules, PairStatesStayAccepted, PairTellsAccount}
 use Rattle.pair_claims.specs.Claims.{PairThreeExactly, PairZeroRefused, leftOn, pairPassedOfRun, pairPlacesLeft, pairStateOfRun}
 use Rattle.pair_core.proofs.Accept.{sound-accepts, sound-of}
@@ -34,6 +35,8 @@ use Rattle.rules.specs.Calls.{Call, InTurn, call, callOne, one, recordsOn, run}
 use Rattle.rules.specs.Charges.{AccountsAddUp, PairAccountsAddUp, PairSendingsCost, SendingCosts}
 use Rattle.rules.specs.Lists.{total}
 use Rattle.rules.specs.PairValidator.{AsTheRules, Conserved, PairView, inFlightOf, pairOpened, pairOpeningRefusal, pairValidator}
+use Rattle.table.specs.Table.{ledgerIn}
+use Rattle.tariffs.proofs.Charges.{charge-free}
 use Rattle.rules.specs.Rules.{Far, Home, Ledger, PairState, Tariff, after, afterBytes, afterReading, inFlight, judgeBytes, opened, stateOf}
 
 -- ## The program's states follow the rules' states
@@ -150,6 +153,23 @@ pair-sendings-cost-exactly s a b l r q k h =
     ap (λ (v : PairView). v .pair) (f .gives h) ∙ ap (afterReading p) q in
     subst (λ (x : PairState). SendingCosts (stateOf l p) (stateOf l x) r) (sym e)
     (pair-sendings-cost capacity (pairViewOfState s) ok l r k (f .passes-when r q .0 h .0))
+
+-- what a far sending costs
+pub pair-far-sendings-free : PairFarSendingsFree
+unfolding PairFarSendingsFree PairSendingsCostExactly ledgerIn
+pair-far-sendings-free s a b r q k h =
+    let c = pair-sendings-cost-exactly s a b Far r q k h in
+    let z = charge-free (r .amount) in (
+      elim (ℕ-discrete (r .sender) 0) [
+        | yes p ↦ c .pays-itself p
+        | no p ↦ omega (arith, z, c .pays p)
+      ],
+      (λ i n.
+          elim (ℕ-discrete i 0) [
+            | yes p ↦ let m : r .sender ≡ 0 → ⊥ = λ e. n (p ∙ sym e) in rw p (omega (arith, z, c .paid m))
+            | no p ↦ c .others i n p
+          ]),
+    )
 
 -- lists in turn, and refusals
 pub pair-lists-and-refusals : PairListsAndRefusals

@@ -1,7 +1,7 @@
 -- What is claimed of the pair validator's calls over the state that the program holds: demand 2, the first half of demand 3, what 22 and
 -- 51 say of a record's accounts, that no sending is stranded, what a sending costs and what every account has, and what the places left say
 -- of 41. Assumes nothing.
-use Prim.Native.Nat.{_+_, _<_, _^_, _≤_, suc, ℕ}
+use Prim.Native.Nat.{_+_, _-_, _<_, _^_, _≤_, suc, ℕ}
 use mathlib.Core.Bool.{false, true}
 use mathlib.Core.List.{List}
 use mathlib.Core.Logic.{_↔_}
@@ -23,7 +23,7 @@ use Rattle.records.specs.declared.Reading.the-variants.{Read, Unreadable}
 use Rattle.records.specs.declared.Record.{Record}
 use Rattle.rules.specs.Accounts.{AccountsOpen, TellsAccount}
 use Rattle.rules.specs.Arrivals.{Flying, receivingOf}
-use Rattle.rules.specs.Charges.{AccountsAddUp, SendingCosts}
+use Rattle.rules.specs.Charges.{AccountsAddUp, SendingCosts, balanceOf}
 use Rattle.rules.specs.Calls.{Call, CallBytes, ListsInTurn, RefusedUnaltered, call, one, passedRecords, recordsOn, run}
 use Rattle.rules.specs.Lists.{total}
 use Rattle.rules.specs.PairValidator.{inFlightOf, pairOpened, pairOpeningRefusal, pairValidator}
@@ -124,12 +124,22 @@ PairNothingStranded =
     → PairArrives s l (length (stateOf (counterpart l) (pairViewOfState s .pair) .passed)) r
 
 -- DOCUMENT 02, U3: in every state that the pair validator accepts, a sending of either ledger that passes, handed in alone, costs its sender
--- exactly its amount and the charge, which the charge account gets; nothing is taken on far's
+-- exactly its amount and the charge, which the charge account gets
 unfoldable pub PairSendingsCostExactly : Type 0
 PairSendingsCostExactly =
     (s : PairValidator) → acceptsPair (s .words) ≡ true → (b : List ℕ) (l : Ledger) (r : Record) → reading b ≡ Read r → r .kind ≡ Sending l
     → call pairChecker s (one b) .answer ≡ Passed
     → SendingCosts (stateOf l (pairViewOfState s .pair)) (stateOf l (pairViewOfState (call pairChecker s (one b) .state) .pair)) r
+
+-- and a far sending costs its amount and nothing more: every other far account has what it had
+unfoldable pub PairFarSendingsFree : Type 0
+PairFarSendingsFree =
+    (s : PairValidator) → acceptsPair (s .words) ≡ true → (b : List ℕ) (r : Record) → reading b ≡ Read r → r .kind ≡ Sending Far
+    → call pairChecker s (one b) .answer ≡ Passed
+    → (balanceOf (pairViewOfState (call pairChecker s (one b) .state) .pair .far) (r .sender)
+    ≡ balanceOf (pairViewOfState s .pair .far) (r .sender) - r .amount)
+    × ((i : ℕ) → (i ≡ r .sender → ⊥)
+    → balanceOf (pairViewOfState (call pairChecker s (one b) .state) .pair .far) i ≡ balanceOf (pairViewOfState s .pair .far) i)
 
 -- a call with a list answers by its records in turn; a refusal of any call hands back the state handed in
 unfoldable pub PairListsAndRefusals : Type 0

@@ -216,7 +216,7 @@ module _ (s : List ℕ) (z : length s ≡ pairWords) (b : PairBounds s) (small :
           record {
             count = rw (length-balances s z b (ledgerByte L) (byte-below L)) (b .count (ledgerByte L) (byte-below L));
             room = rw (length-held s (ledgerByte L)) (b .room (ledgerByte L) (byte-below L));
-            pays = rw (length-balances s z b (ledgerByte L) (byte-below L)) (tariff-fits s b (ledgerByte L) (byte-below L));
+            tariff-allowed = rw (length-balances s z b (ledgerByte L) (byte-below L)) (tariff-fits s b (ledgerByte L) (byte-below L));
             allowed = right L .records .allowed;
             clean = clean L;
             stand = under L;

@@ -46,7 +46,7 @@ pub record PairBounds (s : List ℕ) : Type 0 where
   pub count : (l : ℕ) → l < 2 → countAllowed (accountsOn s l) ≡ true
   pub room : (l : ℕ) → l < 2 → countOn s l ≤ capacity
   pub supply-fits : supplyAllowed (pairSupplyOf s) ≡ true
-  pub pays : tariffAllowed (pairTariffOf s) (accountsOn s 0) ≡ true
+  pub tariff-allowed : tariffAllowed (pairTariffOf s) (accountsOn s 0) ≡ true
 
 -- the test gives the bounds
 pub bounds-of : (s : List ℕ) → pairBounds s ≡ true → PairBounds s
@@ -62,7 +62,7 @@ bounds-of s h =
       count = by-byte (λ (l : ℕ). countAllowed (accountsOn s l) ≡ true) (a .0) (b .0);
       room = by-byte (λ (l : ℕ). countOn s l ≤ capacity) (leb-true _ _ (c .0)) (leb-true _ _ (d .0));
       supply-fits = e .0;
-      pays = f .0;
+      tariff-allowed = f .0;
     }
 
 -- and back
@@ -74,7 +74,7 @@ of-bounds s b =
     (every-both _ _ (le-leb _ _ (b .room 0 (omega arith)))
     (every-both _ _ (le-leb _ _ (b .room 1 (omega arith)))
     (every-both _ _ (b .supply-fits)
-    (every-both _ _ (b .pays)
+    (every-both _ _ (b .tariff-allowed)
     every-none)))))
 
 -- a ledger has an account and at most as many as it can have
@@ -84,7 +84,7 @@ accounts-fit s b l h = count-facts (accountsOn s l) (b .count l h)
 -- a ledger's tariff is one that 52 has nothing against
 pub tariff-fits : (s : List ℕ) → PairBounds s → (l : ℕ) → l < 2 → tariffAllowed (tariffOn s l) (accountsOn s l) ≡ true
 tariff-fits s b =
-    by-byte (λ (l : ℕ). tariffAllowed (tariffOn s l) (accountsOn s l) ≡ true) (b .pays)
+    by-byte (λ (l : ℕ). tariffAllowed (tariffOn s l) (accountsOn s l) ≡ true) (b .tariff-allowed)
     (free-allowed (accountsOn s 1) (omega (arith, accounts-fit s b 1 (omega arith) .0)))
 
 -- ## As the rules see them

@@ -133,7 +133,7 @@ module _ (tariff : Tariff) (homes fars : List ℕ) (n : pairOpeningRefusal tarif
                   (rw (last 2) (o .far-count));
               room = λ l h. omega (arith, count-none l h);
               supply-fits = rw (last 0) (o .supply-fits);
-              pays = rw (last 5, last 6, last 1) (o .pays);
+              tariff-allowed = rw (last 5, last 6, last 1) (o .tariff-allowed);
             };
         zeros = by-byte (λ (l : ℕ). zeroBeyond openedWords l ≡ true) (rw (last 1) (opened-stand .0 .zeros)) (rw (last 2) (opened-stand .1
             .zeros));

@@ -240,7 +240,7 @@ module _ (s : List ℕ) (w : Words) (r : Record) (d : PairSound s) (L : Ledger) 
           room = either (λ (m : ℕ). countOn t m ≤ capacity) L (omega (arith, c .count, p .room))
               (omega (arith, c .others, b .room o (byte-below (counterpart L))));
           supply-fits = rw (c .supply) (b .supply-fits);
-          pays = rw (c .tariff, c .accounts 0 (omega arith)) (b .pays);
+          tariff-allowed = rw (c .tariff, c .accounts 0 (omega arith)) (b .tariff-allowed);
         }
 
     -- balances beyond the accounts stay zero

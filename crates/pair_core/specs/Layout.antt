@@ -1,7 +1,8 @@
 -- The state of the pair validator (document 01: pair book) is one array of words: the held records of home, four words each, as many as
 -- the capacity, and those of far; the balances of home, as many as a ledger can have, and those of far; then the supply, the numbers
--- of home and of far accounts, the numbers of held records of both, and home's tariff (document 02, U3): its rate and its account. Here stands what it is as the rules' state, what refusal 3
--- asks of it, and what a passed record makes of it. A ledger is named by its byte. Assumes nothing.
+-- of home and of far accounts, the numbers of held records of both, and home's tariff (document 02, U3): its rate and its account. Here
+-- stands what it is as the rules' state, what refusal 3 asks of it, and what a passed record makes of it. A ledger is named by its byte.
+-- Assumes nothing.
 use Prim.Native.Nat.{_*_, _+_, _-_, _<_, suc, zero, ℕ}
 use mathlib.Core.Bool.{Bool, true}
 use mathlib.Core.List.{List, [], _++_, _∷_}

@@ -139,7 +139,7 @@ module _ (s index b : List ℕ) (last : Row) (h : RowReady s index last) where
       let g = accepts-facts capacity _ (sound-of _ (x .accepted) .accepted) .sums in
       let v = x .view in
       let f = accepts-facts capacity _ (sound-of s (h .ready .accepted) .accepted) in
-      let m = row-after (pairViewOf s .pair) r (pairSupplyOf s) (last .refusal) (λ l. allowed-open _ _ (f .ledgers l .pays)) (or-else-zero (judge (pairViewOf s .pair) r) _ k .0)
+      let m = row-after (pairViewOf s .pair) r (pairSupplyOf s) (last .refusal) (λ l. allowed-open _ _ (f .ledgers l .tariff-allowed)) (or-else-zero (judge (pairViewOf s .pair) r) _ k .0)
       (subst (λ (y : PairView). total (y .pair .home .balances) + total (y .pair .far .balances) + inFlight (y .pair) ≡ y .supply) v g) in
       let e : rowOf 0 (record { pair = after (pairViewOf s .pair) r; supply = pairSupplyOf s }) ≡ rowAfter s b =
       ap₂ rowOf j (sym v ∙ ap pairViewOf (sym t)) in

@@ -48,7 +48,7 @@ pub fn charge_by(rate: u64, k: Kind, amount: u64) -> u64
     match k {
         Kind::Local(_) => 0,
         Kind::Sending(_) => charge(rate, amount),
-        Kind::Receiving(_) => 0,
+        Kind::Receiving(_) => 0, // an arrival costs nothing
     }
 }
 

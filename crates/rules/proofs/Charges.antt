@@ -154,7 +154,7 @@ pub pair-sendings-cost : PairSendingsCost
 unfolding PairSendingsCost after
 pair-sendings-cost capacity v ok l r q j =
     let s = stateOf l (v .pair) in
-    let o = allowed-open _ _ (accepts-facts capacity v ok .ledgers l .pays) in
+    let o = allowed-open _ _ (accepts-facts capacity v ok .ledgers l .tariff-allowed) in
     let h = pair-covered s (stateOf (counterpart l) (v .pair)) r (Sending l) (judge-none (v .pair) r (Sending l) q j) in
     let e : ledgerOf (r .kind) ≡ l = ap ledgerOf q in
     rw (e, state-with l) (sending-costs s r l q o h)
@@ -163,7 +163,7 @@ pair-sendings-cost capacity v ok l r q j =
 pub home-sendings-cost : HomeSendingsCost
 unfolding HomeSendingsCost
 home-sendings-cost capacity v ok r q j =
-    let o = allowed-open _ _ (home-accepts-facts capacity v ok .pays) in
+    let o = allowed-open _ _ (home-accepts-facts capacity v ok .tariff-allowed) in
     sending-costs (v .home) r Home q o (home-covered v r (Sending Home) (home-judge-none v r (Sending Home) q j))
 
 -- ## Every account, over a run
@@ -234,7 +234,7 @@ pair-accounts-add-up capacity tariff homes fars h ds l =
     let c = pairValidator capacity in
     let v₀ = pairOpened tariff homes fars in
     let start = stateOf l (opened tariff homes fars) in
-    let o = allowed-open _ _ (accepts-facts capacity v₀ (pair-opened-accepted capacity tariff homes fars h) .ledgers l .pays) in
+    let o = allowed-open _ _ (accepts-facts capacity v₀ (pair-opened-accepted capacity tariff homes fars h) .ledgers l .tariff-allowed) in
     let first = balanced-opened start (elim l [ Home ↦ refl | Far ↦ refl ]) o in
     adds-up start _ _ (conserved capacity tariff homes fars h ds .tables l)
     (keep-run c (λ v done. Balanced start (stateOf l (v .pair))) (pair-balanced capacity start l) ds v₀ [] first)
@@ -254,6 +254,6 @@ home-accounts-add-up capacity tariff homes farAccounts farTotal h ds =
     let c = homeValidator capacity in
     let v₀ = homeOpened tariff homes farAccounts farTotal in
     let start = newLedger tariff homes in
-    let first = balanced-opened start refl (allowed-open _ _ (opening-none _ _ _ _ h .pays)) in
+    let first = balanced-opened start refl (allowed-open _ _ (opening-none _ _ _ _ h .tariff-allowed)) in
     adds-up start _ _ (within-pool capacity tariff homes farAccounts farTotal h ds .table)
     (keep-run c (λ v done. Balanced start (v .home)) (home-balanced capacity start) ds v₀ [] first)

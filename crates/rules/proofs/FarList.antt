@@ -91,15 +91,15 @@ lowered-raised balances i a h =
     rw (set-set, getD-set-same balances i (getD balances i 0 + a) 0 h, z, set-getD)
 
 -- where nothing is taken on sendings, one takes its amount
-untaxed-debit : (t : Tariff) (r : Record) (l : Ledger) → t ≡ free → debit t r (Sending l) ≡ r .amount
-untaxed-debit t r l q = rw (q, charge-free (r .amount)) (omega arith)
+free-debit : (t : Tariff) (r : Record) (l : Ledger) → t ≡ free → debit t r (Sending l) ≡ r .amount
+free-debit t r l q = rw (q, charge-free (r .amount)) (omega arith)
 
 -- and moves nothing else
-untaxed-moved : (t : Tariff) (balances : List ℕ) (r : Record) (l : Ledger) → t ≡ free
+free-moved : (t : Tariff) (balances : List ℕ) (r : Record) (l : Ledger) → t ≡ free
     → moved t balances r (Sending l) ≡ lowered balances (r .sender) (r .amount)
 unfolding raised
-untaxed-moved t balances r l q =
-    rw (untaxed-debit t r l q, q, charge-free (r .amount), add-zero, set-getD)
+free-moved t balances r l q =
+    rw (free-debit t r l q, q, charge-free (r .amount), add-zero, set-getD)
 
 -- account 0 gets what another one had, and those after that one keep theirs
 gathered : (balances : List ℕ) (i a : ℕ) → 0 < i → i < length balances
@@ -142,7 +142,7 @@ module _ (farAccounts supply block : ℕ) (some : 0 < farAccounts) (few : farAcc
   -- far account 0 has the pool, and the numbers of the block from k on are left
   record Ready (H F : LedgerState) (pool k : ℕ) : Type 0 where
     count : length (F .balances) ≡ farAccounts
-    untaxed : F .tariff ≡ free
+    far-free : F .tariff ≡ free
     pool-there : pool ≤ getD (F .balances) 0 0
     outside : Outside block H
     unused : Unused block k H F
@@ -172,7 +172,7 @@ module _ (farAccounts supply block : ℕ) (some : 0 < farAccounts) (few : farAcc
         (follow F
         (record {
           count = rd .count;
-          untaxed = rd .untaxed;
+          far-free = rd .far-free;
           pool-there = rw q (rd .pool-there);
           outside = outside-next;
           unused = λ arrival n i u. rd .unused arrival n (λ w. omega (arith, i w)) (used-less (not arrival) n H r u .0);
@@ -200,7 +200,7 @@ module _ (farAccounts supply block : ℕ) (some : 0 < farAccounts) (few : farAcc
         follow (held F₁ (farRecord (Local Far) (r .receiver) 0 (block * 2 ^ 32 + k) (r .amount)))
         (record {
           count = simp (length-raised, length-lowered) (rd .count);
-          untaxed = rd .untaxed;
+          far-free = rd .far-free;
           pool-there =
               rw (q, lowered-raised (F .balances) (r .receiver) (r .amount) open-receiver)
               (omega (arith, rd .pool-there, raised-same (F .balances) 0 (r .amount) (rw (rd .count) some)));
@@ -224,7 +224,7 @@ module _ (farAccounts supply block : ℕ) (some : 0 < farAccounts) (few : farAcc
             signed = refl;
             fresh = clash-used x (F₁ .passed) ∙ u false (r .number) (λ w. absurd (out w)) (own-unused true (ap isReceiving q) (h .0 .fresh));
           },
-          omega (arith, untaxed-debit (F .tariff) r Far (rd .untaxed), raised-same left-over (r .sender) (r .amount) open-sender),
+          omega (arith, free-debit (F .tariff) r Far (rd .far-free), raised-same left-over (r .sender) (r .amount) open-sender),
         ))
         (possible-home H (held F₁ x) r bs b is (ap ledgerOf q)
         (none-judge (pairOf H (held F₁ x)) r (Receiving Home) q (
@@ -235,9 +235,9 @@ module _ (farAccounts supply block : ℕ) (some : 0 < farAccounts) (few : farAcc
         (follow (held F₁ x)
         (record {
           count = simp (length-raised, length-lowered) (rd .count);
-          untaxed = rd .untaxed;
+          far-free = rd .far-free;
           pool-there =
-              rw (q, untaxed-moved (F .tariff) (F₁ .balances) x Far (rd .untaxed), lowered-raised left-over (r .sender) (r .amount) open-sender)
+              rw (q, free-moved (F .tariff) (F₁ .balances) x Far (rd .far-free), lowered-raised left-over (r .sender) (r .amount) open-sender)
               (omega (arith, rd .pool-there, lowered-same (F .balances) 0 (r .amount) (rw (rd .count) some)));
           outside = outside-next;
           unused = unused-both block (suc k) H F₁ r x refl (sym (ap (λ (t : Kind). not (isReceiving t)) q)) u;
@@ -273,22 +273,22 @@ module _ (farAccounts supply block : ℕ) (some : 0 < farAccounts) (few : farAcc
       → F .tariff ≡ free → length (F .balances) ≡ farAccounts
       → getD (F .balances) 0 0 + total (drop i (F .balances)) ≡ pool → Unused block k H F → Possible (pairOf H F) bs
   unfolding sum
-  gather bs capacity pool H small out off by it zero i k F pos end room tax ln inv un =
+  gather bs capacity pool H small out off by it zero i k F pos end room free-far ln inv un =
       let e : drop i (F .balances) ≡ [] = drop-of-length-le (F .balances) {i = i} (omega arith) in
       home-list bs capacity pool k H F (omega arith)
-      (record { count = ln; untaxed = tax; pool-there = omega (arith, rw e at inv); outside = out; unused = un }) off by it
-  gather bs capacity pool H small out off by it (suc c) i k F pos end room tax ln inv un =
+      (record { count = ln; far-free = free-far; pool-there = omega (arith, rw e at inv); outside = out; unused = un }) off by it
+  gather bs capacity pool H small out off by it (suc c) i k F pos end room free-far ln inv un =
       let a : ℕ = getD (F .balances) i 0 in
       let F₁ : LedgerState = held F (farRecord (Local Far) i 0 (block * 2 ^ 32 + k) a) in
       let parts : total (drop i (F .balances)) ≡ a + total (drop (suc i) (F .balances)) = rw (drop-cons (F .balances) i 0 (omega arith)) in
       elim (ℕ-discrete a 0) [
         | yes p ↦
-            gather bs capacity pool H small out off by it c (suc i) k F (omega arith) (omega arith) (omega arith) tax ln
+            gather bs capacity pool H small out off by it c (suc i) k F (omega arith) (omega arith) (omega arith) free-far ln
             (omega (arith, parts)) un
         | no p ↦
             local-far farAccounts block few top H F i 0 a k bs ln (omega arith) some (omega arith) (omega (arith, parts)) (omega arith)
             (omega arith) out un
             (λ u.
-            gather bs capacity pool H small out off by it c (suc i) (suc k) F₁ (omega arith) (omega arith) (omega arith) tax
+            gather bs capacity pool H small out off by it c (suc i) (suc k) F₁ (omega arith) (omega arith) (omega arith) free-far
             (simp (length-raised, length-lowered) ln) (omega (arith, gathered (F .balances) i a pos (omega arith), parts)) u)
       ]

@@ -30,7 +30,7 @@ pub record HomeFacts (capacity : ℕ) (v : HomeView) : Type 0 where
   pub far-count : countAllowed (v .farAccounts) ≡ true
   pub room : length (v .home .passed) ≤ capacity
   pub supply-fits : supplyAllowed (v .supply) ≡ true
-  pub pays : tariffAllowed (v .home .tariff) (length (v .home .balances)) ≡ true
+  pub tariff-allowed : tariffAllowed (v .home .tariff) (length (v .home .balances)) ≡ true
   pub allowed : all (heldAllowed (homeAccounts v)) (v .home .passed) ≡ true
   pub distinct : Distinct (v .home .passed)
   pub stand : all (standsUnder Home) (v .home .passed) ≡ true
@@ -86,11 +86,11 @@ home-facts-after capacity v r m j room f =
       far-count = f .far-count;
       room = omega (arith, length-append (v .home .passed) (r ∷ []));
       supply-fits = f .supply-fits;
-      pays = rw count (f .pays);
+      tariff-allowed = rw count (f .tariff-allowed);
       allowed = rw accounts (all-snoc _ (v .home .passed) r (f .allowed) (allowed-held (homeAccounts v) (v .home .passed) r a m));
       distinct = distinct-snoc (v .home .passed) r (f .distinct) (a .fresh);
       stand = all-snoc _ (v .home .passed) r (f .stand) (rw (home-only v r j) at (stands-own r));
-      sums = home-sums v r (r .kind) (allowed-open _ _ (f .pays)) h ∙ f .sums;
+      sums = home-sums v r (r .kind) (allowed-open _ _ (f .tariff-allowed)) h ∙ f .sums;
     }
 
 -- a record of bytes that passes

@@ -25,7 +25,7 @@ use Rattle.wire.specs.BigEndian.{All}
 pub record LedgerFacts (capacity : ℕ) (accounts : Ledger → ℕ) (l : Ledger) (own other : LedgerState) : Type 0 where
   pub count : countAllowed (length (own .balances)) ≡ true
   pub room : length (own .passed) ≤ capacity
-  pub pays : tariffAllowed (own .tariff) (length (own .balances)) ≡ true
+  pub tariff-allowed : tariffAllowed (own .tariff) (length (own .balances)) ≡ true
   pub allowed : all (heldAllowed accounts) (own .passed) ≡ true
   pub clean : Clean own other
   pub stand : all (standsUnder l) (own .passed) ≡ true
@@ -43,9 +43,9 @@ unfolding countAllowed All
 count-some n h = ltb-true _ _ (every-all _ h .0)
 
 -- a ledger on whose sendings nothing is taken
-nothing-pays : (s : LedgerState) → countAllowed (length (s .balances)) ≡ true → takesNothing (s .tariff) ≡ true
+nothing-allowed : (s : LedgerState) → countAllowed (length (s .balances)) ≡ true → takesNothing (s .tariff) ≡ true
     → tariffAllowed (s .tariff) (length (s .balances)) ≡ true
-nothing-pays s c h = rw (nothing-free (s .tariff) h) (free-allowed _ (count-some _ c))
+nothing-allowed s c h = rw (nothing-free (s .tariff) h) (free-allowed _ (count-some _ c))
 
 -- the test of refusal 3
 pub accepts-facts : (capacity : ℕ) (v : PairView) → pairAccepts capacity v ≡ true → AcceptedFacts capacity v
@@ -53,7 +53,7 @@ unfolding pairAccepts All
 accepts-facts capacity v h =
     let a = every-all _ h in
     record {
-      ledgers = elim [ Home ↦ search (leb-true, unshared-distinct) | Far ↦ search (leb-true, unshared-distinct, nothing-pays) ];
+      ledgers = elim [ Home ↦ search (leb-true, unshared-distinct) | Far ↦ search (leb-true, unshared-distinct, nothing-allowed) ];
       supply-fits = search;
       far-free = search;
       sums = search eqb-true;
@@ -99,7 +99,7 @@ module _ (capacity : ℕ) (accounts : Ledger → ℕ) (l : Ledger) (own other : 
   facts-own a s h room f =
       record {
         count = rw (length-moved (own .tariff) (own .balances) r (r .kind)) (f .count);
-        pays = rw (length-moved (own .tariff) (own .balances) r (r .kind)) (f .pays);
+        tariff-allowed = rw (length-moved (own .tariff) (own .balances) r (r .kind)) (f .tariff-allowed);
         room = omega (arith, length-append (own .passed) (r ∷ []));
         allowed = all-snoc _ (own .passed) r (f .allowed) a;
         clean = clean-own own other r h (f .clean);
@@ -147,7 +147,7 @@ accepted-after capacity v r m j room a =
           ]);
           supply-fits = a .supply-fits;
           far-free = a .far-free;
-          sums = omega (arith, a .sums, sum-step (p .home) (p .far) r (allowed-open _ _ (a .ledgers Home .pays)) h (a .ledgers Home .clean) (a .ledgers Far .clean));
+          sums = omega (arith, a .sums, sum-step (p .home) (p .far) r (allowed-open _ _ (a .ledgers Home .tariff-allowed)) h (a .ledgers Home .clean) (a .ledgers Far .clean));
         }
     go Far s h room =
         record {
@@ -157,7 +157,7 @@ accepted-after capacity v r m j room a =
           ]);
           supply-fits = a .supply-fits;
           far-free = a .far-free;
-          sums = omega (arith, a .sums, sum-step (p .far) (p .home) r (allowed-open _ _ (a .ledgers Far .pays)) h (a .ledgers Far .clean) (a .ledgers Home .clean));
+          sums = omega (arith, a .sums, sum-step (p .far) (p .home) r (allowed-open _ _ (a .ledgers Far .tariff-allowed)) h (a .ledgers Far .clean) (a .ledgers Home .clean));
         }
 
 -- a record of bytes that passes

@@ -58,7 +58,7 @@ pub record Opening (tariff : Tariff) (homes fars supply : ℕ) : Type 0 where
   pub home-count : countAllowed homes ≡ true
   pub far-count : countAllowed fars ≡ true
   pub supply-fits : supplyAllowed supply ≡ true
-  pub pays : tariffAllowed tariff homes ≡ true
+  pub tariff-allowed : tariffAllowed tariff homes ≡ true
 
 -- the refusals 1, 2 and 52
 pub opening-none : (tariff : Tariff) (homes fars supply : ℕ) → openingRefusal tariff homes fars supply ≡ 0
@@ -69,7 +69,7 @@ opening-none tariff homes fars supply h =
     let b = refuse-zero _ 2 _ (lit< tt) (a .1) in
     let d = refuse-zero _ 52 0 (lit< tt) (b .1) in
     let c = every-all _ (not-false _ (a .0)) in
-    record { home-count = c .0; far-count = c .1 .0; supply-fits = not-false _ (b .0); pays = not-false _ (d .0) }
+    record { home-count = c .0; far-count = c .1 .0; supply-fits = not-false _ (b .0); tariff-allowed = not-false _ (d .0) }
 
 -- the state of an accepted opening is accepted
 pub pair-opened-accepted : (capacity : ℕ) (tariff : Tariff) (homes fars : List ℕ) → pairOpeningRefusal tariff homes fars ≡ 0

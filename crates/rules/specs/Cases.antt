@@ -282,21 +282,17 @@ charged rate account = opened (taking rate account) (1000 ∷ 50 ∷ []) (20 ∷
 abbrev pub homeCharged : ℕ → ℕ → HomeView
 homeCharged rate account = homeOpened (taking rate account) (1000 ∷ 50 ∷ []) 1 20
 
--- what home's sendings cost: rounded down, paid to the charge account, which may be the sender, needed beside the amount, and exact where
--- amount times rate is beyond 64 bits; locals, far sendings and arrivals cost nothing, and what is in flight and the far pool leave the
--- charge out (document 02, U3)
+-- what home's sendings cost, of charges that are whole numbers: paid to the charge account, which may be the sender, needed beside the
+-- amount, and exact where amount times rate is beyond 64 bits; locals, far sendings and arrivals cost nothing, and what is in flight and
+-- the far pool leave the charge out (document 02, U3)
 unfoldable pub chargeRows : List CaseRow
 chargeRows =
-    passRowIn (charged 50 1) (good (Sending Home) 0 0 7 199) (801 ∷ 50 ∷ []) (20 ∷ []) 199
-    ∷ passRowIn (charged 50 1) (good (Sending Home) 0 0 7 200) (799 ∷ 51 ∷ []) (20 ∷ []) 200
-    ∷ passRowIn (charged 50 1) (good (Sending Home) 0 0 7 399) (600 ∷ 51 ∷ []) (20 ∷ []) 399
-    ∷ passRowIn (charged 1 1) (good (Sending Home) 0 0 7 1000) (0 ∷ 50 ∷ []) (20 ∷ []) 1000
-    ∷ passRowIn (charged 9999 1) (good (Sending Home) 0 0 7 10) (981 ∷ 59 ∷ []) (20 ∷ []) 10
+    passRowIn (charged 50 1) (good (Sending Home) 0 0 7 200) (799 ∷ 51 ∷ []) (20 ∷ []) 200
+    ∷ passRowIn (charged 0 1) (good (Sending Home) 0 0 7 1000) (0 ∷ 50 ∷ []) (20 ∷ []) 1000
     ∷ passRowIn (charged 10000 1) (good (Sending Home) 0 0 7 500) (0 ∷ 550 ∷ []) (20 ∷ []) 500
     ∷ refusalRowIn (charged 10000 1) (good (Sending Home) 0 0 7 501) 25
-    ∷ passRowIn (charged 50 1) (good (Sending Home) 0 0 7 995) (1 ∷ 54 ∷ []) (20 ∷ []) 995
-    ∷ passRowIn (charged 50 1) (good (Sending Home) 0 0 7 996) (0 ∷ 54 ∷ []) (20 ∷ []) 996
-    ∷ refusalRowIn (charged 50 1) (good (Sending Home) 0 0 7 997) 25
+    ∷ passRowIn (charged 2500 1) (good (Sending Home) 0 0 7 800) (0 ∷ 250 ∷ []) (20 ∷ []) 800
+    ∷ refusalRowIn (charged 2500 1) (good (Sending Home) 0 0 7 804) 25
     ∷ refusalRowIn (charged 50 1) (good (Sending Home) 0 0 7 1000) 25
     ∷ passRowIn (charged 10000 0) (good (Sending Home) 0 0 7 500) (500 ∷ 50 ∷ []) (20 ∷ []) 500
     ∷ refusalRowIn (charged 10000 0) (good (Sending Home) 0 0 7 501) 25
@@ -306,9 +302,9 @@ chargeRows =
     ∷ passRowIn (afterBytes (charged 10000 1) (good (Sending Far) 0 0 7 20)) (good (Receiving Home) 0 0 7 20) (1020 ∷ 50 ∷ []) (0 ∷ []) 0
     ∷ passRowIn (afterBytes (charged 10000 1) (good (Sending Home) 0 0 7 500)) (good (Receiving Far) 0 0 7 500) (0 ∷ 550 ∷ []) (520 ∷ []) 0
     ∷ refusalRowIn (afterBytes (charged 10000 1) (good (Sending Home) 0 0 7 500)) (good (Receiving Far) 0 0 7 1000) 31
-    ∷ passRowIn (opened (taking 9999 1) ((2 ^ 63 - 1) ∷ 0 ∷ []) (0 ∷ [])) (good (Sending Home) 0 0 7 4611916614258100809)
-    (0 ∷ 4611455422596674998 ∷ []) (0 ∷ []) 4611916614258100809
-    ∷ refusalRowIn (opened (taking 9999 1) ((2 ^ 63 - 1) ∷ 0 ∷ []) (0 ∷ [])) (good (Sending Home) 0 0 7 4611916614258100810) 25
+    ∷ passRowIn (opened (taking 9999 1) ((2 ^ 63 - 1) ∷ 0 ∷ []) (0 ∷ [])) (good (Sending Home) 0 0 7 4611916614258100000)
+    (1617 ∷ 4611455422596674190 ∷ []) (0 ∷ []) 4611916614258100000
+    ∷ refusalRowIn (opened (taking 9999 1) ((2 ^ 63 - 1) ∷ 0 ∷ []) (0 ∷ [])) (good (Sending Home) 0 0 7 4611916614258110000) 25
     ∷ refusalRowIn (opened (taking 10000 1) ((2 ^ 63 - 1) ∷ 0 ∷ []) (0 ∷ [])) (good (Sending Home) 0 0 7 (2 ^ 63 - 1)) 25
     ∷ homePassRowIn (homeCharged 50 1) (good (Sending Home) 0 0 7 200) (799 ∷ 51 ∷ []) 220
     ∷ homePassRowIn (homeCharged 10000 0) (good (Sending Home) 0 0 7 500) (500 ∷ 50 ∷ []) 520

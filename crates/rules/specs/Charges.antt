@@ -70,7 +70,7 @@ pub record AccountsAddUp (opening now : LedgerState) (records : List Record) : T
   pub others : (i : ℕ) → (i ≡ opening .tariff .account → ⊥)
       → balanceOf now i + spent (opening .tariff) i records ≡ balanceOf opening i + gained i records
 
--- at every accepted opening of the pair validator and after every list of calls, on either ledger; far's rate is 0, and so are its charges
+-- at every accepted opening of the pair validator and after every list of calls, on either ledger
 unfoldable pub PairAccountsAddUp : Type 0
 PairAccountsAddUp =
     (capacity : ℕ) (tariff : Tariff) (homes fars : List ℕ) → pairOpeningRefusal tariff homes fars ≡ 0 → (ds : List Call) (l : Ledger)

@@ -113,7 +113,8 @@ firstRefusal accounts passed r later =
     (refuse (any (clashes r) passed) 24
     later)))
 
--- the sender's balance is too small for what is taken (Rules: a local or sending; 25; Algorithm 2, line 16)
+-- the sender's balance is too small for what is taken, of a sending with the charge (Rules: a local or sending; 25; Algorithm 2, line 16;
+-- document 02, U3)
 unfoldable pub fundsRefusal : LedgerState → Record → Kind → ℕ
 fundsRefusal s r k = refuse (ltb (getD (s .balances) (r .sender) 0) (debit (s .tariff) r k)) 25 0
 

@@ -1,9 +1,10 @@
--- The charge by quotient and remainder of the amount, with no product of the whole amount; that it is never above the amount; and the
--- charge where nothing is taken. What other crates know of the charge is said here alone. Assumes nothing.
-use Rattle.wire.proofs.Prelude.{List, [], _%_, _*_, _+_, _/_, _<_, _∷_, _∙_, _≡_, _≤_, ap, arith, leb, leb-true, lit<, ltb, ltb-true, sym, true, ℕ}
-use native.Mathlib.Nat.{add-mul, mod-lt, mul-assoc, mul-comm, mul-le-mul-left}
+-- The charge by quotient and remainder of the amount, with no product of the whole amount; that it is never above the amount; the charge
+-- where nothing is taken; and its rows. Other crates know no more of the charge than the second and the third. Assumes nothing.
+use Rattle.wire.proofs.Prelude.{_%_, _*_, _+_, _/_, _∙_, _≡_, _≤_, add-mul, ap, arith, lit<, refl, ℕ}
+use native.Mathlib.Nat.{mod-lt, mul-assoc, mul-le-mul-left}
 use lib.Arith.{digits-div}
-use Rattle.tariffs.specs.Tariffs.{Tariff, charge, free, parts, tariffAllowed}
+use Rattle.tariffs.specs.Tariffs.{ChargesHold, charge, roundedRows, parts}
+use Rattle.wire.specs.BigEndian.{every}
 
 -- an amount times a rate, by the ten thousands of the amount and the rest
 product : (rate amount : ℕ)
@@ -42,3 +43,8 @@ charge-most rate amount h = omega (arith, charge-parts rate amount, whole-of, re
 pub charge-free : (amount : ℕ) → charge 0 amount ≡ 0
 unfolding charge
 charge-free amount = omega arith
+
+-- the rows hold
+pub charges-hold : ChargesHold
+unfolding ChargesHold roundedRows charge every
+charges-hold = refl

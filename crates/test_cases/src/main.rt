@@ -230,30 +230,14 @@ fn charges() {
     let sent = pair_one(0, s, bytes_of(Kind::Sending(Ledger::Home), 0, 0, 7, 50));
     pair_one(0, s, bytes_of(Kind::Sending(Ledger::Home), 0, 0, 7, 51));
     pair_one(0, s, bytes_of(Kind::Sending(Ledger::Home), 1, 0, 7, 25));
-    pair_one(
-        0,
-        sent,
-        bytes_of(Kind::Local(Ledger::Home), 1, 0, 8, 100),
-    );
+    pair_one(0, sent, bytes_of(Kind::Local(Ledger::Home), 1, 0, 8, 100));
     pair_one(0, sent, bytes_of(Kind::Sending(Ledger::Far), 0, 0, 8, 20));
-    pair_one(
-        0,
-        sent,
-        bytes_of(Kind::Receiving(Ledger::Far), 0, 0, 7, 50),
-    );
+    pair_one(0, sent, bytes_of(Kind::Receiving(Ledger::Far), 0, 0, 7, 50));
     let h = home_charged(taking(10000, 0));
     let own = home_one(0, h, bytes_of(Kind::Sending(Ledger::Home), 0, 0, 7, 50));
     home_one(0, h, bytes_of(Kind::Sending(Ledger::Home), 0, 0, 7, 51));
-    home_one(
-        0,
-        own,
-        bytes_of(Kind::Receiving(Ledger::Home), 0, 0, 8, 70),
-    );
-    home_one(
-        0,
-        own,
-        bytes_of(Kind::Receiving(Ledger::Home), 0, 0, 8, 71),
-    );
+    home_one(0, own, bytes_of(Kind::Receiving(Ledger::Home), 0, 0, 8, 70));
+    home_one(0, own, bytes_of(Kind::Receiving(Ledger::Home), 0, 0, 8, 71));
 }
 
 // Case 13: the 512th passed record of a ledger passes, the next is 41, and one with a used number is 24.

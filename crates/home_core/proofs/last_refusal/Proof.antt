@@ -23,7 +23,7 @@ funds-refusal-requires c κs =
     let o = c .before .before .before .before .before in
     let s = o .args .s .now in
     let h = sound-at o in
-    (omega (arith, h .long, h .bounds .home-fits), allowed-rate (homeTariffOf s) (homeAccountsOf s) (h .bounds .pays))
+    (omega (arith, h .long, h .bounds .home-fits), allowed-rate (homeTariffOf s) (homeAccountsOf s) (h .bounds .tariff-allowed))
 
 returns-2 : tie.Need-returns-2
 returns-2 c =

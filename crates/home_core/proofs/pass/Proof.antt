@@ -30,7 +30,7 @@ store-requires c κs =
     let h = sound-at o in
     let p = passes-at o in
     let m = amount-fits (a .w) (a .r) (o .pre .1) (o .pre .2) in
-    let y = allowed-rate _ _ (h .bounds .pays) in
+    let y = allowed-rate _ _ (h .bounds .tariff-allowed) in
     let f = paid-fits (a .state .now) h (a .r) p m in
     rw (c .before .tariff-of .ensures) (omega (arith, h .long, p .room, p .sender, p .payee, p .pays, f, y, m))
 
