@@ -215,15 +215,15 @@ static const uint8_t *payment(uint64_t number, uint64_t amount)
 }
 
 /* A payment of ours to far account 0. Before it is signed it shows what leaves our account, which is the amount and home's charge on it,
-   and the most that what we have allows. */
+   and what we have. */
 static void pay_out(const char *path, moatbetony_home_t *state, const char *label, uint64_t number, uint64_t amount)
 {
     moatbetony_balance_t ours = moatbetony_home_balance(*state, OURS);
-    uint64_t charge = moatbetony_charge(state->rate, amount);
+    moatbetony_charge_t told = moatbetony_charge(state->rate, amount);
     must(ours.answer.passed, "no balance of ours");
-    printf("%s: costs %llu with its charge of %llu; we have %llu, for %llu at most\n", label, (unsigned long long)(amount + charge),
-        (unsigned long long)charge, (unsigned long long)ours.balance,
-        (unsigned long long)moatbetony_most_to_send(state->rate, ours.balance));
+    must(told.answer.passed, "no charge at such a rate");
+    printf("%s: costs %llu with its charge of %llu; we have %llu\n", label, (unsigned long long)(amount + told.charge),
+        (unsigned long long)told.charge, (unsigned long long)ours.balance);
     serve(path, state, label, wire(MOATBETONY_SENDING, MOATBETONY_HOME, OURS, 0, number, amount), 32, 1);
 }
 

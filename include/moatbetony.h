@@ -14,8 +14,9 @@
  *     else puts(moatbetony_refusal_text(answer.number));
  *
  * ARGUMENTS   The state comes first, then bytes with their length, then numbers: a record's fields in the order of its format; of a
- *             block its number, the count before, the place; of an opening, last, rate and charge account. The writer alone has output,
- *             number, kind, rate, charge account and then the items. A length counts items: bytes, or numbers of 64 bits.
+ *             block its number, the count before, the place; of an opening, last, rate and charge account; of a charge rate and amount.
+ *             The writer alone has output, number, kind, rate, charge account and then the items. A length counts items: bytes, or
+ *             numbers of 64 bits.
  * SIGNATURES  are not checked here. Byte 24 of a record says what the caller's own check of its signature found (1 good, 0 bad). Write
  *             it yourself, over whatever came in, before the record is handed in: a record whose byte 24 its sender wrote is one that
  *             nobody has checked.
@@ -31,8 +32,9 @@
  *             takes both; the charge account gets the charge at once, the far receiver later the amount alone. The charge account may send
  *             too: it needs and pays both, and then gets the charge. Locals, arrivals and far sendings cost nothing more than their
  *             amount. The charge stays at home: the record's amount, what is in flight and the far pool leave it out. Before a holder
- *             signs a sending, show the amount, the charge (moatbetony_charge) and their sum, which leaves the account; the most that can
- *             be sent from a balance is moatbetony_most_to_send.
+ *             signs a sending, ask moatbetony_charge for the charge, and show the amount, the charge and their sum, which leaves the
+ *             account. Ask the library each time, and work no charge out: how it is rounded is the library's. There is no call for the
+ *             most that a balance allows: on 25 try a smaller amount.
  * PLACES      A validator holds MOATBETONY_CAPACITY passed records of a ledger, and then passes no further one (41): no record makes
  *             room again. Ask moatbetony_pair_places_left or moatbetony_home_places_left before each record, so that you see 41 coming:
  *             warn while there is time for the networks to make a new opening, and close the desk with no place left. Beside a refused
@@ -68,8 +70,8 @@
  * REFUSALS    A number keeps its subject and is never given to another. When it is given may change with the rules of a later version,
  *             and a later version may add numbers, also for a part of what an older one told; CHANGELOG.md names each. So take every
  *             answer without `passed` as a refusal, its number known or not (REFUSALS.md of the documentation).
- * PROOFS      cover the library's functions, the calls in place among them, for every input. They do not cover this header, its helpers
- *             (the refusals' texts, what a sending costs) or the caller's code.
+ * PROOFS      cover the library's functions, the calls in place among them, for every input. They do not cover this header, its helper
+ *             (the refusals' texts) or the caller's code.
  */
 #ifndef MOATBETONY_H
 #define MOATBETONY_H
@@ -288,6 +290,12 @@ typedef struct moatbetony_encoded {
     uint8_t bytes[32];
 } moatbetony_encoded_t;
 
+/* The charge on an amount. */
+typedef struct moatbetony_charge {
+    moatbetony_answer_t answer;
+    uint64_t charge;
+} moatbetony_charge_t;
+
 /* Where a record stands in its block: `length` bytes from `start` on. */
 typedef struct moatbetony_part {
     moatbetony_answer_t answer;
@@ -414,6 +422,13 @@ MOATBETONY_MUST_USE moatbetony_record_t moatbetony_record_read(const uint8_t *by
 MOATBETONY_MUST_USE moatbetony_encoded_t moatbetony_record_encode(
     uint8_t kind, uint8_t ledger, uint16_t sender, uint16_t receiver, uint64_t number, uint64_t amount, uint8_t verdict);
 
+/* ## The charge */
+
+/* The charge on an amount that leaves home, at a rate: the rate's ten-thousandths of the amount, rounded down. A home sending of it takes
+   amount and charge from its sender; of an amount that a record can have, their sum stays within 64 bits. Every amount is taken, also one
+   that no record can have. Answers 52 where the rate is above MOATBETONY_MAX_RATE, place 0, with charge 0. */
+MOATBETONY_MUST_USE moatbetony_charge_t moatbetony_charge(uint64_t rate, uint64_t amount);
+
 /* ## The journal
    Blocks of 512 bytes. `number` is that of the block that is wanted, from 0. `before` is the count of items of the block before it; it
    is not looked at for blocks 0 to 2. The place of every refusal is `number`. A missing block is one of length 0. Block 0 has the rate in
@@ -451,21 +466,7 @@ MOATBETONY_MUST_USE moatbetony_answer_t moatbetony_block_write(
 /* The SHA-256 digest of a message (FIPS 180-4). */
 MOATBETONY_MUST_USE moatbetony_digest_t moatbetony_sha256(const uint8_t *message, size_t message_len);
 
-/* ## Helpers in C, outside the proofs */
-
-/* The charge on a home sending: the rate's ten-thousandths of the amount, rounded down. Exact for every amount and a rate of 0 to
-   10,000, with no product beyond 64 bits. The sending takes the amount and this from its sender. */
-static inline uint64_t moatbetony_charge(uint64_t rate, uint64_t amount)
-{
-    return amount / 10000 * rate + amount % 10000 * rate / 10000;
-}
-
-/* The most that can be sent from a balance of home: this amount and its charge are not above the balance, and of one more they are. For
-   a rate of 0 to 10,000, as every state has that is not refused. */
-static inline uint64_t moatbetony_most_to_send(uint64_t rate, uint64_t balance)
-{
-    return balance / (10000 + rate) * 10000 + (balance % (10000 + rate) * 10000 + 9999) / (10000 + rate);
-}
+/* ## A helper in C, outside the proofs */
 
 /* A short text for an answer's number, never NULL. That of 0 does not say that the call passed: `passed` alone does. */
 static inline const char *moatbetony_refusal_text(uint32_t number)
@@ -557,6 +558,8 @@ MOATBETONY_ASSERT(offsetof(moatbetony_record_t, amount) == 32);
 MOATBETONY_ASSERT(offsetof(moatbetony_record_t, verdict) == 40);
 MOATBETONY_ASSERT(sizeof(moatbetony_encoded_t) == 48);
 MOATBETONY_ASSERT(offsetof(moatbetony_encoded_t, bytes) == 16);
+MOATBETONY_ASSERT(sizeof(moatbetony_charge_t) == 24);
+MOATBETONY_ASSERT(offsetof(moatbetony_charge_t, charge) == 16);
 MOATBETONY_ASSERT(sizeof(moatbetony_part_t) == 32);
 MOATBETONY_ASSERT(offsetof(moatbetony_part_t, start) == 16);
 MOATBETONY_ASSERT(offsetof(moatbetony_part_t, length) == 24);

@@ -1341,16 +1341,25 @@ static void tariffs(void)
     ANSWER(moatbetony_home_open(NUMBERS(many, 55), 56, 0, 10000, 55).answer, 52, 0);
 }
 
-/* What is sent at most from a balance of account 0, with account 1 paid: by the helpers, and by both validators. */
+/* What the call tells of the charge on an amount. */
+static void charge_is(uint64_t rate, uint64_t amount, uint32_t number, uint64_t charge, int line)
+{
+    moatbetony_charge_t told = moatbetony_charge(rate, amount);
+    check_answer(told.answer, number, 0, line);
+    check(told.charge == charge, "the charge", line);
+}
+
+#define CHARGE(rate, amount, number, charge) charge_is(rate, amount, number, charge, __LINE__)
+
+/* What is sent at most from a balance of account 0, with account 1 paid: by the call that tells the charge, and by both validators. */
 static void most_sent(uint64_t rate, uint64_t balance, uint64_t most, uint64_t charge, int line)
 {
     uint64_t homes[2] = {0, 0};
     moatbetony_pair_t pair;
     moatbetony_home_t home;
     homes[0] = balance;
-    check(moatbetony_most_to_send(rate, balance) == most, "the most to send", line);
-    check(moatbetony_charge(rate, most) == charge, "the charge", line);
-    check(most + charge <= balance && most + 1 + moatbetony_charge(rate, most + 1) > balance, "and no more", line);
+    charge_is(rate, most, 0, charge, line);
+    check(most + charge <= balance && most + 1 + moatbetony_charge(rate, most + 1).charge > balance, "and no more", line);
     pair = moatbetony_pair_open(NUMBERS(homes, 2), NUMBERS(homes + 1, 1), rate, 1).state;
     home = moatbetony_home_open(NUMBERS(homes, 2), 1, 0, rate, 1).state;
     pair_one(&pair, sending(0, 0, 0, 1, most + 1), most == MAX ? 21 : 25, line);
@@ -1392,10 +1401,35 @@ static void exact_charges(void)
     MOST(50, MAX, UINT64_C(9177484613785846575), UINT64_C(45887423068929232));
     MOST(9999, MAX, UINT64_C(4611916614258100809), UINT64_C(4611455422596674998));
     MOST(10000, MAX, UINT64_C(4611686018427387903), UINT64_C(4611686018427387903));
-    CHECK(moatbetony_charge(10000, UINT64_MAX) == UINT64_MAX);
-    CHECK(moatbetony_charge(9999, UINT64_MAX) == UINT64_C(18444899399302180659));
-    CHECK(moatbetony_most_to_send(0, UINT64_MAX) == UINT64_MAX);
-    CHECK(moatbetony_most_to_send(10000, UINT64_MAX) == UINT64_MAX / 2);
+}
+
+/* The charge on every amount, also on one that no record has, and 52 for a rate above 10,000, with no charge beside it. */
+static void charges_told(void)
+{
+    static const uint64_t amounts[] = {0, 1, 10000, MAX, MAX + 1, UINT64_MAX};
+    static const uint64_t too_high[] = {10001, 10002, 65536, 65536 + 50, WIDE, WIDE + 50, WIDE + 10000, MAX, MAX + 1, UINT64_MAX};
+    size_t i, j;
+    for (i = 0; i < sizeof amounts / sizeof amounts[0]; i++) {
+        CHARGE(0, amounts[i], 0, 0);
+        CHARGE(10000, amounts[i], 0, amounts[i]);
+        for (j = 0; j < sizeof too_high / sizeof too_high[0]; j++)
+            CHARGE(too_high[j], amounts[i], 52, 0);
+    }
+    CHARGE(50, 0, 0, 0);
+    CHARGE(50, 199, 0, 0);
+    CHARGE(50, 200, 0, 1);
+    CHARGE(50, 399, 0, 1);
+    CHARGE(50, 400, 0, 2);
+    CHARGE(1, 9999, 0, 0);
+    CHARGE(1, 10001, 0, 1); /* 52 with the two exchanged */
+    CHARGE(9999, 1, 0, 0);
+    CHARGE(9999, 10001, 0, 9999);
+    CHARGE(1, MAX, 0, UINT64_C(922337203685477));
+    CHARGE(9999, MAX, 0, UINT64_C(9222449699651090329));
+    CHARGE(50, MAX + 1, 0, UINT64_C(46116860184273879));
+    CHARGE(1, UINT64_MAX, 0, UINT64_C(1844674407370955));
+    CHARGE(50, UINT64_MAX, 0, UINT64_C(92233720368547758));
+    CHARGE(9999, UINT64_MAX, 0, UINT64_C(18444899399302180659));
 }
 
 /* ## The journal */
@@ -1708,6 +1742,7 @@ INTO(home_balance, moatbetony_balance_t, moatbetony_home_t, uint16_t);
 INTO(home_places_left, moatbetony_home_places_t, moatbetony_home_t);
 INTO(record_read, moatbetony_record_t, const uint8_t *, size_t);
 INTO(record_encode, moatbetony_encoded_t, uint8_t, uint8_t, uint16_t, uint16_t, uint64_t, uint64_t, uint8_t);
+INTO(charge, moatbetony_charge_t, uint64_t, uint64_t);
 INTO(block_record, moatbetony_part_t, const uint8_t *, size_t, uint64_t, uint64_t, uint64_t);
 INTO(block_count, moatbetony_count_t, const uint8_t *, size_t, uint64_t, uint64_t);
 INTO(block_balances, moatbetony_balances_t, const uint8_t *, size_t, uint64_t, uint64_t);
@@ -1779,6 +1814,8 @@ static void other_slots(void)
     SLOT(record_read, moatbetony_record_t, 21, 0, r.at, 31);
     SLOT(record_encode, moatbetony_encoded_t, 0, 0, 1, 0, 0, 0, 0, 1, 1);
     SLOT(record_encode, moatbetony_encoded_t, 21, 0, 1, 0, 0, 0, 0, 0, 1);
+    SLOT(charge, moatbetony_charge_t, 0, 0, 50, 200);
+    SLOT(charge, moatbetony_charge_t, 52, 0, 10001, 200);
     SLOT(block_record, moatbetony_part_t, 0, 0, records_block, 512, 2, 0, 0);
     SLOT(block_record, moatbetony_part_t, 4, 2, records_block, 512, 2, 0, 1);
     SLOT(block_count, moatbetony_count_t, 0, 0, records_block, 512, 2, 0);
@@ -1902,6 +1939,7 @@ int main(void)
     home_full();
     tariffs();
     exact_charges();
+    charges_told();
     balances_blocks();
     tariff_blocks();
     record_blocks();

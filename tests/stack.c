@@ -27,6 +27,7 @@ static moatbetony_home_places_t home_places;
 static moatbetony_balance_t balance;
 static moatbetony_record_t record;
 static moatbetony_encoded_t encoded;
+static moatbetony_charge_t charge;
 static moatbetony_part_t part;
 static moatbetony_count_t count;
 static moatbetony_balances_t opening;
@@ -67,6 +68,8 @@ MEASURED(m_home_take_sending, answer = moatbetony_home_take(&home_to_send, one_s
 MEASURED(m_home_take_list, answer = moatbetony_home_take_list(&home_half, home_list, sizeof home_list))
 MEASURED(m_record_read, record = moatbetony_record_read(one_arrival, 32))
 MEASURED(m_record_encode, encoded = moatbetony_record_encode(1, 0, 2, 3, 4, 5, 1))
+MEASURED(m_charge, charge = moatbetony_charge(9999, UINT64_MAX))
+MEASURED(m_charge_52, charge = moatbetony_charge(10001, UINT64_MAX))
 MEASURED(m_block_judge, answer = moatbetony_block_judge(block, 512, 3, 14))
 MEASURED(m_block_judge_record, answer = moatbetony_block_judge_record(block, 512, 3, 14, 13))
 MEASURED(m_block_record, part = moatbetony_block_record(block, 512, 3, 14, 13))
@@ -219,6 +222,10 @@ int main(void)
     need(record.answer.passed == 1, "the record reads");
     measure("record_encode", m_record_encode, MOATBETONY_STACK_OTHER);
     need(encoded.answer.passed == 1, "the record is encoded");
+    measure("charge", m_charge, MOATBETONY_STACK_OTHER);
+    need(charge.answer.passed == 1, "the charge passes");
+    measure("charge, 52", m_charge_52, MOATBETONY_STACK_OTHER);
+    need(charge.answer.passed == 0 && charge.answer.number == 52, "the rate is refused");
     measure("block_judge", m_block_judge, MOATBETONY_STACK_OTHER);
     need(answer.passed == 1, "the block passes");
     measure("block_judge_r.", m_block_judge_record, MOATBETONY_STACK_OTHER);

@@ -140,11 +140,11 @@ impl Desk {
     }
 
     // A payment of ours to far account 0. Before it is signed it shows what leaves our account, which is the amount and home's charge on
-    // it, and the most that what we have allows.
+    // it, and what we have.
     fn pay_out(&mut self, label: &str, number: u64, amount: u64) -> Outcome<()> {
-        let (ours, tariff) = (self.validator.balance(OURS)?, self.validator.tariff()?);
-        let (charge, most) = (tariff.charge(amount), tariff.most_to_send(ours));
-        println!("{label}: costs {} with its charge of {charge}; we have {ours}, for {most} at most", amount + charge);
+        let ours = self.validator.balance(OURS)?;
+        let charge = self.validator.tariff()?.charge(amount)?;
+        println!("{label}: costs {} with its charge of {charge}; we have {ours}", amount + charge);
         self.serve(label, &wire(Kind::Sending, Ledger::Home, OURS, 0, number, amount)?, true)
     }
 

@@ -146,6 +146,12 @@ pub(crate) fn record_encode(
     unsafe { ffi::moatbetony_record_encode(kind, ledger, sender, receiver, number, amount, verdict) }
 }
 
+pub(crate) fn charge(rate: u64, amount: u64) -> ffi::PlainCharge {
+    belongs();
+    // SAFETY: values alone.
+    unsafe { ffi::moatbetony_charge(rate, amount) }
+}
+
 pub(crate) fn block_judge(block: &[u8], number: u64, before: u64) -> ffi::PlainAnswer {
     belongs();
     // SAFETY: the slice is lent with its length.

@@ -108,6 +108,12 @@ pub(crate) struct PlainEncoded {
 }
 
 #[repr(C)]
+pub(crate) struct PlainCharge {
+    pub(crate) answer: PlainAnswer,
+    pub(crate) charge: u64,
+}
+
+#[repr(C)]
 pub(crate) struct PlainPart {
     pub(crate) answer: PlainAnswer,
     pub(crate) start: usize,
@@ -177,6 +183,7 @@ extern "C" {
         amount: u64,
         verdict: u8,
     ) -> PlainEncoded;
+    pub(crate) fn moatbetony_charge(rate: u64, amount: u64) -> PlainCharge;
     pub(crate) fn moatbetony_block_judge(block: *const u8, block_len: usize, number: u64, before: u64) -> PlainAnswer;
     pub(crate) fn moatbetony_block_judge_record(
         block: *const u8,

@@ -43,7 +43,7 @@
 //! local or an arrival on home, to your account, from another one if it is a local, of the price.
 //!
 //! Home's network takes a charge on each home sending, which its sender pays beside the amount: a [`Tariff`] tells the rate and the
-//! account that is paid, and what a sending costs, so that a desk can show it before.
+//! account that is paid, and [`Tariff::charge`] asks the library what a sending costs, so that a desk can show it before.
 //!
 //! A validator takes any bytes, always answers, and a refusal leaves it untouched. `take` and `take_list` alter its state in place, by
 //! proved calls; `check_record` and `check_list` answer the same, by calls that are handed a copy of it. A state can be stored and taken

@@ -236,13 +236,42 @@ fn tariffs_of_openings() {
     }
 }
 
+// What a sending costs, told before it is made: by its rate alone, for every amount.
+#[test]
+fn charges_are_told() {
+    let charge = |rate, amount| Tariff { rate, charge_account: u64::MAX }.charge(amount);
+    for (rate, amount, told) in [
+        (0, u64::MAX, 0),
+        (50, 0, 0),
+        (50, 199, 0),
+        (50, 200, 1),
+        (50, 399, 1),
+        (50, 400, 2),
+        (1, 10_001, 1),
+        (9_999, 10_001, 9_999),
+        (9_999, MAX_SUPPLY, 9_222_449_699_651_090_329),
+        (9_999, u64::MAX, 18_444_899_399_302_180_659),
+        (MAX_RATE, 1, 1),
+        (MAX_RATE, MAX_SUPPLY, MAX_SUPPLY),
+        (MAX_RATE, u64::MAX, u64::MAX),
+    ] {
+        assert_eq!(charge(rate, amount), Ok(told), "rate {rate}, amount {amount}");
+    }
+    for rate in [MAX_RATE + 1, (1 << 16) + 50, (1 << 32) + 50, u64::MAX] {
+        for amount in [0, 1, u64::MAX] {
+            assert_eq!(charge(rate, amount), Err(Refusal::Tariff), "rate {rate}, amount {amount}");
+        }
+    }
+    assert_eq!(Refusal::Tariff.number(), 52);
+}
+
 // A home sending takes amount and charge, and pays the charge; nothing else costs more than its amount. At rate 500: 96 and 4 are 100.
 #[test]
 fn charges() {
     let tariff = Tariff { rate: 500, charge_account: 1 };
     let sending = |sender, number, amount| record(Kind::Sending, Ledger::Home, sender, 0, number, amount);
     let mut it = PairValidator::open(&[100, 50], &[20], tariff).expect("an opening");
-    assert_eq!((tariff.most_to_send(100), tariff.charge(96)), (96, 4));
+    assert_eq!(tariff.charge(96), Ok(4));
     assert_eq!(it.take(&sending(0, 7, 97)), refused(Refusal::Balance, 0));
     assert!(it.take(&sending(0, 7, 96)).is_passed());
     assert_eq!((it.balance(Ledger::Home, 0), it.balance(Ledger::Home, 1)), (Ok(0), Ok(54)));

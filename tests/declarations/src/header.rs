@@ -5,7 +5,7 @@ use crate::{Function, Interface, Named, Read, Type};
 use std::collections::BTreeMap;
 
 // The structs' names here and in the Rattle sources.
-const STRUCTS: [(&str, &str); 17] = [
+const STRUCTS: [(&str, &str); 18] = [
     ("moatbetony_answer_t", "PlainAnswer"),
     ("moatbetony_held_t", "Held"),
     ("moatbetony_pair_t", "PairValidator"),
@@ -19,6 +19,7 @@ const STRUCTS: [(&str, &str); 17] = [
     ("moatbetony_balance_t", "PlainBalance"),
     ("moatbetony_record_t", "PlainRecord"),
     ("moatbetony_encoded_t", "PlainEncoded"),
+    ("moatbetony_charge_t", "PlainCharge"),
     ("moatbetony_part_t", "PlainPart"),
     ("moatbetony_count_t", "PlainCount"),
     ("moatbetony_balances_t", "PlainBalances"),

@@ -156,8 +156,8 @@ fn header_binding_and_exports_agree() {
     let complaints = Sources::as_they_are().complaints();
     assert!(complaints.is_empty(), "\n{}", complaints.join("\n"));
     let exports = Sources::as_they_are().exports().expect("the exports");
-    assert_eq!(exports.functions.len(), 27);
-    assert_eq!(exports.in_words().expect("states of words").structs.len(), 14);
+    assert_eq!(exports.functions.len(), 28);
+    assert_eq!(exports.in_words().expect("states of words").structs.len(), 15);
 }
 
 #[test]
@@ -250,7 +250,7 @@ fn binding_asks_before_it_calls() {
     let bodies: Vec<&str> = calls.split("\npub(crate) fn ").filter(|body| body.contains("ffi::moatbetony_")).collect();
     assert_eq!(bodies.len(), calls.matches("ffi::moatbetony_").count(), "a function has one call");
     let unasked: Vec<&str> = bodies.iter().filter(|body| !body.contains(" {\n    belongs();\n")).copied().collect();
-    assert_eq!(bodies.len(), 27);
+    assert_eq!(bodies.len(), 28);
     assert!(unasked.len() == 2 && unasked.iter().all(|body| body.starts_with("version()") || body.starts_with("state_version()")));
 }
 
@@ -321,6 +321,8 @@ fn differences_in_the_header_are_found() {
         "uint64_t charge_account, uint64_t rate, const",
         "moatbetony_block_write: parameter 5",
     );
+    found("uint64_t rate, uint64_t amount)", "uint64_t amount, uint64_t rate)", "moatbetony_charge: parameter 1");
+    found("    uint64_t charge;\n", "    uint64_t cost;\n", "PlainCharge: field 2");
     // pointers
     found("    uint8_t *out,", "    const uint8_t *out,", "moatbetony_block_write: parameter 1");
     found("charge_account, const uint8_t *items", "charge_account, uint8_t *items", "moatbetony_block_write: parameter 7");
@@ -368,6 +370,8 @@ fn differences_in_the_binding_are_found() {
         "        far_total: u64,\n        charge_account: u64,\n        rate: u64,",
         "moatbetony_home_open: parameter 5",
     );
+    found("rate: u64, amount: u64)", "amount: u64, rate: u64)", "moatbetony_charge: parameter 1");
+    found("pub(crate) charge: u64,", "pub(crate) charge: u32,", "PlainCharge: field 2");
     found("        kind: u8,\n        rate: u64,", "        kind: u8,\n        rate: u16,", "moatbetony_block_write: parameter 5");
     found(
         "pub(crate) home_accounts: u64,\n    pub(crate) far_accounts: u64,",
