@@ -45,6 +45,9 @@ pub fn charge_by(rate: u64, k: Kind, amount: u64) -> u64
     requires { ⌜ rate ≤ parts ⌝ }
     ensures { λ r. ⌜ r ≡ chargeBy rate k amount ⌝ }
 {
+    if rate == 0 {
+        return 0; // whatever the kind is
+    }
     match k {
         Kind::Local(_) => 0,
         Kind::Sending(_) => charge(rate, amount),
