@@ -21,7 +21,7 @@ use Rattle.rules.specs.Lists.{any, left, lowered, none, raised, right, s
 use Rattle.rules.specs.Rules.{Far, Home, Kind, LedgerState, Local, Read, Receiving, Record, Sending, held, isSending, judge, matches}
 use Rattle.rules.specs.Rules.{Ledger, Passes, Tariff, afterBytes, clashes, debit, isReceiving, judgeBytes, moved}
 use Rattle.tariffs.proofs.Charges.{charge-free}
-use Rattle.tariffs.specs.Tariffs.{charge, free}
+use Rattle.tariffs.specs.Tariffs.{free}
 use Rattle.wire.specs.BigEndian.{All, Bytes, field}
 
 -- a far record with a good signature: kind, sender, receiver, number, amount

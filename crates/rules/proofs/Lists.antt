@@ -3,8 +3,7 @@ use Rattle.wire.proofs.Prelude.{Bool, List, [], _++_, _+_, _-_, _<_, _||_, _∙
 use Rattle.wire.proofs.Prelude.{eqb-false, eqb-true, false, getD, getD-set-same, inl, inr, length, length-set, ne-eqb, not, or-assoc}
 use Rattle.wire.proofs.Prelude.{or-false, or-true, refl, set, suc, sym, true, zero, ℕ}
 use Rattle.rules.specs.Lists.{all, any, lowered, raised, sameTruth, sum, total}
-use Rattle.rules.specs.Rules.{Kind, Local, Receiving, Record, Sending, Tariff, credit, debit, moved}
-use Rattle.tariffs.specs.Tariffs.{charge}
+use Rattle.rules.specs.Rules.{Kind, Local, Receiving, Record, Sending, Tariff, moved}
 use Rattle.wire.proofs.Lists.{and-both, every-both, every-first, every-none}
 use Rattle.wire.specs.BigEndian.{All, every}
 

@@ -1,5 +1,5 @@
 -- What a tariff that 52 has nothing against is. Assumes nothing.
-use Rattle.wire.proofs.Prelude.{[], _<_, _∷_, _≡_, _≤_, ap, ap₂, eqb-true, leb-true, lt-ltb, ltb-true, refl, true, ℕ}
+use Rattle.wire.proofs.Prelude.{_<_, _≡_, _≤_, ap₂, eqb-true, leb-true, lt-ltb, ltb-true, refl, true, ℕ}
 use Rattle.tariffs.specs.Tariffs.{Tariff, free, parts, takesNothing, tariffAllowed}
 use Rattle.wire.proofs.Lists.{every-first, every-hold, hold-every}
 use Rattle.wire.specs.BigEndian.{All}

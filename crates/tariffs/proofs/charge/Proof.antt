@@ -1,5 +1,5 @@
 -- `tariffs::charge` meets its contract. Assumes nothing.
-use Rattle.wire.proofs.Prelude.{_≡_, arith, sym}
+use Rattle.wire.proofs.Prelude.{arith, sym}
 use Rattle.tariffs.proofs.Charges.{charge-most, charge-parts, rest-most, whole-most}
 use Rattle.tariffs.proofs.charge.Statement.{statement}
 use Rattle.tariffs.proofs.charge.Tie as tie

@@ -1,5 +1,5 @@
 -- `tariffs::tell_charge` meets its contract. Assumes nothing.
-use Rattle.wire.proofs.Prelude.{_<_, _≡_, _≤_, arith, le-ltb, lt-ltb, needs, sym, ℕ}
+use Rattle.wire.proofs.Prelude.{_<_, _≡_, _≤_, arith, le-ltb, lt-ltb, needs, ℕ}
 use Rattle.answers.specs.declared.Answer.the-variants.{Passed, Refused}
 use Rattle.tariffs.specs.Tariffs.{Charged, charge, chargeTold, parts, rateRefusal}
 use Rattle.tariffs.proofs.tell_charge.Statement.{statement}
