@@ -7,6 +7,7 @@ use std::time::{SystemTime, UNIX_EPOCH};
 use second_validator::runner::calls::compare;
 
 #[rustfmt::skip] // laid out by its own crate
+#[allow(dead_code)] // the second validator has no call that tells a charge
 #[path = "../../../bindings/rust/src/ffi.rs"]
 mod ffi;
 mod guarded;
