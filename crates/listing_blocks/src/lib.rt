@@ -7,7 +7,6 @@ ghost use Rattle.journal_blocks.specs.Blocks.{maxBlock, firstRecords, recordsPe
 ghost use Rattle.listing.specs.Chunks.{afterChunk, chunkRoom, chunkSize, chunkText, stateFigures};
 ghost use Rattle.listing.specs.Listing.{afterBlock, blockText, recordLines, stateListed};
 ghost use Rattle.listing_blocks.specs.Cursors.{CursorBounds, progressOf, progressAfter};
-ghost use Rattle.listing_lines.specs.Hex.{pairTable};
 ghost use Rattle.listing_lines.specs.Lines.{TextPut, figuresRoom, figuresText, lineRoom};
 ghost use Rattle.pair_core.specs.Layout.{pairWordsChecker};
 ghost use Rattle.pair_rows.specs.Rows.{RowReady};
@@ -57,14 +56,12 @@ fn list_records<'a, 'b, 'c, 'd>(
     cursor: Cursor,
     block: &'a [u8],
     count: u64,
-    pairs: &'a [u8; 512],
     out: &'b mut [u8],
     state: &'c mut [u64; WORDS],
     index: &'d mut [u16; INDEXES],
 ) -> Cursor
     requires { ⌜ CursorBounds cursor × (cursor .block ≤ maxBlock) × (length (now block) ≡ 512) × (count ≤ recordsPerBlock)
-        × (cursor .end + recordsPerBlock * lineRoom ≤ length (now out)) × (now pairs ≡ pairTable)
-        × RowReady (now state) (now index) (cursor .row) ⌝ }
+        × (cursor .end + recordsPerBlock * lineRoom ≤ length (now out)) × RowReady (now state) (now index) (cursor .row) ⌝ }
     ensures puts { λ r. ⌜ TextPut (now (out .entry)) (cursor .end) (recordLines pairWordsChecker stateFigures (now (state .entry)) (cursor
         .index)
         (firstRecords count (now (block .entry)))) (now (out .exit)) (r .end) ⌝ }
@@ -85,7 +82,6 @@ fn list_records<'a, 'b, 'c, 'd>(
         p = put_record(
             out,
             p,
-            pairs,
             cursor.index + i,
             bytes,
             row.refusal as u64,
@@ -107,12 +103,11 @@ fn list_records<'a, 'b, 'c, 'd>(
 fn list_block<'a, 'b, 'c, 'd>(
     cursor: Cursor,
     block: &'a [u8],
-    pairs: &'a [u8; 512],
     out: &'b mut [u8],
     state: &'c mut [u64; WORDS],
     index: &'d mut [u16; INDEXES],
 ) -> Cursor
-    requires { ⌜ CursorBounds cursor × (cursor .end + recordsPerBlock * lineRoom ≤ length (now out)) × (now pairs ≡ pairTable)
+    requires { ⌜ CursorBounds cursor × (cursor .end + recordsPerBlock * lineRoom ≤ length (now out))
         × RowReady (now state) (now index) (cursor .row) ⌝ }
     ensures puts { λ r. ⌜ TextPut (now (out .entry)) (cursor .end) (blockText pairWordsChecker stateFigures (progressOf cursor (now (state
         .entry)))
@@ -136,7 +131,7 @@ fn list_block<'a, 'b, 'c, 'd>(
         };
     };
     let count = stated_count(block);
-    list_records(cursor, block, count, pairs, out, state, index)
+    list_records(cursor, block, count, out, state, index)
 }
 
 // ## A chunk
@@ -145,13 +140,12 @@ fn list_block<'a, 'b, 'c, 'd>(
 pub fn list_chunk<'a, 'b, 'c, 'd>(
     start: Cursor,
     chunk: &'a [u8],
-    pairs: &'a [u8; 512],
     out: &'b mut [u8],
     state: &'c mut [u64; WORDS],
     index: &'d mut [u16; INDEXES],
 ) -> Cursor
     requires { ⌜ CursorBounds start × (start .end ≡ 0) × (length (now chunk) ≤ chunkSize) × (chunkRoom ≤ length (now out))
-        × (now pairs ≡ pairTable) × RowReady (now state) (now index) (start .row) ⌝ }
+        × RowReady (now state) (now index) (start .row) ⌝ }
     ensures puts { λ r. ⌜ take (r .end) (now (out .exit)) ≡ chunkText (progressOf start (now (state .entry))) (now (chunk .entry)) ⌝ }
     ensures stands { λ r. ⌜ progressOf r (now (state .exit)) ≡ afterChunk (progressOf start (now (state .entry))) (now (chunk .entry)) ⌝ }
     ensures keeps { λ r. ⌜ RowReady (now (state .exit)) (now (index .exit)) (r .row) × CursorBounds r
@@ -165,7 +159,7 @@ pub fn list_chunk<'a, 'b, 'c, 'd>(
             return cursor;
         }
         let end = part_end(BLOCK_SIZE, at, n);
-        cursor = list_block(cursor, &chunk[at..end], pairs, out, state, index);
+        cursor = list_block(cursor, &chunk[at..end], out, state, index);
         at = end;
     }
     cursor

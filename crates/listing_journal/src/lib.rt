@@ -9,7 +9,6 @@ ghost use Rattle.listing.specs.Listing.{openedProgress};
 ghost use Rattle.listing_blocks.specs.Cursors.{CursorBounds, progressOf};
 ghost use Rattle.listing_journal.specs.Turns.{LastTurnFrom, JournalListed, SomeLastTurn, TurnFrom, firstCursor, goesOn, noTurn};
 ghost use Rattle.listing_journal.specs.Turns.{openingAlone, resumedCursor};
-ghost use Rattle.listing_lines.specs.Hex.{pairTable};
 ghost use Rattle.pair_rows.specs.Rows.{RowReady};
 ghost use Rattle.table.specs.Table.{indexLength};
 use journal_blocks::BLOCK_SIZE;
@@ -17,7 +16,6 @@ use journal_blocks::RECORDS_PER_BLOCK;
 use listing_blocks::Cursor;
 use listing_blocks::list_chunk;
 use listing_lines::LINE;
-use listing_lines::pairs;
 use listing_opening::Start;
 use listing_opening::list_start;
 use pair_core::INDEXES;
@@ -114,19 +112,18 @@ fn turn<'a, 'b, 'c, 'd>(
     target: i32,
     cursor: Cursor,
     input: &'a mut [u8],
-    digits: &'a [u8; 512],
     out: &'b mut [u8],
     state: &'c mut [u64; WORDS],
     index: &'d mut [u16; INDEXES],
 ) -> TurnResult
     requires { ⌜ CursorBounds cursor × (cursor .end ≡ 0) × (length (now input) ≡ chunkSize) × (length (now out) ≡ chunkRoom)
-        × (now digits ≡ pairTable) × RowReady (now state) (now index) (cursor .row) ⌝ }
+        × RowReady (now state) (now index) (cursor .row) ⌝ }
     ensures keeps { λ r. ⌜ CursorBounds (r .cursor) × (r .cursor .end ≡ 0) × RowReady (now (state .exit)) (now (index .exit)) (r .cursor
         .row) ⌝ }
     ensures turns { λ r. ⌜ TurnFrom (progressOf cursor (now (state .entry))) (now (input .exit)) (now (out .exit)) r (now (state .exit)) ⌝ }
 {
     let read = io::read_full(source, input);
-    let next = list_chunk(cursor, &input[..read], digits, out, state, index);
+    let next = list_chunk(cursor, &input[..read], out, state, index);
     let text = next.end;
     let written = io::write_all(target, &out[..text]);
     let going = goes_on(written, read, next.going);
@@ -145,12 +142,11 @@ fn list_rest<'a, 'b, 'c, 'd>(
     target: i32,
     start: Start,
     input: &'a mut [u8],
-    digits: &'a [u8; 512],
     out: &'b mut [u8],
     state: &'c mut [u64; WORDS],
     index: &'d mut [u16; INDEXES],
 ) -> TurnResult
-    requires { ⌜ (length (now input) ≡ chunkSize) × (length (now out) ≡ chunkRoom) × (now digits ≡ pairTable)
+    requires { ⌜ (length (now input) ≡ chunkSize) × (length (now out) ≡ chunkRoom)
         × RowReady (now state) (now index) (start .row) ⌝ }
     ensures { λ r. ⌜ LastTurnFrom (openedProgress (now (state .entry)) (start .before)) (now (input .exit)) (now (out .exit)) r (now (state
         .exit)) ⌝ }
@@ -163,7 +159,7 @@ fn list_rest<'a, 'b, 'c, 'd>(
         if !cursor.going {
             return last;
         }
-        last = turn(source, target, cursor, input, digits, out, state, index);
+        last = turn(source, target, cursor, input, out, state, index);
         turns -= 1;
     }
     last
@@ -180,19 +176,9 @@ fn list_opened<'a, 'b>(
     requires { ⌜ (length (now out) ≡ chunkRoom) × RowReady (now state) (replicate (2 * indexLength) 0) (start .row) ⌝ }
     ensures { λ r. ⌜ SomeLastTurn (openedProgress (now (state .entry)) (start .before)) r ⌝ }
 {
-    let digits = pairs();
     let mut input = [0u8; CHUNK];
     let mut index = [0u16; INDEXES];
-    list_rest(
-        source,
-        target,
-        start,
-        &mut input,
-        &digits,
-        out,
-        state,
-        &mut index,
-    )
+    list_rest(source, target, start, &mut input, out, state, &mut index)
 }
 
 // A listing of the opening alone: no turn was made after it.

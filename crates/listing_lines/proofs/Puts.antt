@@ -1,10 +1,9 @@
 -- Texts put into a buffer one after the other, the digits of a listing, and how long its fields and lines are. Assumes nothing.
-use Rattle.wire.proofs.Prelude.{Bool, List, [], _%_, _*_, _++_, _+_, _-_, _/_, _<_, _^_, _∙_, _∷_, _≡_, _≤_, add-one, ap, append-assoc}
-use Rattle.wire.proofs.Prelude.{append-nil, arith, cond, drop, false, getD, getD-drop, le-ltb, length, length-append, length-drop}
+use Rattle.wire.proofs.Prelude.{Bool, List, [], _%_, _*_, _++_, _+_, _-_, _/_, _<_, _^_, _∙_, _∷_, _≡_, _≤_, add-one, append-assoc}
+use Rattle.wire.proofs.Prelude.{append-nil, arith, cond, drop, false, getD, le-ltb, length, length-append}
 use Rattle.wire.proofs.Prelude.{length-set, length-take, lt-ltb, ltb, ltb-false, ltb-true, pow-le-pow-right, refl, set, suc, sym, take}
 use Rattle.wire.proofs.Prelude.{take-suc, take-suc-set, true, zero, ℕ}
 use Rattle.io.specs.Digits.{Fewest, digits}
-use Rattle.listing_lines.specs.Hex.{highDigit, lowDigit}
 use Rattle.listing_lines.specs.Lines.{TextPut, decimal, decimalIn, hexadecimal, numberText}
 use Rattle.listing_lines.specs.Lines.{faultLine, figuresText, headerLine, openLine, recordLine}
 
@@ -33,37 +32,6 @@ pub put-next : {d e : List ℕ} {o : ℕ} (s : List ℕ) (i : ℕ) → o + i < l
 put-next {d} {e} {o} s i h l p =
     let z : o + (i + 1) ≡ o + i + 1 = omega arith in
     rw (z, add-one i, take-suc s i 0 l) (put-put p (put-one e (o + i) (getD s i 0) (omega (arith, p .size))))
-
--- ## Hexadecimal digits
-
--- the digits of bytes after bytes
-hexadecimal-append : (a b : List ℕ) → hexadecimal (a ++ b) ≡ hexadecimal a ++ hexadecimal b
-unfolding hexadecimal
-hexadecimal-append [] b = refl
-hexadecimal-append (x ∷ xs) b = ap (λ (l : List ℕ). highDigit x ∷ lowDigit x ∷ l) (hexadecimal-append xs b)
-
--- two digits a byte
-hexadecimal-length : (a : List ℕ) → length (hexadecimal a) ≡ 2 * length a
-unfolding hexadecimal
-hexadecimal-length [] = refl
-hexadecimal-length (x ∷ xs) = omega (arith, hexadecimal-length xs)
-
--- the two digits of one more byte of a transfer number have room
-pub number-room : {d e : List ℕ} {o p : ℕ} (l : List ℕ) (i : ℕ) → i < 16 → TextPut d o (hexadecimal (take (i - 8) (drop 8 l))) e p
-    → o + 16 ≤ length d → p + 2 ≤ length e
-number-room l i h q r = omega (arith, q, hexadecimal-length (take (i - 8) (drop 8 l)), length-take (i - 8) (drop 8 l))
-
--- the two digits of one more byte
-pub number-next : {d e f g : List ℕ} {o p q r x y : ℕ} (l : List ℕ) (i : ℕ) → 8 ≤ i → i < length l → x ≡ highDigit (getD l i 0)
-    → y ≡ lowDigit (getD l i 0) → TextPut d o (hexadecimal (take (i - 8) (drop 8 l))) e p → TextPut e p (x ∷ []) f q → TextPut f q (y ∷ [])
-    g r
-    → TextPut d o (hexadecimal (take (i + 1 - 8) (drop 8 l))) g r
-unfolding hexadecimal
-number-next l i h m ex ey a b c =
-    let s : i + 1 - 8 ≡ suc (i - 8) = omega arith in
-    let t = take-suc (drop 8 l) (i - 8) 0 (omega (arith, length-drop 8 l)) in
-    let v : 8 + (i - 8) ≡ i = omega arith in
-    rw (s, t, getD-drop 8 l (i - 8) 0, v, hexadecimal-append, ← ex, ← ey) (put-put a (put-put b c))
 
 -- ## Decimal digits
 
@@ -116,6 +84,12 @@ decimal-in-short (suc k) n = digit-more (ltb n 10) k (48 + n) (48 + n % 10) (dec
 decimal-short : (n : ℕ) → length (decimal n) ≤ 20
 unfolding decimal
 decimal-short n = decimal-in-short 20 n
+
+-- two digits a byte
+hexadecimal-length : (a : List ℕ) → length (hexadecimal a) ≡ 2 * length a
+unfolding hexadecimal
+hexadecimal-length [] = refl
+hexadecimal-length (x ∷ xs) = omega (arith, hexadecimal-length xs)
 
 -- no more than 16 digits of a transfer number
 number-short : (r : List ℕ) → length (numberText r) ≤ 16

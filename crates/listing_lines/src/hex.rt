@@ -1,38 +1,61 @@
-// The two lower-case hexadecimal digits of a byte, from a constant table of the 256 pairs.
+// The lower-case hexadecimal digits of a number of 64 bits, each worked out from its four bits: eight at a time, each in a byte of a word.
+ghost use Prim.Native.Nat.{_≤_};
+ghost use mathlib.Core.List.{map};
 ghost use mathlib.Core.Path.{_≡_};
-ghost use Rattle.listing_lines.specs.Hex.{highDigit, lowDigit, pairTable};
+ghost use lib.Bits.{bitAnd};
+ghost use Rattle.listing_lines.specs.Hex.{highDigit, lowDigit};
+ghost use Rattle.listing_lines.specs.Lines.{hexadecimal};
+ghost use Rattle.wire.specs.BigEndian.{bytesOf};
+use wire::u64_bytes;
 
-// The digits of each byte in turn: two characters a byte.
-const PAIRS: [u8; 512] = *b"000102030405060708090a0b0c0d0e0f101112131415161718191a1b1c1d1e1f\
-    202122232425262728292a2b2c2d2e2f303132333435363738393a3b3c3d3e3f\
-    404142434445464748494a4b4c4d4e4f505152535455565758595a5b5c5d5e5f\
-    606162636465666768696a6b6c6d6e6f707172737475767778797a7b7c7d7e7f\
-    808182838485868788898a8b8c8d8e8f909192939495969798999a9b9c9d9e9f\
-    a0a1a2a3a4a5a6a7a8a9aaabacadaeafb0b1b2b3b4b5b6b7b8b9babbbcbdbebf\
-    c0c1c2c3c4c5c6c7c8c9cacbcccdcecfd0d1d2d3d4d5d6d7d8d9dadbdcdddedf\
-    e0e1e2e3e4e5e6e7e8e9eaebecedeeeff0f1f2f3f4f5f6f7f8f9fafbfcfdfeff";
+// 1 in each byte.
+const ONES: u64 = 0x0101_0101_0101_0101;
 
-// The table: made once and lent, for a constant that is used by index is laid out anew at each use.
-pub fn pairs() -> [u8; 512]
-    ensures { λ r. ⌜ r ≡ pairTable ⌝ }
+// The bits of a number where a mask has them.
+fn masked(x: u64, mask: u64) -> u64
+    ensures { λ r. ⌜ (r ≡ bitAnd x mask) × (r ≤ mask) ⌝ }
 {
-    PAIRS
+    x & mask
 }
 
-// The first digit of a byte.
-pub fn high(pairs: &[u8; 512], b: u8) -> u8
-    requires { ⌜ now pairs ≡ pairTable ⌝ }
-    ensures { λ r. ⌜ r ≡ highDigit b ⌝ }
+// The second digit of each byte: its four bits and '0', and from 10 on 39 more, which leads from after '9' to 'a'.
+fn low_digits(x: u64) -> u64
+    ensures { λ r. ⌜ bytesOf 8 r ≡ map lowDigit (bytesOf 8 x) ⌝ }
 {
-    let i = 2 * (b as usize);
-    pairs[i]
+    let bits = masked(x, 15 * ONES);
+    let letters = masked((bits + 6 * ONES) / 16, ONES);
+    bits + 48 * ONES + letters * 39
 }
 
-// The second digit of a byte.
-pub fn low(pairs: &[u8; 512], b: u8) -> u8
-    requires { ⌜ now pairs ≡ pairTable ⌝ }
-    ensures { λ r. ⌜ r ≡ lowDigit b ⌝ }
+// The first digit of each byte.
+fn high_digits(x: u64) -> u64
+    ensures { λ r. ⌜ bytesOf 8 r ≡ map highDigit (bytesOf 8 x) ⌝ }
 {
-    let i = 2 * (b as usize) + 1;
-    pairs[i]
+    low_digits(x / 16)
+}
+
+// The 16 digits of a number.
+pub fn digits(x: u64) -> [u8; 16]
+    ensures { λ r. ⌜ r ≡ hexadecimal (bytesOf 8 x) ⌝ }
+{
+    let h = u64_bytes(high_digits(x));
+    let l = u64_bytes(low_digits(x));
+    [
+        h[0],
+        l[0],
+        h[1],
+        l[1],
+        h[2],
+        l[2],
+        h[3],
+        l[3],
+        h[4],
+        l[4],
+        h[5],
+        l[5],
+        h[6],
+        l[6],
+        h[7],
+        l[7],
+    ]
 }

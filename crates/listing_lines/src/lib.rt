@@ -1,17 +1,14 @@
-// The lines of a listing, put into a lent buffer that has room for them, with hexadecimal digits from a table. Each function of lines
-// answers the place after what it put.
-pub mod hex; // hex.rt: the digits of a byte
+// The lines of a listing, put into a lent buffer that has room for them. Each function of lines answers the place after what it put.
+pub mod hex; // hex.rt: the hexadecimal digits of a number
 
 ghost use Prim.Native.Nat.{_+_, _≤_, _<_};
 ghost use mathlib.Core.List.{[], _∷_};
 ghost use mathlib.Core.Path.{_≡_};
 ghost use lib.ListN.{length};
-ghost use Rattle.listing_lines.specs.Hex.{pairTable};
 ghost use Rattle.listing_lines.specs.Lines.{TextPut, decimal, faultLine, figuresRoom, figuresText, headerLine, lineRoom, numberText};
 ghost use Rattle.listing_lines.specs.Lines.{openLine, recordLine};
-use hex::high;
-use hex::low;
-pub use hex::pairs;
+use hex::digits;
+use wire::u64_at;
 
 // The room for a line of a record, in characters.
 pub const LINE: usize = 128;
@@ -50,18 +47,12 @@ fn put_decimal(out: &mut [u8], o: usize, x: u64) -> usize
     put_bytes(out, o, &text[..n])
 }
 
-fn put_number(out: &mut [u8], o: usize, pairs: &[u8; 512], bytes: &[u8]) -> usize
-    requires { ⌜ (o + 16 ≤ length (now out)) × (now pairs ≡ pairTable) × (length (now bytes) ≡ 32) ⌝ }
+fn put_number(out: &mut [u8], o: usize, bytes: &[u8]) -> usize
+    requires { ⌜ (o + 16 ≤ length (now out)) × (length (now bytes) ≡ 32) ⌝ }
     ensures { λ r. ⌜ TextPut (now (out .entry)) o (numberText (now (bytes .entry))) (now (out .exit)) r ⌝ }
 {
-    let mut i = 8;
-    let mut p = o;
-    while i < 16 {
-        p = put_byte(out, p, high(pairs, bytes[i]));
-        p = put_byte(out, p, low(pairs, bytes[i]));
-        i += 1;
-    }
-    p
+    let text = digits(u64_at(bytes, 8));
+    put_bytes(out, o, &text)
 }
 
 // The figures: home total, far total and in flight.
@@ -101,20 +92,18 @@ pub fn put_open(out: &mut [u8], o: usize, home: u64, far: u64) -> usize
 pub fn put_record(
     out: &mut [u8],
     o: usize,
-    pairs: &[u8; 512],
     index: u64,
     bytes: &[u8],
     answer: u64,
     figures: &[u8],
 ) -> usize
-    requires { ⌜ (o + lineRoom ≤ length (now out)) × (now pairs ≡ pairTable) × (length (now bytes) ≡ 32)
-        × (length (now figures) ≤ figuresRoom) ⌝ }
+    requires { ⌜ (o + lineRoom ≤ length (now out)) × (length (now bytes) ≡ 32) × (length (now figures) ≤ figuresRoom) ⌝ }
     ensures { λ r. ⌜ TextPut (now (out .entry)) o (recordLine index (now (bytes .entry)) answer (now (figures .entry)))
         (now (out .exit)) r ⌝ }
 {
     let a = put_decimal(out, o, index);
     let b = put_byte(out, a, b' ');
-    let c = put_number(out, b, pairs, bytes);
+    let c = put_number(out, b, bytes);
     let d = put_byte(out, c, b' ');
     let e = put_decimal(out, d, answer);
     put_bytes(out, e, figures)

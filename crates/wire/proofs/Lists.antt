@@ -175,6 +175,12 @@ unfolding All
 bytes-zeros zero = tt
 bytes-zeros (suc n) = (omega arith, bytes-zeros n)
 
+-- a list is of bytes where each element is one
+pub bytes-each : (s : List ℕ) → ((i : ℕ) → getD s i 0 < 256) → Bytes s
+unfolding All
+bytes-each [] h = tt
+bytes-each (x ∷ xs) h = (h 0, bytes-each xs (λ i. h (suc i)))
+
 -- bytes after bytes are bytes
 pub bytes-append : (xs ys : List ℕ) → Bytes xs → Bytes ys → Bytes (xs ++ ys)
 bytes-append xs ys h k = all-append (λ (x : ℕ). x < 256) xs ys h k

@@ -20,9 +20,9 @@ list-block-spec = tie.close (tie.spec (λ c κs. search needs) (λ c. search nee
     .now) _ _
     (p .put-fault .result) _ _ (j .judge .ensures) (e .enum-told2 .given .1) (n .number .ensures) in let f = fault-short (n .number .result)
     (cursor .block) in let q = p .put-fault .ensures in
-    (rw (k .text) q, (k .stands, (o .pre .3, omega (arith, o .pre .0), omega (arith, q .next, f))))) (λ c κs. search needs)
+    (rw (k .text) q, (k .stands, (o .pre .2, omega (arith, o .pre .0), omega (arith, q .next, f))))) (λ c κs. search needs)
     (λ c κs. let d = c .before .before .before in let o = d .before .before .before .before .before .before in let k = passed-at d in
-    (o .pre .0, k .low, k .long, rw (d .stated-count .ensures) (k .count-fits), o .pre .1, o .pre .2, o .pre .3)) (λ c. search needs)
+    (o .pre .0, k .low, k .long, rw (d .stated-count .ensures) (k .count-fits), o .pre .1, o .pre .2)) (λ c. search needs)
     (λ c. let l = c .before .before .list-records in let d = c .before .before .before .before .before .before in
     passed-listed (l .result) (d .before .before .before .before .before .before .args .state .now) (passed-at d) (d .stated-count .ensures)
     (l .ensures)))

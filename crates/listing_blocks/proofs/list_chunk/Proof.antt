@@ -5,21 +5,21 @@ use Rattle.listing_blocks.proofs.list_chunk.Statement.{statement}
 use Rattle.listing_blocks.proofs.list_chunk.Tie as tie
 
 abbrev Inv-loop : tie.InvT-loop
-Inv-loop chunk pairs out₀ state₀ index₀ n run₀ at₀ out state index cursor at =
+Inv-loop chunk out₀ state₀ index₀ n run₀ at₀ out state index cursor at =
     (at ≤ length chunk) × ChunkListed run₀ state₀ chunk out₀ at cursor state out index
 
 abbrev μ-loop : tie.MeasureT-loop
-μ-loop chunk pairs out₀ state₀ index₀ n run₀ at₀ out state index cursor at = length chunk - at
+μ-loop chunk out₀ state₀ index₀ n run₀ at₀ out state index cursor at = length chunk - at
 
 pub list-chunk-spec : {M : Type 1} → statement M
 list-chunk-spec = tie.close (tie.spec Inv-loop μ-loop
-    (λ c. let o = c .before .before in (omega arith, chunk-start (o .pre .1) (o .pre .0) (o .pre .5)))
+    (λ c. let o = c .before .before in (omega arith, chunk-start (o .pre .1) (o .pre .0) (o .pre .4)))
     (λ c. c .before .before .before .loop .inv .1 .puts .size)
     (λ c. chunk-stopped (c .before .before .before .loop .inv .1) (c .before .before .before .before .before .before .pre .3)
     (not-true _ (c .if1 .taken))) (λ c κs. search needs) (λ c. search needs) (λ c. search needs) (λ c. search needs)
     (λ c κs. let t = c .before .before .before .before .before .before .before in let v = t .before .loop .inv .1 in
     let o = t .before .before .before .before in
-    (v .bounded, chunk-room v (t .loop-test .taken) (o .pre .2) (o .pre .3), o .pre .4, v .ready))
+    (v .bounded, chunk-room v (t .loop-test .taken) (o .pre .2) (o .pre .3), v .ready))
     (λ c. search needs)
     (λ c. let e = c .before .before .before .before .before .before .before in let i = e .before in let t = i .before .before in
     let l = t .before in let n = chunk-next (l .loop .inv .1) (t .loop-test .taken) (l .before .before .before .pre .2)

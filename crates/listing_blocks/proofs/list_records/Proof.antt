@@ -5,11 +5,11 @@ use Rattle.listing_blocks.proofs.list_records.Statement.{statement}
 use Rattle.listing_blocks.proofs.list_records.Tie as tie
 
 abbrev Inv-loop : tie.InvT-loop
-Inv-loop cursor block count pairs out₀ state₀ index₀ text₀ row₀ n₀ i₀ p₀ out state index text row n i p =
+Inv-loop cursor block count out₀ state₀ index₀ text₀ row₀ n₀ i₀ p₀ out state index text row n i p =
     (i ≤ count) × Listed block (cursor .index) (cursor .end) out₀ state₀ i out p state index row text n
 
 abbrev μ-loop : tie.MeasureT-loop
-μ-loop cursor block count pairs out₀ state₀ index₀ text₀ row₀ n₀ i₀ p₀ out state index text row n i p = count - i
+μ-loop cursor block count out₀ state₀ index₀ text₀ row₀ n₀ i₀ p₀ out state index text row n i p = count - i
 
 -- the call, from within the loop
 abbrev entry : tie.In-loop Inv-loop μ-loop → tie.Start Inv-loop μ-loop
@@ -22,7 +22,7 @@ bytes-at c = let o = entry (c .before) in
 
 pub list-records-spec : {M : Type 1} → statement M
 list-records-spec = tie.close (tie.spec Inv-loop μ-loop (λ c. search needs) (λ c κs. search needs)
-    (λ c. (omega arith, listed-start (c .before .before .before .before .before .before .pre .6) (c .before .put-figures .ensures) refl))
+    (λ c. (omega arith, listed-start (c .before .before .before .before .before .before .pre .5) (c .before .put-figures .ensures) refl))
     (λ c κs. omega (arith, entry c .pre)) (λ c κs. c .before .before .before .before .loop .inv .1 .ready)
     (λ c. omega (arith, c .before .before .before .before .before .before .loop .inv .1))
     (λ c κs. omega (arith, c .before .before .before .before .before .before .loop .inv .1))
@@ -32,7 +32,7 @@ list-records-spec = tie.close (tie.spec Inv-loop μ-loop (λ c. search needs) (�
     (λ c. simp length-take (omega (arith, c .before .before .before .before .before .put-figures-if .ensures .1 .1)))
     (λ c κs. let f = c .before .before .before .before .before in let j = f .before .before .before .before .before in let b = bytes-at j in
     let o = entry (j .before) in let v = j .before .before .loop .inv .1 in let fits = f .put-figures-if .ensures .1 .1 in
-    (omega (arith, o .pre, j .before .loop-test .taken, v .room, v .puts .size), o .pre .5, b, simp length-take (omega (arith, fits))))
+    (omega (arith, o .pre, j .before .loop-test .taken, v .room, v .puts .size), b, simp length-take (omega (arith, fits))))
     (λ c. let l = c .before .before .before .before .before .before .before .before .before .before .before .before .before .before in
     omega (arith, l .loop-test .taken, entry l .pre .3))
     (λ c. let l = c .before .before .before .before .before .before .before .before .before .before .before .before .before .before in

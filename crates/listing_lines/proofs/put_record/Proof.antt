@@ -9,7 +9,7 @@ pub put-record-spec : {M : Type 1} → statement M
 unfolding recordLine
 put-record-spec = tie.close (tie.spec (λ c κs. search needs) (λ c κs. omega (arith, decimal-ends))
     (λ c κs. let s = c .before .before .before .before .before .before .before .before .before .before .before .before in
-    (omega (arith, decimal-ends), s .pre .1, s .pre .2)) (λ c κs. omega (arith, decimal-ends, number-ends))
+    (omega (arith, decimal-ends), s .pre .1)) (λ c κs. omega (arith, decimal-ends, number-ends))
     (λ c κs. omega (arith, decimal-ends, number-ends)) (λ c κs. omega (arith, decimal-ends, number-ends)) (λ c. search needs)
     (λ c. let p6 = c .before .before in let p5 = p6 .before .before .before .before in let p4 = p5 .before .before .before .before in
     let p3 = p4 .before .before .before .before in let p2 = p3 .before .before .before .before in
