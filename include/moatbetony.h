@@ -1,5 +1,5 @@
 /*
- * Moatbetony 0.6.0: a proved checker of two linked ledgers that trade one credit.
+ * Moatbetony 0.6.1: a proved checker of two linked ledgers that trade one credit.
  *
  * A home ledger, and a far ledger run by people nobody here has met, hand in records of 32 bytes. The pair validator (pair book)
  * sees the records of both in one order; the home validator (guard) sees those of home alone. Every call answers passed, or one
@@ -98,8 +98,8 @@ extern "C" {
 
 #define MOATBETONY_VERSION_MAJOR 0
 #define MOATBETONY_VERSION_MINOR 6
-#define MOATBETONY_VERSION_PATCH 0
-#define MOATBETONY_VERSION_TEXT "0.6.0"
+#define MOATBETONY_VERSION_PATCH 1
+#define MOATBETONY_VERSION_TEXT "0.6.1"
 /* This header's version, as moatbetony_version gives the library's: major * 10,000 + minor * 100 + patch. */
 #define MOATBETONY_VERSION (MOATBETONY_VERSION_MAJOR * 10000 + MOATBETONY_VERSION_MINOR * 100 + MOATBETONY_VERSION_PATCH)
 /* The layout of the two states. It is stored with a state, and a state is taken up only under its own. */

@@ -172,8 +172,8 @@ static void versions(void)
     static const uint32_t known[] = {0, 1, 2, 3, 4, 11, 12, 13, 14, 21, 22, 23, 24, 25, 31, 32, 33, 41, 51, 52};
     size_t i, j;
     CHECK(moatbetony_version() == MOATBETONY_VERSION);
-    CHECK(moatbetony_version() == 600);
-    CHECK(strcmp(MOATBETONY_VERSION_TEXT, "0.6.0") == 0);
+    CHECK(moatbetony_version() == 601);
+    CHECK(strcmp(MOATBETONY_VERSION_TEXT, "0.6.1") == 0);
     CHECK(moatbetony_state_version() == MOATBETONY_STATE_VERSION);
     CHECK(moatbetony_state_version() == 3);
     for (i = 0; i < sizeof known / sizeof *known; i++) {

@@ -103,7 +103,7 @@ pub use tariff::Tariff;
 pub use validators::{HomeFigures, HomeValidator, PairFigures, PairPlaces, PairValidator};
 
 /// The library's version that this crate was written for: major * 10,000 + minor * 100 + patch.
-pub const VERSION: u32 = 600;
+pub const VERSION: u32 = 601;
 /// The layout of the two states. Store it with a state, and take a state up only under its own.
 pub const STATE_VERSION: u32 = 3;
 /// The bytes of a record.

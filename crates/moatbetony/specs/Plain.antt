@@ -39,9 +39,9 @@ use Rattle.tariffs.specs.declared.Tariff.{Tariff}
 
 -- ## Versions
 
--- 0.6.0: major times 10,000, minor times 100 and patch
+-- 0.6.1: major times 10,000, minor times 100 and patch
 abbrev pub libraryVersion : ℕ
-libraryVersion = 600
+libraryVersion = 601
 
 -- the layout of both states
 abbrev pub stateVersion : ℕ

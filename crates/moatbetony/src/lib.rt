@@ -43,7 +43,7 @@ use tariffs::Tariff;
 pub extern "C" fn moatbetony_version() -> u32
     ensures { λ r. ⌜ r ≡ libraryVersion ⌝ }
 {
-    600
+    601
 }
 
 // The version of the layout of both states. A stored state is taken up only under the version that it was stored with.
