@@ -1,4 +1,4 @@
--- Texts put into a buffer one after the other, the digits of a listing, and how long its fields and lines are. Assumes nothing.
+-- Texts put into a buffer one after the other, decimal digits, and how long the fields and lines of a listing are. Assumes nothing.
 use Rattle.wire.proofs.Prelude.{Bool, List, [], _%_, _*_, _++_, _+_, _-_, _/_, _<_, _^_, _∙_, _∷_, _≡_, _≤_, add-one, append-assoc}
 use Rattle.wire.proofs.Prelude.{append-nil, arith, cond, drop, false, getD, le-ltb, length, length-append}
 use Rattle.wire.proofs.Prelude.{length-set, length-take, lt-ltb, ltb, ltb-false, ltb-true, pow-le-pow-right, refl, set, suc, sym, take}

@@ -1,4 +1,5 @@
-// The lower-case hexadecimal digits of a number of 64 bits, each worked out from its four bits: eight at a time, each in a byte of a word.
+// The lower-case hexadecimal digits of a number of 64 bits, each worked out from its four bits; eight at a time, one in each byte of a
+// word.
 ghost use Prim.Native.Nat.{_≤_};
 ghost use mathlib.Core.List.{map};
 ghost use mathlib.Core.Path.{_≡_};
@@ -11,14 +12,15 @@ use wire::u64_bytes;
 // 1 in each byte.
 const ONES: u64 = 0x0101_0101_0101_0101;
 
-// The bits of a number where a mask has them.
+// The bits of a number that a mask has too; no more than the mask.
 fn masked(x: u64, mask: u64) -> u64
     ensures { λ r. ⌜ (r ≡ bitAnd x mask) × (r ≤ mask) ⌝ }
 {
     x & mask
 }
 
-// The second digit of each byte: its four bits and '0', and from 10 on 39 more, which leads from after '9' to 'a'.
+// The second digit of each byte: '0' and its lower four bits, and from 10 on 39 more, the way from the character after '9' to 'a'. A letter
+// is told by 6 more: 10 then reaches 16.
 fn low_digits(x: u64) -> u64
     ensures { λ r. ⌜ bytesOf 8 r ≡ map lowDigit (bytesOf 8 x) ⌝ }
 {
@@ -27,7 +29,7 @@ fn low_digits(x: u64) -> u64
     bits + 48 * ONES + letters * 39
 }
 
-// The first digit of each byte.
+// The first digit of each byte: the second one, after a shift by four bits.
 fn high_digits(x: u64) -> u64
     ensures { λ r. ⌜ bytesOf 8 r ≡ map highDigit (bytesOf 8 x) ⌝ }
 {
