@@ -17,7 +17,7 @@
 
 #define HELD (MOATBETONY_CAPACITY - 1)
 #define RUNS 401
-enum { OLD_RECORD, RECORD, OLD_TAKE, TAKE, OLD_LIST, LIST, TAKE_LIST, ALL_PAIRS, CERTIFICATE, TAKE_CERTIFICATE, TIMED };
+enum { OLD_RECORD, RECORD, OLD_TAKE, TAKE, OLD_LIST, LIST, TAKE_LIST, ALL_PAIRS, TIMED };
 /* Numbers one after the other, at random, and with shared low bits; then the first and the last of these with each number in both classes,
    arrivals and all others, which an earlier build may refuse: that is then not timed. */
 enum { CONSECUTIVE, RANDOM, SHARED, TWICE, SHARED_TWICE, NUMBERS };
@@ -116,14 +116,6 @@ static void print(const char *validator, int numbers, size_t records)
     }
 }
 
-/* A certificate beside a record, of this build alone. */
-static void print_certificate(int numbers)
-{
-    double value = median(CERTIFICATE), in_place = median(TAKE_CERTIFICATE);
-    printf("home, %s: certificate by value %.0f (%.2f of a record), in place %.0f (%.2f)\n", names[numbers], value, value / median(RECORD),
-        in_place, in_place / median(TAKE));
-}
-
 static int is_arrival(const moatbetony_held_t *record) { return record->head >> 56 == 3; }
 
 /* Whether one of n records has the number of another one, and is of its class. */
@@ -161,10 +153,8 @@ static int are_sent(const moatbetony_held_t *records, uint64_t n, const moatbeto
 
 static void home(const uint64_t *balances, int numbers)
 {
-    static moatbetony_home_t empty, full, lent, seated, seated_lent;
+    static moatbetony_home_t empty, full, lent;
     static old_moatbetony_home_t old_empty, old_full, old_lent;
-    moatbetony_digest_t keys = {{0}};
-    moatbetony_certificate_t certificate = {.number = 1, .leaves = 1, .signers = UINT64_MAX};
     seed = (uint64_t)1 << 32;
     for (int i = 0; i < HELD; i++)
         record(list + 32 * i, !is_twice(numbers) ? 1 + (int)below(3) : i % 2 ? 3 : 1 + (int)below(2), 0, number(numbers, (uint64_t)i));
@@ -174,10 +164,7 @@ static void home(const uint64_t *balances, int numbers)
     full = moatbetony_home_check_list(empty, list, 32 * HELD).state;
     must(full.count == HELD);
     old_full = old_moatbetony_home_check_list(old_empty, list, 32 * HELD).state;
-    seated = moatbetony_home_open_committee(balances, 56, 56, (uint64_t)56 << 40, 0, 0, 32, keys).state;
-    seated = moatbetony_home_check_list(seated, list, 32 * HELD).state;
-    must(seated.count == HELD);
-    lent = full, old_lent = old_full, seated_lent = seated;
+    lent = full, old_lent = old_full;
     for (int run = 0; run < RUNS; run++) {
         if (!is_twice(numbers)) {
             TIME(OLD_RECORD, 20, old_moatbetony_home_outcome_t *o = (void *)(page + place);
@@ -189,10 +176,6 @@ static void home(const uint64_t *balances, int numbers)
              must((int)o->answer.passed));
         TIME(TAKE, 20, must((int)moatbetony_home_take(&lent, last, 32).passed); lent.pool = full.pool; lent.count = full.count;
              lent.balances[last[5]] = full.balances[last[5]]);
-        TIME(CERTIFICATE, 20, moatbetony_home_outcome_t *o = (void *)(page + place);
-             *o = moatbetony_home_check_certificate(seated, certificate); must((int)o->answer.passed));
-        TIME(TAKE_CERTIFICATE, 20, must((int)moatbetony_home_take_certificate(&seated_lent, certificate).passed);
-             seated_lent.last = 0);
         if (!is_twice(numbers))
             TIME(OLD_LIST, 2, old_moatbetony_home_outcome_t *o = (void *)(page + place);
                  *o = old_moatbetony_home_check_list(old_empty, list, 32 * HELD); must((int)o->answer.passed));
@@ -204,7 +187,6 @@ static void home(const uint64_t *balances, int numbers)
             TIME(ALL_PAIRS, 20, must(are_apart(lent.records, lent.count)));
     }
     print("home", numbers, HELD);
-    print_certificate(numbers);
 }
 
 static void pair(const uint64_t *balances, int numbers)

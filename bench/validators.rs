@@ -64,10 +64,6 @@ pub struct Home {
     count: u64,
     rate: u64,
     charge_account: u64,
-    committee: u64,
-    half: u64,
-    last: u64,
-    keys: [u64; 4],
 }
 
 #[repr(C)]

@@ -1,14 +1,14 @@
 /* A paying desk that sees the home ledger alone. It takes records one by one, hands goods over where a record passed and pays the desk,
-   says why not otherwise, shows what a payment to the far ledger costs before it is made, takes the far committee's certificates, keeps its
-   state in a file and takes it up again, warns when the ledger has few places left, and closes when it has none.
+   says why not otherwise, shows what a payment to the far ledger costs before it is made, keeps its state in a file and takes it up again,
+   warns when the ledger has few places left, and closes when it has none.
 
        cc desk.c $(pkg-config --cflags --libs moatbetony) -o desk && ./desk STATE_FILE
 
    The file has the layout's version in 4 bytes, the state, and the SHA-256 of both. What guards a stored state:
    - The digest finds damage, and a change by anyone who cannot write the digest too.
    - Refusal 3 says that a state's numbers fit together, and no more. It does not see two balances exchanged, a balance raised together
-     with the supply or at the far pool's cost, another rate or charge account, held records left out, so that they pass again, other
-     keys of the far committee in force, or an older state put back.
+     with the supply or at the far pool's cost, another rate or charge account, held records left out, so that they pass again, or an
+     older state put back.
    - Neither finds a forger who rewrites state and digest to fit, or who puts an older pair of them back. Keep the latest digest where
      nobody else can write it. */
 #define _POSIX_C_SOURCE 200809L
@@ -24,7 +24,6 @@ enum { VERSION_SIZE = 4, STATE_SIZE = sizeof(moatbetony_home_t), SEALED_SIZE = V
 enum { FILE_SIZE = SEALED_SIZE + MOATBETONY_DIGEST_SIZE };
 enum { OURS = 1, PRICE = 30, FEW_PLACES = 50 }; /* the desk's account, what its goods cost, and below how many places it warns */
 enum { RATE = 50, CHARGE_ACCOUNT = 3 }; /* what home's network takes of a sending, in ten-thousandths, and its account */
-enum { HALF = 2, MEMBERS = 2 * HALF }; /* k of the far committee, and how many it has */
 
 static void must(int holds, const char *what)
 {
@@ -283,75 +282,6 @@ static void busy_day(const char *path, moatbetony_home_t *state)
     print_refused("the same, had nobody looked", answer);
 }
 
-/* ## The far committee */
-
-/* The digest of a committee's keys, as both networks agreed on it: here SHA-256 over the members' keys, one after the other. A host has the
-   keys from the far network; these are made up. */
-static moatbetony_digest_t keys_of(int committee)
-{
-    uint8_t keys[MEMBERS][32];
-    int i;
-    for (i = 0; i < MEMBERS; i++)
-        memset(keys[i], 16 * committee + i, sizeof keys[i]);
-    return moatbetony_sha256(keys[0], sizeof keys);
-}
-
-static void print_committee(const char *label, const moatbetony_home_t *state)
-{
-    moatbetony_committee_t told = moatbetony_home_committee(*state);
-    if (told.answer.passed)
-        printf("%s: keys in force %02x%02x.., certificates passed: %llu, members: %llu\n", label, (unsigned)told.keys[0],
-            (unsigned)told.keys[1], (unsigned long long)told.last, (unsigned long long)(2 * told.half));
-    else
-        print_refused(label, told.answer);
-}
-
-/* Every certificate comes here: its number and the digest of the next keys as they came in (root and leaf count are made up), beside what
-   the host's own check found: `checked` is the digest of the keys under which it checked each member's signature, and `good` has the bit of
-   each one that is good. A digest or a mask that the sender wrote is not looked at. A certificate pays nobody; the state is stored before
-   the next one comes. */
-static void take_certificate(const char *path, moatbetony_home_t *state, const char *label, uint64_t number, moatbetony_digest_t next,
-    moatbetony_digest_t checked, uint64_t good)
-{
-    moatbetony_certificate_t certificate;
-    moatbetony_answer_t answer;
-    certificate.number = number;
-    memset(certificate.root, 0x5a, sizeof certificate.root);
-    certificate.leaves = 3;
-    memcpy(certificate.next_keys, next.bytes, sizeof certificate.next_keys);
-    memcpy(certificate.keys, checked.bytes, sizeof certificate.keys);
-    certificate.signers = good;
-    answer = moatbetony_home_take_certificate(state, certificate);
-    if (!answer.passed) {
-        print_refused(label, answer);
-        return;
-    }
-    store(path, state);
-    print_committee(label, state);
-}
-
-/* A desk whose far ledger has a committee of four, of whom three must sign. Each certificate that passes hands over to the next keys, and
-   the one after it has to be checked under these. */
-static void with_a_committee(const char *path)
-{
-    static const uint64_t home_balances[] = {100, 500, 0, 0};
-    static moatbetony_home_t state;
-    moatbetony_home_outcome_t opened = moatbetony_home_open_committee(home_balances, 4, 1, 20, RATE, CHARGE_ACCOUNT, HALF, keys_of(1));
-    must(opened.answer.passed, "the opening with a committee was refused");
-    state = opened.state;
-    store(path, &state);
-    print_committee("opened with a committee", &state);
-    take_certificate(path, &state, "certificate 1, signed by members 0 and 1", 1, keys_of(2), keys_of(1), 0x3);
-    take_certificate(path, &state, "certificate 1, signed by members 0, 1 and 3", 1, keys_of(2), keys_of(1), 0xb);
-    take_certificate(path, &state, "the same certificate again", 1, keys_of(2), keys_of(1), 0xb);
-    take_certificate(path, &state, "certificate 2, checked under the first keys", 2, keys_of(3), keys_of(1), 0xf);
-    take_certificate(path, &state, "certificate 2, checked under the second keys", 2, keys_of(3), keys_of(2), 0xf);
-    memset(&state, 0, sizeof state);
-    must(take_up(path, &state), "the stored state was not taken up");
-    print_committee("taken up from the file", &state);
-    serve(path, &state, "a payment of 30 there", payment(1, 30), 32, 1);
-}
-
 /* ## Somebody else's hand on the stored state */
 
 static void raise_a_balance(moatbetony_home_t *state)
@@ -419,7 +349,6 @@ int main(int argc, char **argv)
     serve(path, &state, "yesterday's payment of 30 again", payment(YESTERDAYS, 30), 32, 1);
     busy = state; /* a copy, and the desk goes on below from before that day */
     busy_day(path, &busy);
-    with_a_committee(path);
 
     printf("a payment of 30, after somebody altered the file:\n");
     tamper(path, &state, "a balance raised", raise_a_balance, 0, FRESH);

@@ -1,5 +1,5 @@
 /*
- * Moatbetony 0.7.0: a proved checker of two linked ledgers that trade one credit.
+ * Moatbetony 0.6.1: a proved checker of two linked ledgers that trade one credit.
  *
  * A home ledger, and a far ledger run by people nobody here has met, hand in records of 32 bytes. The pair validator (pair book)
  * sees the records of both in one order; the home validator (guard) sees those of home alone. Every call answers passed, or one
@@ -14,12 +14,12 @@
  *     else puts(moatbetony_refusal_text(answer.number));
  *
  * ARGUMENTS   The state comes first, then bytes with their length, then numbers: a record's fields in the order of its format; of a
- *             block its number, the count before, the place; of an opening, last, rate and charge account, then of a committee k and its
- *             keys; of a charge rate and amount. A certificate comes after its state, as one struct. The writer alone has output, number,
- *             kind, rate, charge account and then the items. A length counts items: bytes, or numbers of 64 bits.
+ *             block its number, the count before, the place; of an opening, last, rate and charge account; of a charge rate and amount.
+ *             The writer alone has output, number, kind, rate, charge account and then the items. A length counts items: bytes, or
+ *             numbers of 64 bits.
  * SIGNATURES  are not checked here. Byte 24 of a record says what the caller's own check of its signature found (1 good, 0 bad). Write
  *             it yourself, over whatever came in, before the record is handed in: a record whose byte 24 its sender wrote is one that
- *             nobody has checked. Those of a certificate: COMMITTEE.
+ *             nobody has checked.
  * ANSWERS     "Answers 3, 22" in a comment lists all refusals of a call, in their order; where none applies it passes, with number 0,
  *             passed 1 and place 0. Test `passed`: it is 1 where the call passed and 0 with every refusal, so that an answer that was
  *             cleared and never filled has not passed, though its number is 0.
@@ -35,56 +35,34 @@
  *             signs a sending, ask moatbetony_charge for the charge, and show the amount, the charge and their sum, which leaves the
  *             account. Ask the library each time, and work no charge out: how it is rounded is the library's. There is no call for the
  *             most that a balance allows: on 25 try a smaller amount.
- * COMMITTEE   A far ledger may have a committee of 2k members, k from 1 to MOATBETONY_MAX_COMMITTEE_HALF. From time to time they sign a
- *             certificate: its number, the root and the leaf count of the far sendings that are pending, and the digest of the next
- *             committee's keys. moatbetony_home_open_committee opens with k and the digest of the first keys; each certificate that
- *             passes brings its next keys into force; k stays. Numbers count from each opening: the message that members sign has to name
- *             this pair of ledgers and this opening, or old certificates, and those of another link, pass here too. A validator opened with moatbetony_home_open has no committee and passes none. A
- *             digest of keys is whatever 32 bytes both networks agreed on: the library works none out, and only compares.
- *               What you check before you hand a certificate in: each signature, over number, root, leaf count and next keys as the far
- *             network defines that message, under the key of that member of the committee whose keys' digest is in force, which
- *             moatbetony_home_committee tells. Then fill in what you found, over whatever came in:
- *               keys     the digest of the keys under which you really checked, worked out from these keys; one that is copied from the
- *                        state, or from what came in, says nothing.
- *               signers  bit i, member 0 the lowest, set only if you yourself found member i's signature good. More than k of the
- *                        lowest 2k bits must be set, and none from 2k on (else 55). A mask that its sender wrote is one that nobody has
- *                        checked.
- *             A certificate that passed moves no credit, takes no place and pays nobody: hand nothing over on it, and store the state
- *             like after a record. Keep every one that passed, with its signatures, in order: no journal has them, and a state that is
- *             worked out anew needs them all. On 53, 54 and 55 hand nothing over either; the keys in force stay. The root is neither looked at nor
- *             kept in this version: records and lists are answered as without a committee, and an arrival that passed was not held
- *             against any certificate.
  * PLACES      A validator holds MOATBETONY_CAPACITY passed records of a ledger, and then passes no further one (41): no record makes
  *             room again. Ask moatbetony_pair_places_left or moatbetony_home_places_left before each record, so that you see 41 coming:
  *             warn while there is time for the networks to make a new opening, and close the desk with no place left. Beside a refused
  *             state (3) stands 0 too: test the answer first.
  * STATES      are plain numbers of 64 bits. Hand records in with the calls in place (moatbetony_pair_take, moatbetony_home_take and their
- *             _list, of certificates moatbetony_home_take_certificate): they alter the state behind the pointer where the answer passed,
- *             and a refusal leaves every word of it as it was. One record or certificate is taken without a copy of the state; a list
- *             keeps one copy while it runs. Until such a call returns, the state is in between: after one that was cut off, take up the
- *             stored state. All other calls take a state by value and neither keep nor alter the caller's copy: where
- *             moatbetony_pair_check_record or one of its kind passed, go on with `outcome.state`. A refused one hands the state back as
- *             it came, and a refused write leaves the output as it came.
+ *             _list): they alter the state behind the pointer where the answer passed, and a refusal leaves every word of it as it was.
+ *             One record is taken without a copy of the state; a list keeps one copy while it runs. Until such a call returns, the state
+ *             is in between: after one that was cut off, take up the stored state. All other calls take a state by value and neither
+ *             keep nor alter the caller's copy: where moatbetony_pair_check_record or one of its kind passed, go on with
+ *             `outcome.state`. A refused one hands the state back as it came, and a refused write leaves the output as it came.
  * STORING     A stored state may be damaged or forged: every call judges its state first (refusal 3). 3 says that a state's numbers fit
  *             together, and no more. It does not see two balances exchanged, a balance raised together with the supply (home: or at the
  *             far pool's cost), another rate or charge account that an opening would take, held records left out, so that they pass again,
- *             a committee left out or with another k, last number or keys in force, or an older state put back, which brings older keys
- *             into force too, so that a committee of before can sign again. Keep the latest digest of a stored state where nobody else can
- *             write it, and compare it before the state is taken up. Store a new state before goods are handed over on it, and the one
- *             after a certificate before the next is handed in. A state is stored with moatbetony_state_version, and taken up under no
- *             other.
- * ANY INPUT   is taken: damaged bytes, wrong lengths, forged states. But for signatures, nothing needs to be checked before a call.
+ *             or an older state put back. Keep the latest digest of a stored state where nobody else can write it, and compare it before
+ *             the state is taken up. Store a new state before goods are handed over on it. A state is stored with
+ *             moatbetony_state_version, and taken up under no other.
+ * ANY INPUT   is taken: damaged bytes, wrong lengths, forged states. But for the signature, nothing needs to be checked before a call.
  *             What a caller owes is what C asks of every buffer: so many items can be read there (and written, for what is), 64-bit
  *             numbers stand aligned, what is written (the output, a state in place) overlaps nothing else that is lent, and nobody else
  *             touches it during the call or writes to the rest. NULL is allowed for bytes or numbers where their length is 0, and never
  *             for a state.
  * THREADS     No data of its own that is written, no allocation, no input or output, no locks: any number of threads may call at once. A
- *             state belongs to one caller at a time; threads that share one keep a lock of their own around taking a record or certificate
- *             and storing the state.
+ *             state belongs to one caller at a time; threads that share one keep a lock of their own around taking a record and storing
+ *             the state.
  * STACK       A call needs at most MOATBETONY_STACK_PAIR bytes with a pair state, MOATBETONY_STACK_HOME with a home state and
  *             MOATBETONY_STACK_OTHER without one, its arguments and its result included. Measured, not proved. The library touches
  *             its frames page by page, so that too small a stack ends at its guard page; -fstack-clash-protection does so for a caller's.
- * SIZES       moatbetony_pair_t is 4,215 words of 8 bytes (33,720) and moatbetony_home_t 2,118 (16,944). Neither has padding, so that their
+ * SIZES       moatbetony_pair_t is 4,215 words of 8 bytes (33,720) and moatbetony_home_t 2,111 (16,888). Neither has padding, so that their
  *             bytes can be stored, hashed and compared. Of the other structs moatbetony_record_t alone has padding: compare its fields.
  *             Store or hash states alone.
  * PLATFORM    x86-64 Linux with the System V calling convention and glibc; little-endian, 64-bit size_t. C99 or later, C++11 or later.
@@ -119,26 +97,24 @@ extern "C" {
 /* ## Constants */
 
 #define MOATBETONY_VERSION_MAJOR 0
-#define MOATBETONY_VERSION_MINOR 7
-#define MOATBETONY_VERSION_PATCH 0
-#define MOATBETONY_VERSION_TEXT "0.7.0"
+#define MOATBETONY_VERSION_MINOR 6
+#define MOATBETONY_VERSION_PATCH 1
+#define MOATBETONY_VERSION_TEXT "0.6.1"
 /* This header's version, as moatbetony_version gives the library's: major * 10,000 + minor * 100 + patch. */
 #define MOATBETONY_VERSION (MOATBETONY_VERSION_MAJOR * 10000 + MOATBETONY_VERSION_MINOR * 100 + MOATBETONY_VERSION_PATCH)
 /* The layout of the two states. It is stored with a state, and a state is taken up only under its own. */
-#define MOATBETONY_STATE_VERSION 4
+#define MOATBETONY_STATE_VERSION 3
 
-#define MOATBETONY_RECORD_SIZE 32        /* bytes of a record */
-#define MOATBETONY_BLOCK_SIZE 512        /* bytes of a journal's block */
-#define MOATBETONY_HEADER_SIZE 32        /* bytes of a block before its items */
-#define MOATBETONY_BALANCE_SIZE 8        /* bytes of an opening balance in a block */
-#define MOATBETONY_DIGEST_SIZE 32        /* bytes of a digest */
-#define MOATBETONY_RECORDS_PER_BLOCK 14  /* the most records of a block */
-#define MOATBETONY_MAX_BLOCKS 65536      /* the most blocks of a journal */
-#define MOATBETONY_MAX_ACCOUNTS 56       /* the most accounts of a ledger, and opening balances of a block */
-#define MOATBETONY_CAPACITY 512          /* the passed records that a validator holds of a ledger */
-#define MOATBETONY_MAX_RATE 10000        /* the greatest rate of the charge, in ten-thousandths of what is sent */
-#define MOATBETONY_MAX_COMMITTEE_HALF 32 /* the greatest k of a far committee, which has 2k members */
-#define MOATBETONY_MAX_LEAVES 4096       /* the most leaves of a certificate */
+#define MOATBETONY_RECORD_SIZE 32       /* bytes of a record */
+#define MOATBETONY_BLOCK_SIZE 512       /* bytes of a journal's block */
+#define MOATBETONY_HEADER_SIZE 32       /* bytes of a block before its items */
+#define MOATBETONY_BALANCE_SIZE 8       /* bytes of an opening balance in a block */
+#define MOATBETONY_DIGEST_SIZE 32       /* bytes of a SHA-256 digest */
+#define MOATBETONY_RECORDS_PER_BLOCK 14 /* the most records of a block */
+#define MOATBETONY_MAX_BLOCKS 65536     /* the most blocks of a journal */
+#define MOATBETONY_MAX_ACCOUNTS 56      /* the most accounts of a ledger, and opening balances of a block */
+#define MOATBETONY_CAPACITY 512         /* the passed records that a validator holds of a ledger */
+#define MOATBETONY_MAX_RATE 10000       /* the greatest rate of the charge, in ten-thousandths of what is sent */
 /* The most credit that both ledgers hold, and the most that a record moves: 2^63-1. */
 #define MOATBETONY_MAX_SUPPLY UINT64_C(9223372036854775807)
 
@@ -178,7 +154,7 @@ enum moatbetony_block_kind {
 enum moatbetony_refusal {
     MOATBETONY_NO_REFUSAL = 0,
     /* caused by the maker who calls */
-    MOATBETONY_REFUSED_ACCOUNT_COUNT = 1, /* also a committee's k */
+    MOATBETONY_REFUSED_ACCOUNT_COUNT = 1,
     MOATBETONY_REFUSED_SUPPLY = 2,
     MOATBETONY_REFUSED_STATE = 3,
     MOATBETONY_REFUSED_BLOCK_REQUEST = 4,
@@ -188,7 +164,7 @@ enum moatbetony_refusal {
     MOATBETONY_REFUSED_BLOCK_NUMBER = 13,
     MOATBETONY_REFUSED_BLOCK_FORM = 14,
     /* by the record's author */
-    MOATBETONY_REFUSED_RECORD_FORM = 21, /* of a certificate its leaf count */
+    MOATBETONY_REFUSED_RECORD_FORM = 21,
     MOATBETONY_REFUSED_ACCOUNT = 22, /* the sender's account; of a balance the account asked for */
     MOATBETONY_REFUSED_VERDICT = 23,
     MOATBETONY_REFUSED_NUMBER_USED = 24, /* in its class: arrivals, or locals and sendings */
@@ -203,12 +179,7 @@ enum moatbetony_refusal {
     /* by the record's author */
     MOATBETONY_REFUSED_RECEIVER = 51, /* the receiver's account */
     /* by the maker who calls; of a block by the journal's keeper */
-    MOATBETONY_REFUSED_TARIFF = 52, /* rate or charge account */
-    /* by the far committee or who brings its certificates; by the maker who calls, of a validator without a committee or with other keys */
-    MOATBETONY_REFUSED_CERTIFICATE_NUMBER = 53,
-    MOATBETONY_REFUSED_CERTIFICATE_KEYS = 54, /* those that it was checked under */
-    /* by the far committee; of a bit beyond it by the maker who calls */
-    MOATBETONY_REFUSED_SIGNERS = 55
+    MOATBETONY_REFUSED_TARIFF = 52 /* rate or charge account */
 };
 
 /* ## Types */
@@ -252,10 +223,6 @@ typedef struct moatbetony_home {
     uint64_t count;          /* the number of held records */
     uint64_t rate;           /* of the charge on home's sendings, in ten-thousandths: 0 to 10,000 */
     uint64_t charge_account; /* the home account that is paid the charge */
-    uint64_t committee;      /* 1 with a far committee; 0 without one, and then all words below are 0 */
-    uint64_t half;           /* k: the committee has 2k members */
-    uint64_t last;           /* the number of the last passed certificate, 0 before the first */
-    uint64_t keys[4];        /* the digest of the keys in force: the numbers of eight bytes each, highest byte first */
 } moatbetony_home_t;
 
 /* An answer, and the state to go on with. */
@@ -298,24 +265,6 @@ typedef struct moatbetony_home_places {
     moatbetony_answer_t answer;
     uint64_t home;
 } moatbetony_home_places_t;
-
-/* A certificate of the far committee, with what the caller's own check of its signatures found (COMMITTEE above). */
-typedef struct moatbetony_certificate {
-    uint64_t number;       /* the first one's is 1, and each further one's the last one's plus 1 */
-    uint8_t root[32];      /* of the pending far sendings; neither looked at nor kept in this version */
-    uint64_t leaves;       /* how many they are: 1 to 4,096 */
-    uint8_t next_keys[32]; /* the digest of the next committee's keys, which come into force */
-    uint8_t keys[32];      /* the digest of the keys under which the caller checked the signatures */
-    uint64_t signers;      /* bit i: the caller found member i's signature good; member 0 the lowest bit */
-} moatbetony_certificate_t;
-
-/* The far committee of a home validator. Where the answer passed, half 0 says that there is none; beside 3 all is 0 too. */
-typedef struct moatbetony_committee {
-    moatbetony_answer_t answer;
-    uint64_t half;    /* k: it has 2k members */
-    uint64_t last;    /* the number of the last passed certificate, 0 before the first */
-    uint8_t keys[32]; /* the digest of the keys in force */
-} moatbetony_committee_t;
 
 /* An account's balance. */
 typedef struct moatbetony_balance {
@@ -370,7 +319,7 @@ typedef struct moatbetony_balances {
     uint64_t balances[56];
 } moatbetony_balances_t;
 
-/* A digest: of SHA-256, or of a committee's keys as both networks agreed. */
+/* A SHA-256 digest. */
 typedef struct moatbetony_digest {
     uint8_t bytes[32];
 } moatbetony_digest_t;
@@ -378,9 +327,9 @@ typedef struct moatbetony_digest {
 /* ## Version */
 
 /* The library's version: major * 10,000 + minor * 100 + patch. Equal to MOATBETONY_VERSION if library and header belong together:
-   compare them once, before the first call. A library older than 0.7.0 has other home states, and no committee, one older than 0.6.0 has
-   other arguments and other states, and takes no charge, one older than 0.5.0 counts the numbers of arrivals with all others (24), one
-   older than 0.4.0 gives 22 for a receiver's account too, and one older than 0.2.0 fills no `passed` in. */
+   compare them once, before the first call. A library older than 0.6.0 has other arguments and other states, and takes no charge, one
+   older than 0.5.0 counts the numbers of arrivals with all others (24), one older than 0.4.0 gives 22 for a receiver's account too, and
+   one older than 0.2.0 fills no `passed` in. */
 uint32_t moatbetony_version(void);
 
 /* The library's layout of the two states. Store it with a state, and take a state up only if it is the same. */
@@ -427,23 +376,14 @@ MOATBETONY_MUST_USE moatbetony_pair_places_t moatbetony_pair_places_left(moatbet
 
 /* ## The home validator
    Refusals of a record, in order: 3, 21, 33, 22, 51, 23, 24, then 25 (local, sending) or 32 (arrival), then 41. 22, 51, 24 and 25 say
-   what they say in the pair validator; the far accounts are as many as the opening told. They are the same with a committee.
-   Refusals of a certificate, in order: 3, 21, 53, 54, 55. 21 says that its leaf count is outside 1 to 4,096; 53 that its number is not the
-   last one's plus 1 (the first one's is 1, and none follows 2^64-1), or that there is no committee; 54 that it was checked under other keys
-   than those in force; 55 that not more than k of the committee's 2k bits are set, or one beyond them. */
+   what they say in the pair validator; the far accounts are as many as the opening told. */
 
 /* Opens with the home balances, one for each account from 0, the number of far accounts and their total, and rate and charge account of
-   home's sendings (CHARGE above), without a committee. Answers 1, 2, 52, in this order, place 0; beside a refusal stands the state of
-   zeros, which every call refuses with 3. */
+   home's sendings (CHARGE above). Answers 1, 2, 52, in this order, place 0; beside a refusal stands the state of zeros, which every call
+   refuses with 3. */
 MOATBETONY_MUST_USE moatbetony_home_outcome_t moatbetony_home_open(
     const uint64_t *home_balances, size_t home_balances_len, size_t far_accounts, uint64_t far_total, uint64_t rate,
     uint64_t charge_account);
-
-/* Opens as moatbetony_home_open, with a far committee of 2 * `half` members and the digest of its first keys (COMMITTEE above). Answers 1
-   (also where `half` is outside 1 to 32), 2, 52, in this order, place 0; beside a refusal stands the state of zeros. */
-MOATBETONY_MUST_USE moatbetony_home_outcome_t moatbetony_home_open_committee(
-    const uint64_t *home_balances, size_t home_balances_len, size_t far_accounts, uint64_t far_total, uint64_t rate,
-    uint64_t charge_account, uint64_t half, moatbetony_digest_t keys);
 
 /* Checks one home record, and moves its credit in the state if it passes. Other than 32 bytes is 21. Answers 3, 21, 33, 22, 51, 23 to
    25, 32, 41, place 0; a refusal leaves the state as it was. `state` must not be NULL. */
@@ -461,20 +401,6 @@ MOATBETONY_MUST_USE moatbetony_home_outcome_t moatbetony_home_check_record(
 /* moatbetony_home_take_list by value; beside a refusal stands the state from before the list. */
 MOATBETONY_MUST_USE moatbetony_home_outcome_t moatbetony_home_check_list(
     moatbetony_home_t state, const uint8_t *bytes, size_t bytes_len);
-
-/* Checks a certificate whose signatures the caller has checked (COMMITTEE above). One that passes brings its next keys into force and makes
-   its number the last one, and alters nothing else of the state. Answers 3, 21, 53, 54, 55, place 0; a refusal leaves the state as it was.
-   `state` must not be NULL. */
-MOATBETONY_MUST_USE moatbetony_answer_t moatbetony_home_take_certificate(moatbetony_home_t *state, moatbetony_certificate_t certificate);
-
-/* moatbetony_home_take_certificate by value: the state to go on with stands beside the answer, and beside a refusal the state as it
-   came. */
-MOATBETONY_MUST_USE moatbetony_home_outcome_t moatbetony_home_check_certificate(
-    moatbetony_home_t state, moatbetony_certificate_t certificate);
-
-/* The far committee: k, the number of the last passed certificate and the digest of the keys in force, under which the next one has to be
-   checked; zeros where there is none. Answers 3, with zeros, which say nothing of the committee: test the answer first. */
-MOATBETONY_MUST_USE moatbetony_committee_t moatbetony_home_committee(moatbetony_home_t state);
 
 /* The home total and the far pool. Answers 3, with zeros. */
 MOATBETONY_MUST_USE moatbetony_home_figures_t moatbetony_home_figures(moatbetony_home_t state);
@@ -547,7 +473,7 @@ static inline const char *moatbetony_refusal_text(uint32_t number)
 {
     switch (number) {
     case MOATBETONY_NO_REFUSAL: return "no refusal";
-    case MOATBETONY_REFUSED_ACCOUNT_COUNT: return "account count outside 1 to 56, or a committee's half outside 1 to 32";
+    case MOATBETONY_REFUSED_ACCOUNT_COUNT: return "account count outside 1 to 56";
     case MOATBETONY_REFUSED_SUPPLY: return "opening balances above 2^63-1 in all";
     case MOATBETONY_REFUSED_STATE: return "state damaged, altered or never opened";
     case MOATBETONY_REFUSED_BLOCK_REQUEST: return "block cannot be written so, or has no such item";
@@ -555,7 +481,7 @@ static inline const char *moatbetony_refusal_text(uint32_t number)
     case MOATBETONY_REFUSED_BLOCK_CHECK: return "block differs from its check";
     case MOATBETONY_REFUSED_BLOCK_NUMBER: return "block has another number";
     case MOATBETONY_REFUSED_BLOCK_FORM: return "block with a wrong kind, count or zero byte, or after one that is not full";
-    case MOATBETONY_REFUSED_RECORD_FORM: return "not a record, or a certificate with a leaf count outside 1 to 4,096";
+    case MOATBETONY_REFUSED_RECORD_FORM: return "not a record";
     case MOATBETONY_REFUSED_ACCOUNT: return "sender's account, or the account asked for, not open";
     case MOATBETONY_REFUSED_VERDICT: return "bad signature";
     case MOATBETONY_REFUSED_NUMBER_USED: return "number already used on this ledger (arrivals counted apart)";
@@ -566,9 +492,6 @@ static inline const char *moatbetony_refusal_text(uint32_t number)
     case MOATBETONY_REFUSED_FULL: return "ledger holds 512 passed records";
     case MOATBETONY_REFUSED_RECEIVER: return "receiver's account not open";
     case MOATBETONY_REFUSED_TARIFF: return "rate above 10,000, or charge account not open at home";
-    case MOATBETONY_REFUSED_CERTIFICATE_NUMBER: return "certificate's number not the next one, or no committee";
-    case MOATBETONY_REFUSED_CERTIFICATE_KEYS: return "certificate checked under other keys than those in force";
-    case MOATBETONY_REFUSED_SIGNERS: return "signers not more than half of the committee, or one beyond it";
     default: return "refused with a number that this header does not know";
     }
 }
@@ -598,7 +521,7 @@ MOATBETONY_ASSERT(offsetof(moatbetony_pair_t, accounts) == 8 * 4209);
 MOATBETONY_ASSERT(offsetof(moatbetony_pair_t, counts) == 8 * 4211);
 MOATBETONY_ASSERT(offsetof(moatbetony_pair_t, rate) == 8 * 4213);
 MOATBETONY_ASSERT(offsetof(moatbetony_pair_t, charge_account) == 8 * 4214);
-MOATBETONY_ASSERT(sizeof(moatbetony_home_t) == 8 * 2118);
+MOATBETONY_ASSERT(sizeof(moatbetony_home_t) == 8 * 2111);
 MOATBETONY_ASSERT(offsetof(moatbetony_home_t, balances) == 8 * 2048);
 MOATBETONY_ASSERT(offsetof(moatbetony_home_t, supply) == 8 * 2104);
 MOATBETONY_ASSERT(offsetof(moatbetony_home_t, pool) == 8 * 2105);
@@ -607,10 +530,6 @@ MOATBETONY_ASSERT(offsetof(moatbetony_home_t, far_accounts) == 8 * 2107);
 MOATBETONY_ASSERT(offsetof(moatbetony_home_t, count) == 8 * 2108);
 MOATBETONY_ASSERT(offsetof(moatbetony_home_t, rate) == 8 * 2109);
 MOATBETONY_ASSERT(offsetof(moatbetony_home_t, charge_account) == 8 * 2110);
-MOATBETONY_ASSERT(offsetof(moatbetony_home_t, committee) == 8 * 2111);
-MOATBETONY_ASSERT(offsetof(moatbetony_home_t, half) == 8 * 2112);
-MOATBETONY_ASSERT(offsetof(moatbetony_home_t, last) == 8 * 2113);
-MOATBETONY_ASSERT(offsetof(moatbetony_home_t, keys) == 8 * 2114);
 MOATBETONY_ASSERT(sizeof(moatbetony_pair_outcome_t) == 16 + 8 * 4215);
 MOATBETONY_ASSERT(offsetof(moatbetony_pair_outcome_t, state) == 16);
 MOATBETONY_ASSERT(sizeof(moatbetony_pair_figures_t) == 40);
@@ -620,23 +539,13 @@ MOATBETONY_ASSERT(offsetof(moatbetony_pair_figures_t, flight) == 32);
 MOATBETONY_ASSERT(sizeof(moatbetony_pair_places_t) == 32);
 MOATBETONY_ASSERT(offsetof(moatbetony_pair_places_t, home) == 16);
 MOATBETONY_ASSERT(offsetof(moatbetony_pair_places_t, far) == 24);
-MOATBETONY_ASSERT(sizeof(moatbetony_home_outcome_t) == 16 + 8 * 2118);
+MOATBETONY_ASSERT(sizeof(moatbetony_home_outcome_t) == 16 + 8 * 2111);
 MOATBETONY_ASSERT(offsetof(moatbetony_home_outcome_t, state) == 16);
 MOATBETONY_ASSERT(sizeof(moatbetony_home_figures_t) == 32);
 MOATBETONY_ASSERT(offsetof(moatbetony_home_figures_t, home) == 16);
 MOATBETONY_ASSERT(offsetof(moatbetony_home_figures_t, pool) == 24);
 MOATBETONY_ASSERT(sizeof(moatbetony_home_places_t) == 24);
 MOATBETONY_ASSERT(offsetof(moatbetony_home_places_t, home) == 16);
-MOATBETONY_ASSERT(sizeof(moatbetony_certificate_t) == 120);
-MOATBETONY_ASSERT(offsetof(moatbetony_certificate_t, root) == 8);
-MOATBETONY_ASSERT(offsetof(moatbetony_certificate_t, leaves) == 40);
-MOATBETONY_ASSERT(offsetof(moatbetony_certificate_t, next_keys) == 48);
-MOATBETONY_ASSERT(offsetof(moatbetony_certificate_t, keys) == 80);
-MOATBETONY_ASSERT(offsetof(moatbetony_certificate_t, signers) == 112);
-MOATBETONY_ASSERT(sizeof(moatbetony_committee_t) == 64);
-MOATBETONY_ASSERT(offsetof(moatbetony_committee_t, half) == 16);
-MOATBETONY_ASSERT(offsetof(moatbetony_committee_t, last) == 24);
-MOATBETONY_ASSERT(offsetof(moatbetony_committee_t, keys) == 32);
 MOATBETONY_ASSERT(sizeof(moatbetony_balance_t) == 24);
 MOATBETONY_ASSERT(offsetof(moatbetony_balance_t, balance) == 16);
 MOATBETONY_ASSERT(sizeof(moatbetony_record_t) == 48);

@@ -1,8 +1,8 @@
-/* Calls every export and helper of moatbetony.h with good and bad input: the cases of document 01 at this boundary, the charge and the
-   certificates of document 02 (U3, U5), wrong lengths, NULL with length 0, forged states, refused writes; the calls in place beside those
-   by value. Arguments are chosen so that a wrong width or order in the header shows. Records and blocks are made here by hand, and not by
-   the calls under test. Bytes are lent where they end at a page that nobody may touch, and results come back over what stood there before.
-   The last line is 'N checks, 0 failed'. */
+/* Calls every export and helper of moatbetony.h with good and bad input: the cases of document 01 at this boundary, the charge of document
+   02 (U3), wrong lengths, NULL with length 0, forged states, refused writes; the calls in place beside those by value. Arguments are
+   chosen so that a wrong width or order in the header shows. Records and blocks are made here by hand, and not by the calls under test.
+   Bytes are lent where they end at a page that nobody may touch, and results come back over what stood there before. The last line is
+   'N checks, 0 failed'. */
 #ifndef _GNU_SOURCE
 #define _GNU_SOURCE
 #endif
@@ -169,13 +169,13 @@ static const uint8_t *lent(const void *bytes, size_t length)
 
 static void versions(void)
 {
-    static const uint32_t known[] = {0, 1, 2, 3, 4, 11, 12, 13, 14, 21, 22, 23, 24, 25, 31, 32, 33, 41, 51, 52, 53, 54, 55};
+    static const uint32_t known[] = {0, 1, 2, 3, 4, 11, 12, 13, 14, 21, 22, 23, 24, 25, 31, 32, 33, 41, 51, 52};
     size_t i, j;
     CHECK(moatbetony_version() == MOATBETONY_VERSION);
-    CHECK(moatbetony_version() == 700);
-    CHECK(strcmp(MOATBETONY_VERSION_TEXT, "0.7.0") == 0);
+    CHECK(moatbetony_version() == 601);
+    CHECK(strcmp(MOATBETONY_VERSION_TEXT, "0.6.1") == 0);
     CHECK(moatbetony_state_version() == MOATBETONY_STATE_VERSION);
-    CHECK(moatbetony_state_version() == 4);
+    CHECK(moatbetony_state_version() == 3);
     for (i = 0; i < sizeof known / sizeof *known; i++) {
         CHECK(strcmp(moatbetony_refusal_text(known[i]), moatbetony_refusal_text(99)) != 0);
         for (j = 0; j < i; j++)
@@ -893,32 +893,6 @@ static void home_one(moatbetony_home_t *s, bytes32 r, uint32_t number, int line)
 
 #define HOME(s, record, number) home_one(&(s), record, number, __LINE__)
 
-/* ### Certificates by hand */
-
-/* Digests of keys, each byte of which tells its place: those of the n-th committee. */
-static moatbetony_digest_t keys_of(int n)
-{
-    moatbetony_digest_t keys;
-    int i;
-    for (i = 0; i < 32; i++)
-        keys.bytes[i] = (uint8_t)(0x20 * n + i);
-    return keys;
-}
-
-/* Certificate 1 of a committee of 2k members: all of the first one's signed it, and it hands over to the second's keys. */
-static moatbetony_certificate_t certificate_1(uint64_t k)
-{
-    moatbetony_certificate_t c;
-    memset(&c, 0, sizeof c);
-    c.number = 1;
-    memset(c.root, 0xc5, 32);
-    c.leaves = 1;
-    memcpy(c.next_keys, keys_of(2).bytes, 32);
-    memcpy(c.keys, keys_of(1).bytes, 32);
-    c.signers = UINT64_MAX >> (64 - 2 * k);
-    return c;
-}
-
 static void home_openings(void)
 {
     uint64_t many[57], zero = 0;
@@ -931,7 +905,7 @@ static void home_openings(void)
     CHECK(o.state.supply == WIDE + 2005 && o.state.pool == WIDE + 4 && o.state.count == 0);
     CHECK(o.state.home_accounts == 2 && o.state.far_accounts == 3);
     CHECK(o.state.balances[0] == 1000 && o.state.balances[1] == 1001 && all_zero(o.state.balances + 2, 54 * 8));
-    CHECK(all_zero(o.state.records, sizeof o.state.records) && all_zero(&o.state.committee, 7 * 8));
+    CHECK(all_zero(o.state.records, sizeof o.state.records));
 
     ANSWER(moatbetony_home_open(NUMBERS(many, 56), 56, 0, NO_CHARGE).answer, 0, 0);
     ANSWER(moatbetony_home_open(NUMBERS(many, 57), 56, 0, NO_CHARGE).answer, 1, 0);
@@ -1153,10 +1127,7 @@ static void home_lists(void)
 /* As pair_forged. */
 static void home_forged(const moatbetony_home_t *forged, int line)
 {
-    static moatbetony_certificate_t none; /* also 21, for its leaf count */
     moatbetony_home_t s = *forged;
-    moatbetony_certificate_t first = certificate_1(1);
-    moatbetony_committee_t c = moatbetony_home_committee(s);
     bytes32 r = local(0, 0, 0, 99, 1);
     moatbetony_home_outcome_t o = moatbetony_home_check_record(s, BYTES(r.at, 32));
     moatbetony_home_figures_t f = moatbetony_home_figures(s);
@@ -1180,16 +1151,6 @@ static void home_forged(const moatbetony_home_t *forged, int line)
     check_answer(moatbetony_home_balance(s, 99).answer, 3, 0, line);
     check_answer(p.answer, 3, 0, line);
     check(p.home == 0, "zero beside 3", line);
-    check_answer(c.answer, 3, 0, line);
-    check(c.half == 0 && c.last == 0 && all_zero(c.keys, 32), "zeros beside 3", line);
-    o = moatbetony_home_check_certificate(s, first);
-    check_answer(o.answer, 3, 0, line);
-    check(memcmp(&o.state, forged, sizeof s) == 0, "state as it came", line);
-    check_answer(moatbetony_home_check_certificate(s, none).answer, 3, 0, line);
-    check_answer(moatbetony_home_take_certificate(&s, first), 3, 0, line);
-    check(memcmp(&s, forged, sizeof s) == 0, "state as it was", line);
-    check_answer(moatbetony_home_take_certificate(&s, none), 3, 0, line);
-    check(memcmp(&s, forged, sizeof s) == 0, "state as it was", line);
     check_answer(moatbetony_home_take(&s, BYTES(r.at, 32)), 3, 0, line);
     check(memcmp(&s, forged, sizeof s) == 0, "state as it was", line);
     check_answer(moatbetony_home_take(&s, NULL, 0), 3, 0, line);
@@ -1258,17 +1219,6 @@ static void home_states(void)
     HOME_FORGED(f.charge_account = 65536);
     HOME_FORGED(f.charge_account += WIDE);
     HOME_FORGED(f.charge_account = UINT64_MAX);
-    HOME_FORGED(f.committee = 1); /* with k 0 */
-    HOME_FORGED((f.committee = 2, f.half = 1));
-    HOME_FORGED((f.committee = WIDE + 1, f.half = 1));
-    HOME_FORGED(f.half = 1); /* the committee's words are zeros without one */
-    HOME_FORGED(f.half = WIDE);
-    HOME_FORGED(f.last = 1);
-    HOME_FORGED(f.last = UINT64_MAX);
-    for (i = 0; i < 4; i++) {
-        HOME_FORGED(f.keys[i] = 1);
-        HOME_FORGED(f.keys[i] = UINT64_C(1) << 63);
-    }
     HOME_FORGED(f.supply = MAX + 1);
     HOME_FORGED(f.supply += 1);
     HOME_FORGED(f.supply += WIDE);
@@ -1337,340 +1287,6 @@ static void home_states(void)
     HOME(odd, sending(0, 0, 0, 7, 30), 24);
     odd.count = 0;
     HOME(odd, sending(0, 0, 0, 7, 30), 0);
-}
-
-/* ### The far committee */
-
-static moatbetony_home_t committee_opened(uint64_t k)
-{
-    moatbetony_home_outcome_t o = moatbetony_home_open_committee(NUMBERS(HOMES, 2), 1, 20, NO_CHARGE, k, keys_of(1));
-    ANSWER(o.answer, 0, 0);
-    return o.state;
-}
-
-static void committee_is(const moatbetony_home_t *s, uint64_t half, uint64_t last, int n, int line)
-{
-    moatbetony_committee_t c = moatbetony_home_committee(*s);
-    check_answer(c.answer, 0, 0, line);
-    check(c.half == half && c.last == last, "the committee and its last certificate", line);
-    check(memcmp(c.keys, keys_of(n).bytes, 32) == 0, "the keys in force", line);
-}
-
-/* Hands a certificate in by value and in place, from the same state, which ends at a page that nobody may touch: each gives this answer,
-   and the same state; a refusal the state as it was, a pass the committee's last number and keys altered, and no other word. */
-static void certificate_one(moatbetony_home_t *s, moatbetony_certificate_t x, uint32_t number, int line)
-{
-    static moatbetony_home_t *in_place;
-    moatbetony_home_t before = *s;
-    moatbetony_certificate_t own = x;
-    moatbetony_home_outcome_t o = moatbetony_home_check_certificate(*s, x);
-    check(memcmp(s, &before, sizeof before) == 0, "the caller's copy is not altered", line);
-    check_answer(o.answer, number, 0, line);
-    if (in_place == NULL)
-        in_place = (moatbetony_home_t *)(void *)guarded(sizeof *in_place);
-    *in_place = *s;
-    check_answer(moatbetony_home_take_certificate(in_place, x), number, 0, line);
-    check(memcmp(in_place, &o.state, sizeof before) == 0, "in place as by value", line);
-    check(memcmp(&x, &own, sizeof own) == 0, "the caller's certificate is not altered", line);
-    if (number == 0) {
-        int i, j;
-        before.last = x.number;
-        for (i = 0; i < 4; i++)
-            for (before.keys[i] = 0, j = 0; j < 8; j++)
-                before.keys[i] = before.keys[i] << 8 | x.next_keys[8 * i + j];
-    }
-    check(memcmp(&o.state, &before, sizeof before) == 0,
-        number == 0 ? "passed: the last number and the keys, no more" : "refused: state as it came", line);
-    *s = o.state;
-}
-
-#define CERTIFICATE(s, certificate, number) certificate_one(&(s), certificate, number, __LINE__)
-
-static void committee_openings(void)
-{
-    static const uint64_t halves[] = {0, 33, 64, 255, 256, 257, 65537, WIDE, WIDE + 1, WIDE + 32, UINT64_MAX};
-    static const uint64_t large[2] = {MAX, 0};
-    moatbetony_digest_t keys = keys_of(1);
-    moatbetony_home_outcome_t o = moatbetony_home_open_committee(NUMBERS(HOMES, 2), 3, WIDE + 4, 258, 1, 17, keys);
-    moatbetony_home_t plain = moatbetony_home_open(NUMBERS(HOMES, 2), 3, WIDE + 4, 258, 1).state;
-    uint64_t k;
-    size_t i;
-    ANSWER(o.answer, 0, 0);
-    CHECK(o.state.committee == 1 && o.state.half == 17 && o.state.last == 0);
-    CHECK(o.state.keys[0] == UINT64_C(0x2021222324252627) && o.state.keys[1] == UINT64_C(0x28292a2b2c2d2e2f));
-    CHECK(o.state.keys[2] == UINT64_C(0x3031323334353637) && o.state.keys[3] == UINT64_C(0x38393a3b3c3d3e3f));
-    committee_is(&o.state, 17, 0, 1, __LINE__);
-    memset(&o.state.committee, 0, 7 * 8); /* all else as without a committee */
-    SAME(o.state, plain);
-
-    for (k = 1; k <= 32; k++) {
-        o = moatbetony_home_open_committee(NUMBERS(HOMES, 2), 1, 20, NO_CHARGE, k, keys);
-        ANSWER(o.answer, 0, 0);
-        committee_is(&o.state, k, 0, 1, __LINE__);
-    }
-    /* 1 for k, before 2 and 52; then these. */
-    for (i = 0; i < sizeof halves / sizeof *halves; i++) {
-        o = moatbetony_home_open_committee(NUMBERS(HOMES, 2), 1, 20, NO_CHARGE, halves[i], keys);
-        ANSWER(o.answer, 1, 0);
-        CHECK(all_zero(&o.state, sizeof o.state));
-        ANSWER(moatbetony_home_open_committee(NUMBERS(large, 2), 1, 1, NO_CHARGE, halves[i], keys).answer, 1, 0);
-        ANSWER(moatbetony_home_open_committee(NUMBERS(HOMES, 2), 1, 20, 10001, 0, halves[i], keys).answer, 1, 0);
-    }
-    ANSWER(moatbetony_home_open_committee(NULL, 0, 1, 20, NO_CHARGE, 1, keys).answer, 1, 0);
-    ANSWER(moatbetony_home_open_committee(NUMBERS(HOMES, 2), 57, 20, NO_CHARGE, 1, keys).answer, 1, 0);
-    o = moatbetony_home_open_committee(NUMBERS(large, 2), 1, 1, 10001, 0, 32, keys);
-    ANSWER(o.answer, 2, 0);
-    CHECK(all_zero(&o.state, sizeof o.state));
-    o = moatbetony_home_open_committee(NUMBERS(HOMES, 2), 1, 20, 0, 2, 32, keys);
-    ANSWER(o.answer, 52, 0);
-    CHECK(all_zero(&o.state, sizeof o.state));
-
-    /* Keys of zeros are keys; without a committee all is zero. */
-    memset(&keys, 0, sizeof keys);
-    o = moatbetony_home_open_committee(NUMBERS(HOMES, 2), 1, 20, NO_CHARGE, 1, keys);
-    ANSWER(o.answer, 0, 0);
-    CHECK(o.state.committee == 1 && o.state.half == 1 && all_zero(o.state.keys, 32));
-    {
-        moatbetony_committee_t none = moatbetony_home_committee(home_opened());
-        ANSWER(none.answer, 0, 0);
-        CHECK(none.half == 0 && none.last == 0 && all_zero(none.keys, 32));
-    }
-}
-
-/* The number, the leaf count, the keys; and what a pass hands over, takes and leaves. */
-static void certificates(void)
-{
-    moatbetony_home_t s = committee_opened(1), before, plain = home_opened();
-    moatbetony_certificate_t x = certificate_1(1), y;
-    int i;
-    x.number = 0;
-    CERTIFICATE(s, x, 53);
-    x.number = 2;
-    CERTIFICATE(s, x, 53);
-    x.number = WIDE + 1;
-    CERTIFICATE(s, x, 53);
-    x.number = 1;
-    committee_is(&s, 1, 0, 1, __LINE__);
-
-    /* Leaf counts, before all else that is wrong. */
-    for (i = 0; i < 2; i++) {
-        y = x;
-        y.number = i ? 1 : 9;
-        y.leaves = 0;
-        CERTIFICATE(s, y, 21);
-        y.leaves = 4097;
-        CERTIFICATE(s, y, 21);
-        y.leaves = WIDE + 1;
-        CERTIFICATE(s, y, 21);
-        y.leaves = UINT64_MAX;
-        CERTIFICATE(s, y, 21);
-        y.leaves = 4096;
-        before = s;
-        CERTIFICATE(before, y, i ? 0 : 53);
-    }
-
-    /* One bit of the keys, each in turn; the order of 53, 54 and 55. */
-    for (i = 0; i < 256; i++) {
-        y = x;
-        y.keys[i / 8] ^= (uint8_t)(1 << i % 8);
-        CERTIFICATE(s, y, 54);
-    }
-    y.signers = 0;
-    CERTIFICATE(s, y, 54);
-    y.number = 2;
-    CERTIFICATE(s, y, 53);
-    y = x;
-    y.signers = 0;
-    CERTIFICATE(s, y, 55);
-
-    /* It passes: the second keys are in force, and it takes no place. A root of any bytes is as good. */
-    before = s;
-    y = x;
-    memset(y.root, 0, 32);
-    CERTIFICATE(before, y, 0);
-    CERTIFICATE(s, x, 0);
-    SAME(s, before);
-    committee_is(&s, 1, 1, 2, __LINE__);
-    home_left(&s, 512, __LINE__);
-    home_figures_are(&s, 150, 20, __LINE__);
-    CERTIFICATE(s, x, 53); /* again */
-    x.number = 2;
-    CERTIFICATE(s, x, 54); /* under the keys of before */
-    memcpy(x.keys, keys_of(2).bytes, 32);
-    memcpy(x.next_keys, keys_of(3).bytes, 32);
-    CERTIFICATE(s, x, 0);
-    committee_is(&s, 1, 2, 3, __LINE__);
-    x.number = 3; /* keys that stay */
-    memcpy(x.keys, keys_of(3).bytes, 32);
-    CERTIFICATE(s, x, 0);
-    committee_is(&s, 1, 3, 3, __LINE__);
-    x.number = 5; /* one left out */
-    CERTIFICATE(s, x, 53);
-
-    /* Records are answered as without a committee, and leave it as it is. */
-    HOME(s, arrival(0, 0, 0, 1, 21), 32);
-    HOME(s, arrival(0, 0, 0, 1, 20), 0);
-    HOME(s, local(0, 1, 0, 1, 51), 25);
-    HOME(s, sending(0, 0, 0, 1, 30), 0);
-    HOME(plain, arrival(0, 0, 0, 1, 20), 0);
-    HOME(plain, sending(0, 0, 0, 1, 30), 0);
-    committee_is(&s, 1, 3, 3, __LINE__);
-    home_left(&s, 510, __LINE__);
-    x.number = 4;
-    CERTIFICATE(s, x, 0);
-    before = s;
-    memset(&before.committee, 0, 7 * 8);
-    SAME(before, plain);
-
-    /* Without a committee: 21 of the leaf count, else 53, whatever the rest says. */
-    x = certificate_1(1);
-    CERTIFICATE(plain, x, 53);
-    x.number = 0;
-    memset(x.keys, 0, 32);
-    CERTIFICATE(plain, x, 53);
-    x.signers = 0;
-    CERTIFICATE(plain, x, 53);
-    x.leaves = 4097;
-    CERTIFICATE(plain, x, 21);
-    x.leaves = 0;
-    CERTIFICATE(plain, x, 21);
-
-    /* None follows 2^64-1. */
-    s = committee_opened(1);
-    s.last = UINT64_MAX - 1;
-    x = certificate_1(1);
-    CERTIFICATE(s, x, 53);
-    x.number = UINT64_MAX;
-    memcpy(x.next_keys, x.keys, 32);
-    CERTIFICATE(s, x, 0);
-    committee_is(&s, 1, UINT64_MAX, 1, __LINE__);
-    CERTIFICATE(s, x, 53);
-    x.number = 0;
-    CERTIFICATE(s, x, 53);
-    x.number = 1;
-    CERTIFICATE(s, x, 53);
-}
-
-/* A mask of signers, at the opening of a committee of 2k. */
-static void signers_are(uint64_t k, uint64_t signers, uint32_t number, int line)
-{
-    moatbetony_home_t s = committee_opened(k);
-    moatbetony_certificate_t x = certificate_1(k);
-    x.signers = signers;
-    certificate_one(&s, x, number, line);
-}
-
-#define SIGNERS(k, signers, number) signers_are(k, UINT64_C(signers), number, __LINE__)
-
-static void signers(void)
-{
-    uint64_t k;
-    SIGNERS(1, 0x0, 55); /* both members of two */
-    SIGNERS(1, 0x1, 55);
-    SIGNERS(1, 0x2, 55);
-    SIGNERS(1, 0x3, 0);
-    SIGNERS(1, 0x4, 55);
-    SIGNERS(1, 0x5, 55);
-    SIGNERS(1, 0x6, 55);
-    SIGNERS(1, 0x7, 55);
-    SIGNERS(1, 0xc, 55);
-    SIGNERS(1, 0x100000003, 55);
-    SIGNERS(1, 0x8000000000000003, 55);
-    SIGNERS(2, 0x7, 0); /* three of four */
-    SIGNERS(2, 0xb, 0);
-    SIGNERS(2, 0xd, 0);
-    SIGNERS(2, 0xe, 0);
-    SIGNERS(2, 0xf, 0);
-    SIGNERS(2, 0x3, 55);
-    SIGNERS(2, 0xa, 55);
-    SIGNERS(2, 0x13, 55); /* three, one of them beyond */
-    SIGNERS(2, 0x1f, 55);
-    SIGNERS(16, 0x1ffff, 0); /* 17 of 32 */
-    SIGNERS(16, 0xffff8000, 0);
-    SIGNERS(16, 0xffff, 55);
-    SIGNERS(16, 0xffff0000, 55);
-    SIGNERS(16, 0x1ffffffff, 55);
-    SIGNERS(16, 0x10001ffff, 55);
-    SIGNERS(31, 0x3fffffffffffffff, 0); /* 32 of 62 */
-    SIGNERS(31, 0xffffffff, 0);
-    SIGNERS(31, 0x7fffffff, 55);
-    SIGNERS(31, 0x40000000ffffffff, 55);
-    SIGNERS(31, 0x80000000ffffffff, 55);
-    SIGNERS(32, 0xffffffffffffffff, 0); /* all 64; 33 of them, and 32 */
-    SIGNERS(32, 0x1ffffffff, 0);
-    SIGNERS(32, 0xffffffff80000000, 0);
-    SIGNERS(32, 0xaaaaaaaaaaaaaaab, 0);
-    SIGNERS(32, 0xffffffff, 55);
-    SIGNERS(32, 0xffffffff00000000, 55);
-    SIGNERS(32, 0xaaaaaaaaaaaaaaaa, 55);
-    SIGNERS(32, 0x8000000000000000, 55);
-    SIGNERS(32, 0x0, 55);
-    for (k = 1; k <= 32; k++) { /* k of them, one more, all, and all but the lowest k - 1 */
-        uint64_t all = UINT64_MAX >> (64 - 2 * k), lowest = UINT64_MAX >> (64 - k);
-        signers_are(k, lowest, 55, __LINE__);
-        signers_are(k, all ^ lowest, 55, __LINE__);
-        signers_are(k, lowest << 1 | 1, 0, __LINE__);
-        signers_are(k, all ^ lowest >> 1, 0, __LINE__);
-        signers_are(k, all, 0, __LINE__);
-        if (k < 32) {
-            signers_are(k, all | (all + 1), 55, __LINE__);
-            signers_are(k, all | UINT64_C(1) << 63, 55, __LINE__);
-        }
-    }
-}
-
-/* What 3 says of the committee's words, and what it does not see. */
-static void committee_states(void)
-{
-    moatbetony_home_t good = committee_opened(3), odd;
-    moatbetony_certificate_t x = certificate_1(3);
-    HOME(good, sending(0, 0, 0, 7, 30), 0);
-    CERTIFICATE(good, x, 0);
-    HOME_FORGED(f.committee = 0); /* the words below are not zeros */
-    HOME_FORGED(f.committee = 2);
-    HOME_FORGED(f.committee = 256);
-    HOME_FORGED(f.committee += WIDE);
-    HOME_FORGED(f.committee = UINT64_MAX);
-    HOME_FORGED(f.half = 0);
-    HOME_FORGED(f.half = 33);
-    HOME_FORGED(f.half += WIDE);
-    HOME_FORGED(f.half = UINT64_MAX);
-    HOME_FORGED((f.committee = 0, f.half = 0));
-    HOME_FORGED((f.committee = 0, f.half = 0, f.last = 0));
-    HOME_FORGED((f.committee = 0, memset(&f.last, 0, 5 * 8)));
-
-    odd = good; /* other keys, another number, another k, and no committee at all */
-    odd.half = 32;
-    odd.last = UINT64_MAX;
-    memset(odd.keys, 0xff, sizeof odd.keys);
-    ANSWER(moatbetony_home_committee(odd).answer, 0, 0);
-    CHECK(moatbetony_home_committee(odd).half == 32 && moatbetony_home_committee(odd).last == UINT64_MAX);
-    home_figures_are(&odd, 120, 50, __LINE__);
-    memset(&odd.committee, 0, 7 * 8);
-    home_figures_are(&odd, 120, 50, __LINE__);
-    /* an older state put back brings the first keys into force */
-    odd = committee_opened(3);
-    CERTIFICATE(odd, x, 0);
-}
-
-/* At a full table a certificate passes: it takes no place. */
-static void certificates_at_full(void)
-{
-    moatbetony_home_t s = committee_opened(2);
-    moatbetony_certificate_t x = certificate_1(2);
-    static uint8_t list[512 * 32];
-    uint64_t i;
-    for (i = 0; i < 512; i++) {
-        bytes32 r = local(0, 0, 0, 1000 + i, 1);
-        memcpy(list + 32 * i, r.at, 32);
-    }
-    ANSWER(moatbetony_home_take_list(&s, BYTES(list, sizeof list)), 0, 0);
-    HOME(s, local(0, 0, 0, 2000, 1), 41);
-    CERTIFICATE(s, x, 0);
-    CERTIFICATE(s, x, 53);
-    HOME(s, local(0, 0, 0, 2000, 1), 41);
-    committee_is(&s, 2, 1, 2, __LINE__);
-    home_left(&s, 0, __LINE__);
 }
 
 static void home_full(void)
@@ -2119,10 +1735,6 @@ INTO(pair_figures, moatbetony_pair_figures_t, moatbetony_pair_t);
 INTO(pair_balance, moatbetony_balance_t, moatbetony_pair_t, uint8_t, uint16_t);
 INTO(pair_places_left, moatbetony_pair_places_t, moatbetony_pair_t);
 INTO(home_open, moatbetony_home_outcome_t, const uint64_t *, size_t, size_t, uint64_t, uint64_t, uint64_t);
-INTO(home_open_committee, moatbetony_home_outcome_t, const uint64_t *, size_t, size_t, uint64_t, uint64_t, uint64_t, uint64_t,
-    moatbetony_digest_t);
-INTO(home_check_certificate, moatbetony_home_outcome_t, moatbetony_home_t, moatbetony_certificate_t);
-INTO(home_committee, moatbetony_committee_t, moatbetony_home_t);
 INTO(home_check_record, moatbetony_home_outcome_t, moatbetony_home_t, const uint8_t *, size_t);
 INTO(home_check_list, moatbetony_home_outcome_t, moatbetony_home_t, const uint8_t *, size_t);
 INTO(home_figures, moatbetony_home_figures_t, moatbetony_home_t);
@@ -2189,16 +1801,6 @@ static void home_slots(void)
     SLOT(home_balance, moatbetony_balance_t, 22, 0, good, 2);
     SLOT(home_places_left, moatbetony_home_places_t, 0, 0, good);
     SLOT(home_places_left, moatbetony_home_places_t, 3, 0, forged);
-    SLOT(home_open_committee, moatbetony_home_outcome_t, 0, 0, HOMES, 2, 1, 20, 50, 1, 32, keys_of(1));
-    SLOT(home_open_committee, moatbetony_home_outcome_t, 1, 0, HOMES, 2, 1, 20, 50, 1, 33, keys_of(1));
-    SLOT(home_open_committee, moatbetony_home_outcome_t, 52, 0, HOMES, 2, 1, 20, 50, 2, 32, keys_of(1));
-    SLOT(home_check_certificate, moatbetony_home_outcome_t, 0, 0, committee_opened(1), certificate_1(1));
-    SLOT(home_check_certificate, moatbetony_home_outcome_t, 55, 0, committee_opened(2), certificate_1(1));
-    SLOT(home_check_certificate, moatbetony_home_outcome_t, 53, 0, good, certificate_1(1));
-    SLOT(home_check_certificate, moatbetony_home_outcome_t, 3, 0, forged, certificate_1(1));
-    SLOT(home_committee, moatbetony_committee_t, 0, 0, committee_opened(1));
-    SLOT(home_committee, moatbetony_committee_t, 0, 0, good);
-    SLOT(home_committee, moatbetony_committee_t, 3, 0, forged);
 }
 
 static void other_slots(void)
@@ -2257,7 +1859,6 @@ static void wide_lengths(void)
     ANSWER(moatbetony_pair_open(numbers, WIDE + 2, FARS, 1, NO_CHARGE).answer, 1, 0);
     ANSWER(moatbetony_pair_open(HOMES, 2, numbers, WIDE + 1, NO_CHARGE).answer, 1, 0);
     ANSWER(moatbetony_home_open(numbers, WIDE + 2, 1, 20, NO_CHARGE).answer, 1, 0);
-    ANSWER(moatbetony_home_open_committee(numbers, WIDE + 2, 1, 20, NO_CHARGE, 1, keys_of(1)).answer, 1, 0);
     memcpy(much, r.at, 32);
     ANSWER(moatbetony_record_read(much, WIDE + 32).answer, 21, 0);
     ANSWER(moatbetony_pair_take(&pair, much, WIDE + 32), 21, 0);
@@ -2336,11 +1937,6 @@ int main(void)
     home_lists();
     home_states();
     home_full();
-    committee_openings();
-    certificates();
-    signers();
-    committee_states();
-    certificates_at_full();
     tariffs();
     exact_charges();
     charges_told();

@@ -1,8 +1,7 @@
-/* The calls in place beside the calls by value, from the same state and with the same bytes or certificate: the same answer, and every
-   byte of the states the same. A refusal leaves every byte as it was, also where no bytes are handed in and where the state is damaged; a
-   pass alters the state as the call by value does. The states run from empty to full tables, without a committee and with one, and each
-   word of some of them is damaged in turn. A state in place ends at a page that nobody may touch, and what stands before it stays. The last
-   line is 'N checks, 0 failed'. */
+/* The calls in place beside the calls by value, from the same state and with the same bytes: the same answer, and every byte of the states
+   the same. A refusal leaves every byte as it was, also where no bytes are handed in and where the state is damaged; a pass alters the
+   state as the call by value does. The states run from empty to full tables, and each word of some of them is damaged in turn. A state in
+   place ends at a page that nobody may touch, and what stands before it stays. The last line is 'N checks, 0 failed'. */
 #ifndef _GNU_SOURCE
 #define _GNU_SOURCE
 #endif
@@ -123,41 +122,6 @@ static void tell(moatbetony_answer_t a, int is_as_it_was, const char *where)
 BOTH_WAYS(pair)
 BOTH_WAYS(home)
 
-/* A certificate in place and by value. */
-static moatbetony_answer_t certificate_both(const moatbetony_home_t *from, const moatbetony_certificate_t *certificate, const char *where)
-{
-    static moatbetony_home_t *state;
-    static moatbetony_home_outcome_t o;
-    moatbetony_answer_t a;
-    if (state == NULL)
-        state = (moatbetony_home_t *)(void *)lent(sizeof *state);
-    *state = *from;
-    a = moatbetony_home_take_certificate(state, *certificate);
-    o = moatbetony_home_check_certificate(*from, *certificate);
-    check(same(a, o.answer), "the answer in place as by value", where);
-    check(memcmp(state, &o.state, sizeof *state) == 0, "the state in place as by value", where);
-    check(is_marked((const uint8_t *)state), "what stands before the state", where);
-    tell(a, memcmp(state, from, sizeof *state) == 0, where);
-    return a;
-}
-
-/* Each word of the state altered in turn, by one bit, to zeros and to ones. */
-static void certificate_damaged(const moatbetony_home_t *good, const moatbetony_certificate_t *certificate)
-{
-    static moatbetony_home_t from;
-    uint64_t word;
-    size_t i;
-    int change;
-    for (i = 0; i < sizeof from / sizeof word; i++)
-        for (change = 0; change < 3; change++) {
-            from = *good;
-            memcpy(&word, (const uint8_t *)good + 8 * i, sizeof word);
-            word = change == 0 ? word ^ UINT64_C(1) << i % 64 : change == 1 ? 0 : UINT64_MAX;
-            memcpy((uint8_t *)&from + 8 * i, &word, sizeof word);
-            certificate_both(&from, certificate, "home, one word altered, a certificate");
-        }
-}
-
 /* ## Records */
 
 static uint64_t seed = 88172645463325252u;
@@ -230,39 +194,12 @@ static void pair_run(void)
     check(pair_both(&from, list, RECORD, 1, "pair, full").number == MOATBETONY_REFUSED_FULL, "41", "pair");
 }
 
-/* The certificate that follows in a state, whose next keys are any bytes and whose members all signed. Every so often a wrong one. */
-static moatbetony_certificate_t next_certificate(const moatbetony_home_t *state)
+static void home_run(void)
 {
-    moatbetony_committee_t committee = moatbetony_home_committee(*state);
-    moatbetony_certificate_t c;
-    int i;
-    memset(&c, 0, sizeof c);
-    c.number = committee.last + 1;
-    c.leaves = 1 + below(MOATBETONY_MAX_LEAVES);
-    memcpy(c.keys, committee.keys, sizeof c.keys);
-    c.signers = committee.half == 0 ? 0 : UINT64_MAX >> (64 - 2 * committee.half);
-    for (i = 0; i < 32; i++)
-        c.root[i] = (uint8_t)below(256), c.next_keys[i] = (uint8_t)below(256);
-    switch (below(12)) {
-    case 0: c.number += below(2) ? 1 : UINT64_MAX; break;
-    case 1: c.leaves = below(2) ? 0 : MOATBETONY_MAX_LEAVES + 1; break;
-    case 2: c.keys[below(32)] ^= (uint8_t)(1u << below(8)); break;
-    case 3: c.signers ^= UINT64_C(1) << below(64); break;
-    default: break;
-    }
-    return c;
-}
-
-/* Without a committee, for k 0, and with one of 2k members. */
-static void home_run(uint64_t k)
-{
-    static const moatbetony_digest_t keys = {{1, 2, 3}};
     static uint8_t list[6 * RECORD];
     static moatbetony_home_t from;
-    moatbetony_home_outcome_t opened = k == 0 ? moatbetony_home_open(BALANCES, 3, 3, 90, RATE, CHARGE_ACCOUNT)
-                                              : moatbetony_home_open_committee(BALANCES, 3, 3, 90, RATE, CHARGE_ACCOUNT, k, keys);
-    moatbetony_certificate_t certificate;
-    uint64_t number, i, certified = 0;
+    moatbetony_home_outcome_t opened = moatbetony_home_open(BALANCES, 3, 3, 90, RATE, CHARGE_ACCOUNT);
+    uint64_t number, i;
     check(opened.answer.passed == 1, "an opening", "home");
     from = opened.state;
     memset(from.records, 0xaa, sizeof from.records);
@@ -273,16 +210,9 @@ static void home_run(uint64_t k)
         home_both(&from, list, RECORD * (2 + below(4)) + (below(8) == 0), 1, "home, a list of a run");
         if (moatbetony_home_take(&from, list, RECORD).passed && number % 4 == 1)
             home_all(&from, list + RECORD, 5 * RECORD, "home, a list of a run");
-        certificate = next_certificate(&from);
-        certificate_both(&from, &certificate, "home, a certificate of a run");
-        certified += moatbetony_home_take_certificate(&from, certificate).passed;
-        if (number % 606 == 1 && number < 1900) {
+        if (number % 606 == 1 && number < 1900)
             home_damaged(&from, list + 2 * RECORD, 3 * RECORD);
-            certificate = next_certificate(&from);
-            certificate_damaged(&from, &certificate);
-        }
     }
-    check(from.last == certified && (certified > 0) == (k > 0), "as many certificates as passed", "home");
     home_damaged(&from, list, RECORD);
     put_record(list, MOATBETONY_LOCAL, 0, 0, 0, 2000000, 1);
     check(home_both(&from, list, RECORD, 0, "home, full").number == MOATBETONY_REFUSED_FULL, "41", "home");
@@ -294,28 +224,21 @@ static void no_states(void)
 {
     static moatbetony_pair_t pair;
     static moatbetony_home_t home;
-    moatbetony_certificate_t certificate;
     uint8_t record[RECORD];
-    memset(&certificate, 0, sizeof certificate);
-    certificate.number = certificate.leaves = 1;
     put_record(record, MOATBETONY_LOCAL, 0, 0, 0, 1, 1);
     pair_all(&pair, record, RECORD, "pair, a state of zeros");
     home_all(&home, record, RECORD, "home, a state of zeros");
-    certificate_both(&home, &certificate, "home, a state of zeros");
     memset(&pair, 0xff, sizeof pair);
     memset(&home, 0xff, sizeof home);
     pair_all(&pair, record, RECORD, "pair, a state of ones");
     home_all(&home, record, RECORD, "home, a state of ones");
-    certificate_both(&home, &certificate, "home, a state of ones");
 }
 
 int main(void)
 {
     no_states();
     pair_run();
-    home_run(0);
-    home_run(1);
-    home_run(32);
+    home_run();
     check(passed > 1000 && refused > 1000, "both answers were looked at", "all calls");
     printf("%ld checks, %ld failed\n", checks, failed);
     return failed != 0;

@@ -15,7 +15,7 @@ enum { STACK = 1 << 20, FILL = 0xa5, RECORDS = MOATBETONY_CAPACITY, HALF = RECOR
 
 /* What the calls are given, and where their results go; not on the stack. */
 static moatbetony_pair_t pair, pair_half, pair_room, pair_to_send;
-static moatbetony_home_t home, home_half, home_room, home_to_send, home_to_certify;
+static moatbetony_home_t home, home_half, home_room, home_to_send;
 static uint8_t pair_list[2 * HALF * 32], home_list[HALF * 32], one_arrival[32], one_sending[32], block[512], balances_block[512];
 static uint64_t balances[MOATBETONY_MAX_ACCOUNTS];
 static moatbetony_pair_outcome_t pair_outcome;
@@ -24,8 +24,6 @@ static moatbetony_pair_places_t pair_places;
 static moatbetony_home_outcome_t home_outcome;
 static moatbetony_home_figures_t home_figures;
 static moatbetony_home_places_t home_places;
-static moatbetony_certificate_t certificate;
-static moatbetony_committee_t committee;
 static moatbetony_balance_t balance;
 static moatbetony_record_t record;
 static moatbetony_encoded_t encoded;
@@ -67,10 +65,6 @@ MEASURED(m_home_places, home_places = moatbetony_home_places_left(home))
 MEASURED(m_home_take, answer = moatbetony_home_take(&home_room, one_arrival, 32))
 MEASURED(m_home_sending, home_outcome = moatbetony_home_check_record(home_to_send, one_sending, 32))
 MEASURED(m_home_take_sending, answer = moatbetony_home_take(&home_to_send, one_sending, 32))
-MEASURED(m_home_open_committee, home_outcome = moatbetony_home_open_committee(balances, 56, 56, 0, 50, 55, 32, digest))
-MEASURED(m_home_certificate, home_outcome = moatbetony_home_check_certificate(home_to_certify, certificate))
-MEASURED(m_home_take_certificate, answer = moatbetony_home_take_certificate(&home_to_certify, certificate))
-MEASURED(m_home_committee, committee = moatbetony_home_committee(home))
 MEASURED(m_home_take_list, answer = moatbetony_home_take_list(&home_half, home_list, sizeof home_list))
 MEASURED(m_record_read, record = moatbetony_record_read(one_arrival, 32))
 MEASURED(m_record_encode, encoded = moatbetony_record_encode(1, 0, 2, 3, 4, 5, 1))
@@ -148,7 +142,7 @@ static void fill(void)
     for (i = 0; i < MOATBETONY_MAX_ACCOUNTS; i++)
         balances[i] = UINT64_C(1) << 40;
     pair = moatbetony_pair_open(balances, 56, balances, 56, 50, 55).state;
-    home = moatbetony_home_open_committee(balances, 56, 56, UINT64_C(1) << 40, 50, 55, 32, digest).state;
+    home = moatbetony_home_open(balances, 56, 56, UINT64_C(1) << 40, 50, 55).state;
     for (i = 0; i < HALF; i++) {
         put_record(sendings + 32 * i, MOATBETONY_SENDING, MOATBETONY_FAR, i << 16);
         put_record(arrivals + 32 * i, MOATBETONY_ARRIVAL, MOATBETONY_HOME, i << 16);
@@ -169,9 +163,6 @@ static void fill(void)
     home_to_send = home_room;
     need(moatbetony_pair_take_list(&pair, pair_list, sizeof pair_list).passed == 1, "a pair list");
     need(moatbetony_home_take_list(&home, home_list, sizeof home_list).passed == 1, "a home list");
-    certificate.number = certificate.leaves = 1; /* under the keys of zeros that it was opened with */
-    certificate.signers = UINT64_MAX;
-    home_to_certify = home;
     need(pair.counts[0] == RECORDS && pair.counts[1] == RECORDS && home.count == RECORDS, "full tables");
     need(moatbetony_block_write(block, 512, 3, MOATBETONY_BLOCK_RECORDS, 0, 0, home_list, 14 * 32).passed == 1, "a block");
     need(moatbetony_block_write(balances_block, 512, 0, MOATBETONY_BLOCK_HOME_BALANCES, 50, 55, home_list, 56 * 8).passed == 1,
@@ -227,16 +218,6 @@ int main(void)
     need(answer.passed == 1, "the list passes");
     measure("the same, 24", m_home_take_list, MOATBETONY_STACK_HOME);
     need(answer.passed == 0 && answer.number == 24, "the list is refused");
-    measure("home_open_c.", m_home_open_committee, MOATBETONY_STACK_HOME);
-    need(home_outcome.answer.passed == 1, "the opening with a committee passes");
-    measure("home, cert.", m_home_certificate, MOATBETONY_STACK_HOME);
-    need(home_outcome.answer.passed == 1, "the certificate passes");
-    measure("the same, take", m_home_take_certificate, MOATBETONY_STACK_HOME);
-    need(answer.passed == 1, "the certificate passes");
-    measure("the same, 53", m_home_take_certificate, MOATBETONY_STACK_HOME);
-    need(answer.passed == 0 && answer.number == 53, "the certificate is refused");
-    measure("home_committee", m_home_committee, MOATBETONY_STACK_HOME);
-    need(committee.answer.passed == 1 && committee.half == 32, "the committee passes");
     measure("record_read", m_record_read, MOATBETONY_STACK_OTHER);
     need(record.answer.passed == 1, "the record reads");
     measure("record_encode", m_record_encode, MOATBETONY_STACK_OTHER);

@@ -1,5 +1,5 @@
-//! Paper 01, "Refusals, by who can cause them", and paper 02, U1 (refusal 51), U3
-//! (refusal 52) and U5 (refusals 53 to 55): what a call can answer.
+//! Paper 01, "Refusals, by who can cause them", and paper 02, U1 (refusal 51)
+//! and U3 (refusal 52): what a call can answer.
 
 /// Passed, or one numbered refusal with its place: a record's index in the
 /// list handed in, or a block number, or 0 where neither applies.
@@ -33,7 +33,6 @@ impl Answer {
 
 /// The refusal numbers of the papers.
 pub mod refusal {
-    /// An account count is outside 1 to 56, or half of a committee outside 1 to 32.
     pub const ACCOUNT_COUNT: u8 = 1;
     pub const STAKES_TOTAL: u8 = 2;
     pub const STATE: u8 = 3;
@@ -42,7 +41,6 @@ pub mod refusal {
     pub const CHECK: u8 = 12;
     pub const BLOCK_NUMBER: u8 = 13;
     pub const BLOCK_FORM: u8 = 14;
-    /// The form of a record, or the leaf count of a certificate.
     pub const RECORD_FORM: u8 = 21;
     /// The sender's account of a record, or the one of a balance asked for, is
     /// not open.
@@ -58,10 +56,4 @@ pub mod refusal {
     pub const RECEIVER: u8 = 51;
     /// The rate of the charge is above 10,000, or its account is not open at home.
     pub const CHARGE: u8 = 52;
-    /// A certificate has not the next number, or the guard has no committee.
-    pub const CERTIFICATE_NUMBER: u8 = 53;
-    /// A certificate was checked under other keys than those in force.
-    pub const KEYS: u8 = 54;
-    /// Too few members have signed a certificate, or somebody else has.
-    pub const SIGNERS: u8 = 55;
 }

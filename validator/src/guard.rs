@@ -1,10 +1,8 @@
 //! Paper 01, "Rules of the guard": the home ledger alone, with the far due in
-//! place of the far ledger's records (refusals 32 and 33). Paper 02, U5: a guard may
-//! have a far committee, whose certificates are let in among its calls.
+//! place of the far ledger's records (refusals 32 and 33).
 
 use crate::answer::{refusal, Answer};
 use crate::charge::Charge;
-use crate::committee::{self, Certificate, Committee, Digest};
 use crate::record::{Kind, Ledger, Record, MAX_AMOUNT, RECORD};
 use crate::rules::{self, account_count_wrong, sum, Book};
 use crate::side::Side;
@@ -20,12 +18,10 @@ pub struct Guard {
     /// All stakes of the opening together.
     pub stake: u64,
     pub charge: Charge,
-    /// The far committee, if the guard was opened with one.
-    pub committee: Option<Committee>,
 }
 
 impl Guard {
-    /// Opens a guard without a committee, or answers refusal 1, 2 or 52.
+    /// Opens a guard, or answers refusal 1, 2 or 52.
     pub fn open(
         home: &[u64],
         far_accounts: usize,
@@ -42,30 +38,8 @@ impl Guard {
                 far_due: far_total,
                 stake: home.iter().sum::<u64>() + far_total,
                 charge,
-                committee: None,
             }),
         }
-    }
-
-    /// Opens a guard with a committee and its first keys, or answers refusal 1, 2
-    /// or 52.
-    pub fn open_committee(
-        home: &[u64],
-        far_accounts: usize,
-        far_total: u64,
-        charge: Charge,
-        half: u64,
-        keys: Digest,
-    ) -> Result<Guard, Answer> {
-        let committee = Committee::open(half, keys);
-        if committee.half_wrong() {
-            return Err(Answer::at(Some(refusal::ACCOUNT_COUNT), 0));
-        }
-        let guard = Guard::open(home, far_accounts, far_total, charge)?;
-        Ok(Guard {
-            committee: Some(committee),
-            ..guard
-        })
     }
 
     /// A call with one record.
@@ -90,18 +64,6 @@ impl Guard {
             }
         }
         Answer::Passed
-    }
-
-    /// A call with a certificate. It alters the committee alone.
-    pub fn call_certificate(&mut self, certificate: &Certificate) -> Answer {
-        if !self.accepted() {
-            return state_refused();
-        }
-        let refused = committee::judge(self.committee.as_ref(), certificate);
-        if let (None, Some(committee)) = (refused, &mut self.committee) {
-            committee.pass(certificate);
-        }
-        Answer::at(refused, 0)
     }
 
     /// One record on an accepted state, which stays as it was when refused.
@@ -134,9 +96,6 @@ impl Guard {
             && !account_count_wrong(self.far_accounts)
             && self.stake <= MAX_AMOUNT
             && !self.charge.wrong(self.accounts(Ledger::Home))
-            && !self
-                .committee
-                .is_some_and(|committee| committee.half_wrong())
             && self
                 .home
                 .held_right(Ledger::Home, |ledger| self.accounts(ledger))

@@ -1,6 +1,6 @@
-//! Paper 01, refusal 3 and "The runs of demand 3", and paper 02, U3 and U5: the states
-//! of pair book and guard as plain words, so that every forged value can stand in them,
-//! and the calls that are handed such a state and alter it in place. The papers have
+//! Paper 01, refusal 3 and "The runs of demand 3", and paper 02, U3: the states of pair book and
+//! guard as plain words, so that every forged value can stand in them, and the
+//! calls that are handed such a state and alter it in place. The papers have
 //! neither the layout of the words nor the places left; the list of calls has.
 //!
 //! The rules are those of `pair` and `guard`. What stands at or beyond a count
@@ -8,7 +8,6 @@
 
 use crate::answer::{refusal, Answer};
 use crate::charge::Charge;
-use crate::committee::{Certificate, Committee, Digest};
 use crate::guard::Guard;
 use crate::pair::PairBook;
 use crate::record::{u64_at, Held, Ledger, Record, RECORD};
@@ -32,7 +31,7 @@ pub struct State<const N: usize> {
 pub type PairState = State<4_215>;
 
 /// The state of the guard.
-pub type HomeState = State<2_118>;
+pub type HomeState = State<2_111>;
 
 /// Where the fields of a state begin among its words. The held records begin
 /// at word 0. What far has of a field comes after what home has of it.
@@ -51,9 +50,6 @@ pub trait Layout {
     const COUNTS: usize;
     /// The rate of the charge, then its account.
     const CHARGE: usize;
-    /// Whether there is a committee, then half, last and the four words of its keys,
-    /// where the state has them.
-    const COMMITTEE: Option<usize>;
 }
 
 impl Layout for PairState {
@@ -64,7 +60,6 @@ impl Layout for PairState {
     const ACCOUNTS: usize = 4_209;
     const COUNTS: usize = 4_211;
     const CHARGE: usize = 4_213;
-    const COMMITTEE: Option<usize> = None;
 }
 
 impl Layout for HomeState {
@@ -75,15 +70,14 @@ impl Layout for HomeState {
     const ACCOUNTS: usize = 2_106;
     const COUNTS: usize = 2_108;
     const CHARGE: usize = 2_109;
-    const COMMITTEE: Option<usize> = Some(HomeState::SEATS);
 }
 
-/// The words of a record's 32 bytes, or of a digest's.
+/// The words of a record's 32 bytes.
 pub fn words_of(bytes: &[u8; RECORD]) -> HeldWords {
     [0, 8, 16, 24].map(|at| u64_at(bytes, at))
 }
 
-/// The 32 bytes of a held record or of a digest.
+/// The 32 bytes of a held record.
 pub fn bytes_of(held: HeldWords) -> [u8; RECORD] {
     let mut bytes = [0; RECORD];
     for (eight, word) in bytes.chunks_exact_mut(8).zip(held) {
@@ -287,36 +281,15 @@ impl HomeState {
     /// The word of the far due.
     pub const FAR_DUE: usize = 2_105;
 
-    /// The word that says whether there is a committee; those of it come after.
-    pub const SEATS: usize = 2_111;
-
-    /// Opens a guard without a committee: 1, 2, 52. Beside a refusal stands the
-    /// state of zeros.
+    /// Opens a guard: 1, 2, 52. Beside a refusal stands the state of zeros.
     pub fn open(
         home: &[u64],
         fars: usize,
         far_total: u64,
         charge: Charge,
     ) -> (Answer, Box<HomeState>) {
-        HomeState::opened(Guard::open(home, fars, far_total, charge))
-    }
-
-    /// Opens a guard with a committee and its first keys, in the same way.
-    pub fn open_committee(
-        home: &[u64],
-        fars: usize,
-        far_total: u64,
-        charge: Charge,
-        half: u64,
-        keys: Digest,
-    ) -> (Answer, Box<HomeState>) {
-        let guard = Guard::open_committee(home, fars, far_total, charge, half, keys);
-        HomeState::opened(guard)
-    }
-
-    fn opened(guard: Result<Guard, Answer>) -> (Answer, Box<HomeState>) {
         let mut state = Box::new(HomeState::ZERO);
-        match guard {
+        match Guard::open(home, fars, far_total, charge) {
             Ok(guard) => {
                 state.put_guard(&guard);
                 (Answer::Passed, state)
@@ -338,11 +311,6 @@ impl HomeState {
     /// A call with a list of records, in place: all pass, or none.
     pub fn check_list(&mut self, bytes: &[u8]) -> Answer {
         self.check(|guard| guard.call_list(bytes))
-    }
-
-    /// A call with a certificate, in place.
-    pub fn check_certificate(&mut self, certificate: &Certificate) -> Answer {
-        self.check(|guard| guard.call_certificate(certificate))
     }
 
     fn check(&mut self, call: impl FnOnce(&mut Guard) -> Answer) -> Answer {
@@ -385,43 +353,8 @@ impl HomeState {
         (Answer::Passed, places_left(&guard, Ledger::Home))
     }
 
-    /// The committee: 3. Zeros beside a refusal, and where there is none.
-    pub fn committee(&self) -> (Answer, Committee) {
-        let Some(guard) = self.accepted_guard() else {
-            return (refused(refusal::STATE), Committee::NONE);
-        };
-        (Answer::Passed, guard.committee.unwrap_or(Committee::NONE))
-    }
-
-    /// Half, last and keys, whether the state is one with a committee or not.
-    pub fn seats(&self) -> Committee {
-        let [half, last, keys @ ..] = &self.words[Self::SEATS + 1..] else {
-            unreachable!("six words")
-        };
-        Committee {
-            half: *half,
-            last: *last,
-            keys: bytes_of(keys.try_into().expect("four words")),
-        }
-    }
-
-    /// The committee or none, if the words of it say one or the other.
-    fn committee_or_none(&self) -> Option<Option<Committee>> {
-        match self.words[Self::SEATS] {
-            0 if self.seats() == Committee::NONE => Some(None),
-            1 => Some(Some(self.seats())),
-            _ => None,
-        }
-    }
-
-    fn put_committee(&mut self, committee: Option<Committee>) {
-        let Committee { half, last, keys } = committee.unwrap_or(Committee::NONE);
-        self.words[Self::SEATS..][..3].copy_from_slice(&[committee.is_some().into(), half, last]);
-        self.words[Self::SEATS + 3..].copy_from_slice(&words_of(&keys));
-    }
-
-    /// The guard of this state, if its table can be read and it says that it has a
-    /// committee or none; all else is judged by the guard.
+    /// The guard of this state, if its table can be read; all else is judged
+    /// by the guard.
     pub fn guard(&self) -> Option<Guard> {
         Some(Guard {
             home: self.side(0)?,
@@ -429,7 +362,6 @@ impl HomeState {
             far_due: self.pool(),
             stake: self.supply(),
             charge: self.charge(),
-            committee: self.committee_or_none()?,
         })
     }
 
@@ -444,7 +376,6 @@ impl HomeState {
         self.words[Self::FAR_DUE] = guard.far_due;
         self.put_side(0, &guard.home);
         self.words[Self::ACCOUNTS + 1] = guard.far_accounts as u64;
-        self.put_committee(guard.committee);
     }
 }
 

@@ -305,11 +305,11 @@ fn openings_answer_1_then_2_then_52() {
     }
     assert_eq!(pair(&[0; 56], &[0], 10_000, 55), Passed);
     assert_eq!(home(&[0; 56], 1, 0, 10_000, 56), refused(52));
-    // Rate and account are the last two words, in the guard before the committee.
+    // Rate and account are the last two words.
     let (_, state) = Oracle.pair_open(&[1, 2, 3], &[4, 5], 50, 2);
     assert_eq!(state.words()[4_208..], [15, 3, 2, 0, 0, 50, 2]);
     let (_, state) = Oracle.home_open(&[1, 2, 3], 56, 9, 10_000, 1);
-    assert_eq!(state.words()[2_104..2_111], [15, 9, 3, 56, 0, 10_000, 1]);
+    assert_eq!(state.words()[2_104..], [15, 9, 3, 56, 0, 10_000, 1]);
 }
 
 /// States of home 100, 50 and far 20 at rate 1,000 on account 1, after 30 went from
@@ -332,7 +332,7 @@ fn states_keep_their_charge() {
     assert_eq!(pair.words()[4_208..], [170, 2, 1, 1, 0, 1_000, 1]);
     assert_eq!(home.balances(0)[..2], [67, 53]);
     assert_eq!(home.figures(), (Passed, [120, 50]));
-    assert_eq!(home.words()[2_104..2_111], [170, 50, 2, 1, 1, 1_000, 1]);
+    assert_eq!(home.words()[2_104..], [170, 50, 2, 1, 1, 1_000, 1]);
 }
 
 #[test]
@@ -355,7 +355,7 @@ fn wrong_charges_of_a_state_are_3() {
         assert_eq!(state.places_left(), (refused(3), [0; 2]));
         assert!(state == before);
         let mut state = home.clone();
-        state.words_mut()[2_109..2_111].copy_from_slice(&[rate, account]);
+        state.words_mut()[2_109..].copy_from_slice(&[rate, account]);
         let before = state.clone();
         assert_eq!(state.check_record(&record), refused(3));
         assert_eq!(state.check_list(&[]), refused(3));
@@ -386,7 +386,7 @@ fn other_charges_of_a_state_are_accepted() {
         assert_eq!(state.charge(), Charge::new(rate, account));
         assert_eq!(state.figures(), (Passed, [110, 20, 40]));
         let mut state = home.clone();
-        state.words_mut()[2_109..2_111].copy_from_slice(&[rate, account]);
+        state.words_mut()[2_109..].copy_from_slice(&[rate, account]);
         assert_eq!(state.check_record(&record), Passed);
         assert_eq!(state.balances(0)[..2], after);
         assert_eq!(state.figures(), (Passed, [110, 60]));

@@ -4,7 +4,6 @@
 
 use second_validator::answer::Answer::{self, Passed};
 use second_validator::charge::Charge;
-use second_validator::committee::{Certificate, Committee};
 use second_validator::journal::{
     block_balances, block_count, block_record, judge_place, part, seal, BLOCK, FULL,
 };
@@ -108,18 +107,6 @@ fn assert_home_state_refused(before: &HomeState) {
     assert_eq!(state.balance(0), (refused(3), 0));
     assert_eq!(state.balance(60), (refused(3), 0));
     assert_eq!(state.places_left(), (refused(3), 0));
-    assert_eq!(state.committee(), (refused(3), Committee::NONE));
-    for leaves in [0, 1] {
-        let certificate = Certificate {
-            number: 1,
-            root: [7; 32],
-            leaves,
-            next_keys: [9; 32],
-            keys: [0; 32],
-            signers: 3,
-        };
-        assert_eq!(state.check_certificate(&certificate), refused(3));
-    }
     assert!(state == *before);
 }
 
@@ -172,7 +159,7 @@ fn layout_of_the_states() {
     assert_eq!((state.count(0), state.count(1)), (4_211, 4_212));
     assert_eq!(state.charge(), Charge::new(4_213, 4_214));
     let mut state = HomeState::ZERO;
-    assert_eq!(state.words().len(), 2_118);
+    assert_eq!(state.words().len(), 2_111);
     for (word, value) in state.words_mut().iter_mut().zip(0..) {
         *word = value;
     }
@@ -188,12 +175,8 @@ fn layout_of_the_states() {
         (2_106, 2_107, 2_108)
     );
     assert_eq!(state.charge(), Charge::new(2_109, 2_110));
-    assert_eq!(state.words()[HomeState::SEATS], 2_111);
-    let Committee { half, last, keys } = state.seats();
-    assert_eq!((half, last), (2_112, 2_113));
-    assert_eq!(words_of(&keys), [2_114, 2_115, 2_116, 2_117]);
     assert_eq!(size_of::<PairState>(), 8 * 4_215);
-    assert_eq!(size_of::<HomeState>(), 8 * 2_118);
+    assert_eq!(size_of::<HomeState>(), 8 * 2_111);
 }
 
 /// The fields by name are all the words, each bit once.
@@ -220,7 +203,7 @@ fn words_to_states_and_back() {
     assert!(HomeState::from_words(state.words()) == *state);
     let any: Vec<u64> = (0..4_215).map(|i| u64::MAX - i).collect();
     assert_eq!(PairState::from_words(&any).words(), any);
-    assert_eq!(HomeState::from_words(&any[..2_118]).words(), &any[..2_118]);
+    assert_eq!(HomeState::from_words(&any[..2_111]).words(), &any[..2_111]);
 }
 
 #[test]
@@ -281,7 +264,7 @@ fn openings() {
     assert_eq!(answer, Passed);
     let mut right = HomeState::ZERO;
     right.words[2_048..2_051].copy_from_slice(&[1, 2, 3]);
-    right.words[2_104..2_111].copy_from_slice(&[15, 9, 3, 56, 0, 0, 0]);
+    right.words[2_104..].copy_from_slice(&[15, 9, 3, 56, 0, 0, 0]);
     assert!(*state == right);
 }
 

@@ -1,20 +1,18 @@
 //! A paying desk that sees the home ledger alone. It takes records one by one, hands goods over where a record passed and pays the
-//! desk, says why not otherwise, shows what a payment to the far ledger costs before it is made, takes the far committee's certificates,
-//! keeps its state in a file and takes it up again, warns when the ledger has few places left, and closes when it has none.
+//! desk, says why not otherwise, shows what a payment to the far ledger costs before it is made, keeps its state in a file and takes it
+//! up again, warns when the ledger has few places left, and closes when it has none.
 //!
 //!     cargo run --example desk STATE_FILE
 //!
 //! The file has the layout's version in 4 bytes, the state, and the SHA-256 of both. What guards a stored state:
 //! - The digest finds damage, and a change by anyone who cannot write the digest too.
 //! - Refusal 3 says that a state's numbers fit together, and no more. It does not see two balances exchanged, a balance raised together
-//!   with the supply or at the far pool's cost, another rate or charge account, held records left out, so that they pass again, other
-//!   keys of the far committee in force, or an older state put back.
+//!   with the supply or at the far pool's cost, another rate or charge account, held records left out, so that they pass again, or an
+//!   older state put back.
 //! - Neither finds a forger who rewrites state and digest to fit, or who puts an older pair of them back. Keep the latest digest where
 //!   nobody else can write it.
 
-use moatbetony::{
-    sha256, state_version, Answer, Certificate, HomeFigures, HomeValidator, Kind, Ledger, Record, Refusal, Tariff, CAPACITY,
-};
+use moatbetony::{sha256, state_version, Answer, HomeFigures, HomeValidator, Kind, Ledger, Record, Refusal, Tariff, CAPACITY};
 use std::error::Error;
 use std::fs::{self, File};
 use std::io::Write;
@@ -31,10 +29,6 @@ const FEW_PLACES: u64 = 50;
 const RATE: u64 = 50;
 const CHARGE_ACCOUNT: u16 = 3;
 
-// k of the far committee, and how many members it has.
-const HALF: u8 = 2;
-const MEMBERS: u8 = 2 * HALF;
-
 // Where a state's balances and its count of held records stand in its bytes (include/moatbetony.h). Only somebody who alters a state
 // needs to know.
 const BALANCES: usize = 8 * 2048;
@@ -49,14 +43,6 @@ impl Desk {
     fn open(path: &Path) -> Outcome<Desk> {
         let tariff = Tariff { rate: RATE, charge_account: CHARGE_ACCOUNT.into() };
         let desk = Desk { path: path.into(), validator: HomeValidator::open(&[100, 500, 0, 0], 1, 20, tariff)? };
-        desk.store()?;
-        Ok(desk)
-    }
-
-    fn open_committee(path: &Path) -> Outcome<Desk> {
-        let tariff = Tariff { rate: RATE, charge_account: CHARGE_ACCOUNT.into() };
-        let validator = HomeValidator::open_committee(&[100, 500, 0, 0], 1, 20, tariff, HALF.into(), keys_of(1))?;
-        let desk = Desk { path: path.into(), validator };
         desk.store()?;
         Ok(desk)
     }
@@ -211,62 +197,6 @@ impl Desk {
     }
 }
 
-// The far committee.
-impl Desk {
-    fn print_committee(&self, label: &str) {
-        match self.validator.committee() {
-            Ok(Some(told)) => println!(
-                "{label}: keys in force {:02x}{:02x}.., certificates passed: {}, members: {}",
-                told.keys[0],
-                told.keys[1],
-                told.last,
-                2 * told.half
-            ),
-            Ok(None) => println!("{label}: no committee"),
-            Err(refusal) => print_refused(label, refusal),
-        }
-    }
-
-    // Every certificate comes here: its number and the digest of the next keys as they came in (root and leaf count are made up), beside
-    // what the host's own check found: `checked` is the digest of the keys under which it checked each member's signature, and `good` has
-    // the bit of each one that is good. A digest or a mask that the sender wrote is not looked at. A certificate pays nobody; the state is
-    // stored before the next one comes.
-    fn take_certificate(&mut self, label: &str, number: u64, next: [u8; 32], checked: [u8; 32], good: u64) -> Outcome<()> {
-        let certificate = Certificate { number, root: [0x5a; 32], leaves: 3, next_keys: next, keys: checked, signers: good };
-        match self.validator.take_certificate(&certificate) {
-            Answer::Passed => {
-                self.store()?;
-                self.print_committee(label);
-            }
-            Answer::Refused { refusal, .. } => print_refused(label, refusal),
-        }
-        Ok(())
-    }
-}
-
-// The digest of a committee's keys, as both networks agreed on it: here SHA-256 over the members' keys, one after the other. A host has
-// the keys from the far network; these are made up.
-fn keys_of(committee: u8) -> [u8; 32] {
-    let keys: Vec<u8> = (0..MEMBERS).flat_map(|member| [16 * committee + member; 32]).collect();
-    sha256(&keys)
-}
-
-// A desk whose far ledger has a committee of four, of whom three must sign. Each certificate that passes hands over to the next keys, and
-// the one after it has to be checked under these.
-fn with_a_committee(path: &Path) -> Outcome<()> {
-    let mut desk = Desk::open_committee(path)?;
-    desk.print_committee("opened with a committee");
-    desk.take_certificate("certificate 1, signed by members 0 and 1", 1, keys_of(2), keys_of(1), 0b0011)?;
-    desk.take_certificate("certificate 1, signed by members 0, 1 and 3", 1, keys_of(2), keys_of(1), 0b1011)?;
-    desk.take_certificate("the same certificate again", 1, keys_of(2), keys_of(1), 0b1011)?;
-    desk.take_certificate("certificate 2, checked under the first keys", 2, keys_of(3), keys_of(1), 0b1111)?;
-    desk.take_certificate("certificate 2, checked under the second keys", 2, keys_of(3), keys_of(2), 0b1111)?;
-    drop(desk);
-    let mut desk = Desk::take_up(path)?.ok_or("the stored state was not taken up")?;
-    desk.print_committee("taken up from the file");
-    desk.serve("a payment of 30 there", &payment(1, 30)?, true)
-}
-
 fn print_refused(label: &str, refusal: Refusal) {
     println!("{label}: refused with {}, {refusal}", refusal.number());
 }
@@ -361,7 +291,6 @@ fn main() -> Outcome<()> {
     desk.serve("yesterday's payment of 30 again", &payment(yesterdays, 30)?, true)?;
     // A copy, and the desk goes on below from before that day.
     Desk { path: path.clone(), validator: desk.validator.clone() }.busy_day()?;
-    with_a_committee(&path)?;
 
     println!("a payment of 30, after somebody altered the file:");
     tamper(&desk, "a balance raised", raise_a_balance, false, fresh)?;

@@ -84,21 +84,6 @@ pub(crate) fn home_open(home_balances: &[u64], far_accounts: usize, far_total: u
     unsafe { ffi::moatbetony_home_open(home_balances.as_ptr(), homes, far_accounts, far_total, rate, charge_account) }
 }
 
-pub(crate) fn home_open_committee(
-    home_balances: &[u64],
-    far_accounts: usize,
-    far_total: u64,
-    tariff: Tariff,
-    half: u64,
-    keys: [u8; 32],
-) -> ffi::PlainHomeOutcome {
-    belongs();
-    let Tariff { rate, charge_account } = tariff;
-    let (from, homes, keys) = (home_balances.as_ptr(), home_balances.len(), ffi::PlainDigest { bytes: keys });
-    // SAFETY: the slice is lent with its length.
-    unsafe { ffi::moatbetony_home_open_committee(from, homes, far_accounts, far_total, rate, charge_account, half, keys) }
-}
-
 pub(crate) fn home_take(state: &mut ffi::HomeValidator, bytes: &[u8]) -> ffi::PlainAnswer {
     belongs();
     // SAFETY: the state is lent for writing, and the slice with its length.
@@ -121,24 +106,6 @@ pub(crate) fn home_check_list(state: &ffi::HomeValidator, bytes: &[u8]) -> ffi::
     belongs();
     // SAFETY: the slice is lent with its length.
     unsafe { ffi::moatbetony_home_check_list(*state, bytes.as_ptr(), bytes.len()) }
-}
-
-pub(crate) fn home_take_certificate(state: &mut ffi::HomeValidator, certificate: ffi::PlainCertificate) -> ffi::PlainAnswer {
-    belongs();
-    // SAFETY: the state is lent for writing.
-    unsafe { ffi::moatbetony_home_take_certificate(state, certificate) }
-}
-
-pub(crate) fn home_check_certificate(state: &ffi::HomeValidator, certificate: ffi::PlainCertificate) -> ffi::PlainHomeOutcome {
-    belongs();
-    // SAFETY: values alone.
-    unsafe { ffi::moatbetony_home_check_certificate(*state, certificate) }
-}
-
-pub(crate) fn home_committee(state: &ffi::HomeValidator) -> ffi::PlainCommittee {
-    belongs();
-    // SAFETY: values alone.
-    unsafe { ffi::moatbetony_home_committee(*state) }
 }
 
 pub(crate) fn home_figures(state: &ffi::HomeValidator) -> ffi::PlainHomeFigures {
@@ -241,7 +208,7 @@ unsafe impl Plain for ffi::PairValidator {}
 // SAFETY: as above.
 unsafe impl Plain for ffi::HomeValidator {}
 const _: () = assert!(size_of::<ffi::PairValidator>() == 8 * (2 * 512 * 4 + 2 * 56 + 1 + 2 + 2 + 2));
-const _: () = assert!(size_of::<ffi::HomeValidator>() == 8 * (512 * 4 + 56 + 7 + 3 + 4));
+const _: () = assert!(size_of::<ffi::HomeValidator>() == 8 * (512 * 4 + 56 + 7));
 
 /// The bytes of a state.
 pub(crate) fn bytes_of<T: Plain>(state: &T) -> &[u8] {

@@ -41,10 +41,6 @@ pub(crate) struct HomeValidator {
     pub(crate) count: u64,
     pub(crate) rate: u64,
     pub(crate) charge_account: u64,
-    pub(crate) committee: u64,
-    pub(crate) half: u64,
-    pub(crate) last: u64,
-    pub(crate) keys: [u64; 4],
 }
 
 #[repr(C)]
@@ -85,24 +81,6 @@ pub(crate) struct PlainHomeFigures {
 pub(crate) struct PlainHomePlaces {
     pub(crate) answer: PlainAnswer,
     pub(crate) home: u64,
-}
-
-#[repr(C)]
-pub(crate) struct PlainCertificate {
-    pub(crate) number: u64,
-    pub(crate) root: [u8; 32],
-    pub(crate) leaves: u64,
-    pub(crate) next_keys: [u8; 32],
-    pub(crate) keys: [u8; 32],
-    pub(crate) signers: u64,
-}
-
-#[repr(C)]
-pub(crate) struct PlainCommittee {
-    pub(crate) answer: PlainAnswer,
-    pub(crate) half: u64,
-    pub(crate) last: u64,
-    pub(crate) keys: [u8; 32],
 }
 
 #[repr(C)]
@@ -188,23 +166,10 @@ extern "C" {
         rate: u64,
         charge_account: u64,
     ) -> PlainHomeOutcome;
-    pub(crate) fn moatbetony_home_open_committee(
-        home_balances: *const u64,
-        home_balances_len: usize,
-        far_accounts: usize,
-        far_total: u64,
-        rate: u64,
-        charge_account: u64,
-        half: u64,
-        keys: PlainDigest,
-    ) -> PlainHomeOutcome;
     pub(crate) fn moatbetony_home_take(state: *mut HomeValidator, bytes: *const u8, bytes_len: usize) -> PlainAnswer;
     pub(crate) fn moatbetony_home_take_list(state: *mut HomeValidator, bytes: *const u8, bytes_len: usize) -> PlainAnswer;
     pub(crate) fn moatbetony_home_check_record(state: HomeValidator, bytes: *const u8, bytes_len: usize) -> PlainHomeOutcome;
     pub(crate) fn moatbetony_home_check_list(state: HomeValidator, bytes: *const u8, bytes_len: usize) -> PlainHomeOutcome;
-    pub(crate) fn moatbetony_home_take_certificate(state: *mut HomeValidator, certificate: PlainCertificate) -> PlainAnswer;
-    pub(crate) fn moatbetony_home_check_certificate(state: HomeValidator, certificate: PlainCertificate) -> PlainHomeOutcome;
-    pub(crate) fn moatbetony_home_committee(state: HomeValidator) -> PlainCommittee;
     pub(crate) fn moatbetony_home_figures(state: HomeValidator) -> PlainHomeFigures;
     pub(crate) fn moatbetony_home_balance(state: HomeValidator, account: u16) -> PlainBalance;
     pub(crate) fn moatbetony_home_places_left(state: HomeValidator) -> PlainHomePlaces;

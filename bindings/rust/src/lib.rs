@@ -45,13 +45,9 @@
 //! Home's network takes a charge on each home sending, which its sender pays beside the amount: a [`Tariff`] tells the rate and the
 //! account that is paid, and [`Tariff::charge`] asks the library what a sending costs, so that a desk can show it before.
 //!
-//! A far ledger may have a committee that hands its keys on by certificates: a validator opened with
-//! [`HomeValidator::open_committee`] takes them one after the other ([`HomeValidator::take_certificate`]), and tells the keys in force
-//! ([`HomeValidator::committee`]). Their signatures too are the caller's to check: see [`Certificate`].
-//!
-//! A validator takes any bytes, always answers, and a refusal leaves it untouched. `take`, `take_list` and `take_certificate` alter its
-//! state in place, by proved calls; `check_record`, `check_list` and `check_certificate` answer the same, by calls that are handed a copy
-//! of it. A state can be stored and taken up again:
+//! A validator takes any bytes, always answers, and a refusal leaves it untouched. `take` and `take_list` alter its state in place, by
+//! proved calls; `check_record` and `check_list` answer the same, by calls that are handed a copy of it. A state can be stored and taken
+//! up again:
 //!
 //! ```
 //! use moatbetony::{sha256, HomeValidator, Tariff, STATE_VERSION};
@@ -68,9 +64,8 @@
 //!
 //! Every call judges its state first (refusal 3). 3 says that a state's numbers fit together, and no more. It does not see two balances
 //! exchanged, a balance raised together with the supply (home: or at the far pool's cost), another tariff that an opening would take,
-//! held records left out, so that they pass again, a committee left out or with another k, last number or keys in force, or an older
-//! state put back, which brings older keys into force too. Keep the latest digest of a stored state where nobody else can write it, and
-//! store a new state before goods are handed over on it, and the one after a certificate before the next is handed in.
+//! held records left out, so that they pass again, or an older state put back. Keep the latest digest of a stored state where nobody
+//! else can write it, and store a new state before goods are handed over on it.
 //!
 //! A validator holds [`CAPACITY`] passed records of a ledger, and then passes no further one (41, [`Refusal::Full`]): no record makes
 //! room again. Ask [`HomeValidator::places_left`] or [`PairValidator::places_left`] before each record, so that you see 41 coming: warn
@@ -95,7 +90,6 @@ compile_error!("moatbetony is built for x86-64 Linux with 64-bit pointers");
 
 #[allow(unsafe_code)]
 mod calls;
-mod committee;
 mod ffi;
 pub mod journal;
 mod record;
@@ -103,16 +97,15 @@ mod refusal;
 mod tariff;
 mod validators;
 
-pub use committee::{Certificate, Committee};
 pub use record::{Kind, Ledger, Record};
 pub use refusal::{Answer, Refusal};
 pub use tariff::Tariff;
 pub use validators::{HomeFigures, HomeValidator, PairFigures, PairPlaces, PairValidator};
 
 /// The library's version that this crate was written for: major * 10,000 + minor * 100 + patch.
-pub const VERSION: u32 = 700;
+pub const VERSION: u32 = 601;
 /// The layout of the two states. Store it with a state, and take a state up only under its own.
-pub const STATE_VERSION: u32 = 4;
+pub const STATE_VERSION: u32 = 3;
 /// The bytes of a record.
 pub const RECORD_SIZE: usize = 32;
 /// The most accounts of a ledger.
@@ -121,10 +114,6 @@ pub const MAX_ACCOUNTS: usize = 56;
 pub const CAPACITY: usize = 512;
 /// The greatest rate of the charge on home's sendings, in ten-thousandths of what is sent.
 pub const MAX_RATE: u64 = 10_000;
-/// The greatest k of a far committee, which has 2k members.
-pub const MAX_COMMITTEE_HALF: u64 = 32;
-/// The most leaves of a certificate.
-pub const MAX_LEAVES: u64 = 4_096;
 /// The most credit that both ledgers hold, and the most that a record moves: 2^63-1.
 pub const MAX_SUPPLY: u64 = (1 << 63) - 1;
 

@@ -9,11 +9,11 @@ use std::fmt;
 #[must_use = "goods are handed over on Passed alone"]
 #[derive(Clone, Copy, Debug, PartialEq, Eq, Hash)]
 pub enum Answer {
-    /// The record, list, certificate, block or write is in order, and was taken.
+    /// The record, list, block or write is in order, and was taken.
     ///
     /// Passed says that the record is in order and its credit has moved. Whether it pays you, and enough, you read with
     /// [`Record::read`](crate::Record::read): a local or an arrival on home, to your account, from another one if it is a local, of
-    /// the price. A certificate pays nobody.
+    /// the price.
     Passed,
     /// It is not, and nothing was altered.
     Refused {
@@ -134,7 +134,7 @@ macro_rules! refusals {
 }
 
 refusals! {
-    AccountCount = 1, "account count outside 1 to 56, or a committee's half outside 1 to 32", "the maker who calls";
+    AccountCount = 1, "account count outside 1 to 56", "the maker who calls";
     Supply = 2, "opening balances above 2^63-1 in all", "the maker who calls";
     State = 3, "state damaged, altered or never opened", "the maker who calls";
     BlockRequest = 4, "block cannot be written so, or has no such item", "the maker who calls";
@@ -142,8 +142,7 @@ refusals! {
     BlockCheck = 12, "block differs from its check", "the journal's keeper";
     BlockNumber = 13, "block has another number", "the journal's keeper";
     BlockForm = 14, "block with a wrong kind, count or zero byte, or after one that is not full", "the journal's keeper";
-    RecordForm = 21, "not a record, or a certificate with a leaf count outside 1 to 4,096",
-        "the record's author, of a certificate by the far committee";
+    RecordForm = 21, "not a record", "the record's author";
     Account = 22, "sender's account, or the account asked for, not open", "the record's author, of a balance by the maker who calls";
     Verdict = 23, "bad signature", "the record's author";
     NumberUsed = 24, "number already used on this ledger (arrivals counted apart)", "the record's author";
@@ -154,12 +153,6 @@ refusals! {
     Full = 41, "ledger holds 512 passed records", "nobody: it is the size of the part";
     Receiver = 51, "receiver's account not open", "the record's author";
     Tariff = 52, "rate above 10,000, or charge account not open at home", "the maker who calls, of a block by the journal's keeper";
-    CertificateNumber = 53, "certificate's number not the next one, or no committee",
-        "the far committee or who brings its certificates, without a committee by the maker who calls";
-    CertificateKeys = 54, "certificate checked under other keys than those in force",
-        "the far committee or who brings its certificates, of a check under wrong keys by the maker who calls";
-    Signers = 55, "signers not more than half of the committee, or one beyond it",
-        "the far committee, of a bit beyond it by the maker who calls";
 }
 
 impl std::error::Error for Refusal {}

@@ -1,7 +1,7 @@
 //! The two validators.
 
 use crate::refusal::{value, Answer, Refusal};
-use crate::{calls, ffi, Certificate, Committee, Ledger, Tariff};
+use crate::{calls, ffi, Ledger, Tariff};
 use std::fmt;
 
 /// The totals that a [`PairValidator`] gives. The three make the supply.
@@ -150,9 +150,8 @@ macro_rules! validator {
             ///
             /// Every call judges the state first (refusal 3, [`Refusal::State`]). 3 says that a state's numbers fit together, and no
             /// more. It does not see two balances exchanged, a balance raised together with the supply (home: or at the far pool's
-            /// cost), another tariff that an opening would take, held records left out, so that they pass again, a committee left
-            /// out or with another k, last number or keys in force, or an older state put back, which brings older keys into force
-            /// too. Compare a digest before, and keep the latest one where nobody else can write it.
+            /// cost), another tariff that an opening would take, held records left out, so that they pass again, or an older state
+            /// put back. Compare a digest before, and keep the latest one where nobody else can write it.
             #[must_use]
             pub fn from_bytes(bytes: &[u8]) -> Option<Self> {
                 Some($name { state: calls::from_bytes(bytes)? })
@@ -248,7 +247,7 @@ impl PairValidator {
 
 impl HomeValidator {
     /// Opens with the home balances, one for each account from 0, the number of far accounts and their total, and the charge on home's
-    /// sendings, without a committee.
+    /// sendings.
     ///
     /// # Errors
     ///
@@ -257,54 +256,6 @@ impl HomeValidator {
         let told = calls::home_open(home_balances, far_accounts, far_total, tariff);
         value(told.answer, ())?;
         Ok(HomeValidator { state: Box::new(told.state) })
-    }
-
-    /// Opens as [`open`](Self::open), with a far committee of 2 * `half` members and the digest of its first keys: whatever 32 bytes both
-    /// networks agreed on, which are compared and never worked out here.
-    ///
-    /// # Errors
-    ///
-    /// [`Refusal::AccountCount`], also for a `half` outside 1 to [`MAX_COMMITTEE_HALF`](crate::MAX_COMMITTEE_HALF), then
-    /// [`Refusal::Supply`], then [`Refusal::Tariff`].
-    pub fn open_committee(
-        home_balances: &[u64],
-        far_accounts: usize,
-        far_total: u64,
-        tariff: Tariff,
-        half: u64,
-        keys: [u8; 32],
-    ) -> Result<HomeValidator, Refusal> {
-        let told = calls::home_open_committee(home_balances, far_accounts, far_total, tariff, half, keys);
-        value(told.answer, ())?;
-        Ok(HomeValidator { state: Box::new(told.state) })
-    }
-
-    /// Checks a certificate whose signatures the caller has checked ([`Certificate`] says how). One that passes brings its next keys into
-    /// force and makes its number the last one, and alters nothing else; store the state then. A refusal leaves the validator untouched.
-    ///
-    /// The state is altered in place, by a proved call, and no copy of it is made.
-    ///
-    /// Refusals, in order: 3, 21 (leaf count), 53 (number, or no committee), 54 (keys), 55 (signers).
-    pub fn take_certificate(&mut self, certificate: &Certificate) -> Answer {
-        Answer::of(calls::home_take_certificate(&mut self.state, certificate.plain()))
-    }
-
-    /// As [`take_certificate`](Self::take_certificate), by the call that is handed the state by value: it copies the state, and this crate
-    /// stores what comes back where the answer passed.
-    pub fn check_certificate(&mut self, certificate: &Certificate) -> Answer {
-        let told = calls::home_check_certificate(&self.state, certificate.plain());
-        self.store(&told)
-    }
-
-    /// The far committee, with the digest of the keys in force; `None` where there is none.
-    ///
-    /// # Errors
-    ///
-    /// [`Refusal::State`].
-    pub fn committee(&self) -> Result<Option<Committee>, Refusal> {
-        let told = calls::home_committee(&self.state);
-        let committee = Committee { half: told.half, last: told.last, keys: told.keys };
-        value(told.answer, (told.half != 0).then_some(committee))
     }
 
     /// The home total and the far pool.
@@ -370,9 +321,6 @@ impl fmt::Debug for HomeValidator {
             .field("count", &self.state.count)
             .field("rate", &self.state.rate)
             .field("charge_account", &self.state.charge_account)
-            .field("committee", &self.state.committee)
-            .field("half", &self.state.half)
-            .field("last", &self.state.last)
             .finish_non_exhaustive()
     }
 }

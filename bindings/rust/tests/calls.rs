@@ -1,9 +1,9 @@
-//! The crate's calls: the cases of document 01, the charge and the certificates of document 02 (U3, U5), states as bytes, journals.
+//! The crate's calls: the cases of document 01, the charge of document 02 (U3), states as bytes, journals.
 
 use moatbetony::journal::{self, BlockKind, Opening};
 use moatbetony::{
-    sha256, Answer, Certificate, Committee, HomeFigures, HomeValidator, Kind, Ledger, PairFigures, PairPlaces, PairValidator,
-    Record, Refusal, Tariff, MAX_COMMITTEE_HALF, MAX_LEAVES, MAX_RATE, MAX_SUPPLY,
+    sha256, Answer, HomeFigures, HomeValidator, Kind, Ledger, PairFigures, PairPlaces, PairValidator, Record, Refusal, Tariff,
+    MAX_RATE, MAX_SUPPLY,
 };
 
 fn record(kind: Kind, ledger: Ledger, sender: u16, receiver: u16, number: u64, amount: u64) -> [u8; 32] {
@@ -31,13 +31,13 @@ fn versions_agree() {
     assert_eq!(moatbetony::version(), moatbetony::VERSION);
     assert_eq!(moatbetony::state_version(), moatbetony::STATE_VERSION);
     assert_eq!(PairValidator::STATE_SIZE, 33_720);
-    assert_eq!(HomeValidator::STATE_SIZE, 16_944);
+    assert_eq!(HomeValidator::STATE_SIZE, 16_888);
 }
 
 #[test]
 fn refusals_have_their_numbers() {
     let numbers: Vec<u32> = Refusal::ALL.iter().map(|refusal| refusal.number()).collect();
-    assert_eq!(numbers, [1, 2, 3, 4, 11, 12, 13, 14, 21, 22, 23, 24, 25, 31, 32, 33, 41, 51, 52, 53, 54, 55]);
+    assert_eq!(numbers, [1, 2, 3, 4, 11, 12, 13, 14, 21, 22, 23, 24, 25, 31, 32, 33, 41, 51, 52]);
     let error: Box<dyn std::error::Error> = Box::new(Refusal::AbovePool);
     assert_eq!(error.to_string(), "arrival above the far pool");
     assert_eq!(
@@ -317,138 +317,6 @@ fn home_validator_cases() {
     assert_eq!(it.take_list(&[local(0, 0, 3, 1), far].concat()), refused(Refusal::FarRecord, 1));
 }
 
-// Digests of keys, in the order in which they come into force.
-const KEYS: [[u8; 32]; 3] = [[0x11; 32], [0x22; 32], [0x33; 32]];
-
-fn with_committee(half: u64) -> HomeValidator {
-    HomeValidator::open_committee(&[100, 50], 1, 20, Tariff::FREE, half, KEYS[0]).expect("an opening")
-}
-
-// Certificate number 1, which all 2k members of the first committee signed.
-fn certificate(half: u64) -> Certificate {
-    let signers = u64::MAX >> (64 - 2 * half);
-    Certificate { number: 1, root: [0x44; 32], leaves: 1, next_keys: KEYS[1], keys: KEYS[0], signers }
-}
-
-// By both calls, from the same validator: the same answer and the same bytes; a refusal leaves it as it was.
-fn certify(it: &mut HomeValidator, certificate: &Certificate) -> Answer {
-    let (before, mut by_value) = (it.clone(), it.clone());
-    let answer = it.take_certificate(certificate);
-    assert_eq!(by_value.check_certificate(certificate), answer);
-    assert_eq!(*it, by_value);
-    assert_eq!(answer.is_passed(), *it != before);
-    answer
-}
-
-#[test]
-fn committees_of_openings() {
-    let open = |half, tariff| HomeValidator::open_committee(&[100, 50], 1, 20, tariff, half, KEYS[0]);
-    for half in [1, 2, 31, MAX_COMMITTEE_HALF] {
-        let committee = open(half, Tariff::FREE).and_then(|it| it.committee());
-        assert_eq!(committee, Ok(Some(Committee { half, last: 0, keys: KEYS[0] })));
-    }
-    let wrong = Tariff { rate: 0, charge_account: 2 };
-    for half in [0, 33, 64, 256 + 1, (1 << 32) + 1, u64::MAX] {
-        assert_eq!(open(half, Tariff::FREE).err(), Some(Refusal::AccountCount));
-        assert_eq!(open(half, wrong).err(), Some(Refusal::AccountCount));
-        let much = HomeValidator::open_committee(&[MAX_SUPPLY], 1, 1, Tariff::FREE, half, KEYS[0]);
-        assert_eq!(much.err(), Some(Refusal::AccountCount));
-    }
-    assert_eq!(HomeValidator::open_committee(&[], 1, 20, Tariff::FREE, 1, KEYS[0]).err(), Some(Refusal::AccountCount));
-    assert_eq!(HomeValidator::open_committee(&[MAX_SUPPLY], 1, 1, wrong, 1, KEYS[0]).err(), Some(Refusal::Supply));
-    assert_eq!(open(1, wrong).err(), Some(Refusal::Tariff));
-    assert_eq!(home().committee(), Ok(None));
-    let digest: [u8; 32] = std::array::from_fn(|i| i as u8);
-    let it = HomeValidator::open_committee(&[100], 1, 20, Tariff::FREE, 1, digest).expect("an opening");
-    assert_eq!(it.committee().map(|told| told.map(|committee| committee.keys)), Ok(Some(digest)));
-}
-
-#[test]
-fn certificates_hand_keys_on() {
-    let mut it = with_committee(1);
-    let first = certificate(1);
-    assert_eq!(certify(&mut it, &Certificate { number: 0, ..first }), refused(Refusal::CertificateNumber, 0));
-    assert_eq!(certify(&mut it, &Certificate { number: 2, ..first }), refused(Refusal::CertificateNumber, 0));
-    assert!(certify(&mut it, &first).is_passed());
-    assert_eq!(it.committee(), Ok(Some(Committee { half: 1, last: 1, keys: KEYS[1] })));
-    // The same again, and the next one under the keys of before.
-    assert_eq!(certify(&mut it, &first), refused(Refusal::CertificateNumber, 0));
-    let next = Certificate { number: 2, next_keys: KEYS[2], ..first };
-    assert_eq!(certify(&mut it, &next), refused(Refusal::CertificateKeys, 0));
-    assert!(certify(&mut it, &Certificate { keys: KEYS[1], ..next }).is_passed());
-    assert_eq!(it.committee(), Ok(Some(Committee { half: 1, last: 2, keys: KEYS[2] })));
-    // No place is taken, no credit moves, and records pass as before.
-    assert_eq!((it.places_left(), it.figures()), (Ok(512), Ok(HomeFigures { home: 150, pool: 20 })));
-    assert!(it.take(&record(Kind::Arrival, Ledger::Home, 0, 0, 1, 20)).is_passed());
-    assert_eq!(it.committee(), Ok(Some(Committee { half: 1, last: 2, keys: KEYS[2] })));
-
-    // One bit of the keys, at each end of each byte.
-    for bit in (0..256).step_by(8).chain((0..256).skip(7).step_by(8)) {
-        let mut keys = KEYS[0];
-        keys[bit / 8] ^= 1 << (bit % 8);
-        assert_eq!(certify(&mut with_committee(1), &Certificate { keys, ..first }), refused(Refusal::CertificateKeys, 0));
-    }
-    assert_eq!(Refusal::CertificateKeys.to_string(), "certificate checked under other keys than those in force");
-}
-
-// More than k of the lowest 2k bits, and none beyond them.
-#[test]
-fn certificates_need_signers() {
-    let pass = |half, signers| {
-        let it = &mut with_committee(half);
-        certify(it, &Certificate { signers, ..certificate(half) })
-    };
-    for (half, enough, too_few_or_beyond) in [
-        // Both members of two.
-        (1, vec![0b11], vec![0, 0b01, 0b10, 0b100, 0b101, 0b110, 0b111, 0b11 | 1 << 63, u64::MAX]),
-        // Three or four of four.
-        (2, vec![0b0111, 0b1011, 0b1101, 0b1110, 0b1111], vec![0b0011, 0b1001, 0b1_0000, 0b1_0011, 0b1_1111, 0b1111 | 1 << 32]),
-        // 32 or more of 62.
-        (31, vec![u64::MAX >> 2, 0xffff_ffff, 0x3fff_ffff_c000_0000], vec![0x7fff_ffff, u64::MAX >> 1, u64::MAX]),
-        // 33 or more of 64: no bit is beyond.
-        (32, vec![u64::MAX, 0x1_ffff_ffff, 0xffff_ffff_8000_0000], vec![0, 0xffff_ffff, 0xffff_ffff_0000_0000, 1 << 63]),
-    ] {
-        for signers in enough {
-            assert!(pass(half, signers).is_passed(), "k {half}, signers {signers:#x}");
-        }
-        for signers in too_few_or_beyond {
-            assert_eq!(pass(half, signers), refused(Refusal::Signers, 0), "k {half}, signers {signers:#x}");
-        }
-    }
-}
-
-// 21, 53, 54, 55, each where no earlier one holds.
-#[test]
-fn certificates_are_refused_in_order() {
-    let bad = Certificate { number: 7, root: [0; 32], leaves: 0, next_keys: KEYS[1], keys: KEYS[2], signers: 0 };
-    let steps = [
-        (bad, Refusal::RecordForm),
-        (Certificate { leaves: MAX_LEAVES + 1, ..bad }, Refusal::RecordForm),
-        (Certificate { leaves: MAX_LEAVES, ..bad }, Refusal::CertificateNumber),
-        (Certificate { leaves: 1, ..bad }, Refusal::CertificateNumber),
-        (Certificate { leaves: 1, number: 1, ..bad }, Refusal::CertificateKeys),
-        (Certificate { leaves: 1, number: 1, keys: KEYS[0], ..bad }, Refusal::Signers),
-    ];
-    for (certificate, refusal) in steps {
-        assert_eq!(certify(&mut with_committee(1), &certificate), refused(refusal, 0));
-    }
-    for leaves in [1, 2, MAX_LEAVES] {
-        assert!(certify(&mut with_committee(1), &Certificate { leaves, ..certificate(1) }).is_passed());
-    }
-    // Without a committee: 21 of the leaf count, and else 53.
-    assert_eq!(certify(&mut home(), &Certificate { leaves: 0, ..certificate(1) }), refused(Refusal::RecordForm, 0));
-    assert_eq!(certify(&mut home(), &certificate(1)), refused(Refusal::CertificateNumber, 0));
-    // None follows 2^64-1: `last` is the fifth word from the end.
-    let mut bytes = with_committee(1).as_bytes().to_vec();
-    let at = bytes.len() - 8 * 5;
-    bytes[at..at + 8].copy_from_slice(&(u64::MAX - 1).to_le_bytes());
-    let mut it = HomeValidator::from_bytes(&bytes).expect("a state's length");
-    assert!(certify(&mut it, &Certificate { number: u64::MAX, next_keys: KEYS[0], ..certificate(1) }).is_passed());
-    for number in [0, 1, u64::MAX] {
-        assert_eq!(certify(&mut it, &Certificate { number, ..certificate(1) }), refused(Refusal::CertificateNumber, 0));
-    }
-}
-
 #[test]
 fn ledgers_fill_up() {
     let mut it = home();
@@ -496,26 +364,15 @@ fn states_as_bytes() {
         assert_eq!(forged.figures(), Err(Refusal::State));
         assert_eq!(forged.balance(0), Err(Refusal::State));
         assert_eq!(forged.places_left(), Err(Refusal::State));
-        assert_eq!(forged.committee(), Err(Refusal::State));
-        assert_eq!(certify(&mut forged, &certificate(1)), refused(Refusal::State, 0));
         assert_eq!(forged.as_bytes(), bytes);
     }
-    // Rate and charge account, before the seven words of the committee; these, which are zeros without one.
-    let of_tariff = [(9, MAX_RATE + 1), (8, 2)];
-    for (word, value) in of_tariff.into_iter().chain([(7, 1), (7, 2)]).chain((1..=6).map(|word| (word, 1))) {
+    // Its last two words are rate and charge account.
+    for (word, value) in [(2, MAX_RATE + 1), (1, 2)] {
         let mut bytes = home().as_bytes().to_vec();
         let at = bytes.len() - 8 * word;
         bytes[at..at + 8].copy_from_slice(&value.to_le_bytes());
         let forged = HomeValidator::from_bytes(&bytes).expect("a state's length");
         assert_eq!((forged.figures(), forged.tariff()), (Err(Refusal::State), Err(Refusal::State)));
-    }
-    // Of one with a committee: what `committee` and k say; all else of it is any number.
-    for (word, value) in [(7, 0), (7, 2), (6, 0), (6, 33), (5, u64::MAX), (4, 0), (1, u64::MAX)] {
-        let mut bytes = with_committee(32).as_bytes().to_vec();
-        let at = bytes.len() - 8 * word;
-        bytes[at..at + 8].copy_from_slice(&value.to_le_bytes());
-        let it = HomeValidator::from_bytes(&bytes).expect("a state's length");
-        assert_eq!(it.committee().is_err(), word > 5);
     }
     let mut forged = PairValidator::from_bytes(&[0xff; PairValidator::STATE_SIZE]).expect("a state's length");
     assert_eq!(forged.take(&[]), refused(Refusal::State, 0));
@@ -533,8 +390,7 @@ fn states_print_short() {
     );
     assert_eq!(
         format!("{:?}", home()),
-        "HomeValidator { supply: 170, pool: 20, home_accounts: 2, far_accounts: 1, count: 0, rate: 0, charge_account: 0, committee: 0, \
-         half: 0, last: 0, .. }"
+        "HomeValidator { supply: 170, pool: 20, home_accounts: 2, far_accounts: 1, count: 0, rate: 0, charge_account: 0, .. }"
     );
 }
 
@@ -583,7 +439,7 @@ fn calls_fit_their_stacks() {
         assert!(it.figures().is_ok() && it != before && PairValidator::from_bytes(it.as_bytes()) == Some(it));
     });
     fits(128 * 1024, || {
-        let mut it = HomeValidator::open_committee(&[1000; 56], 56, 0, Tariff::FREE, 1, KEYS[0]).expect("an opening");
+        let mut it = HomeValidator::open(&[1000; 56], 56, 0, Tariff::FREE).expect("an opening");
         let before = it.clone();
         let mut by_value = it.clone();
         assert!(it.take_list(&list()).is_passed() && by_value.check_list(&list()).is_passed());
@@ -592,8 +448,6 @@ fn calls_fit_their_stacks() {
         assert_eq!(it, by_value);
         assert_eq!(it.balance(0), Ok(488));
         assert_eq!(it.places_left(), Ok(0));
-        assert!(certify(&mut it, &certificate(1)).is_passed());
-        assert_eq!(it.committee(), Ok(Some(Committee { half: 1, last: 1, keys: KEYS[1] })));
         assert!(it.figures().is_ok() && it != before && HomeValidator::from_bytes(it.as_bytes()) == Some(it));
     });
 }

@@ -2,7 +2,7 @@
 use Rattle.wire.proofs.Prelude.{Bool, List, [], ◌&&◌, ◌+◌, ◌-◌, ◌∙◌, ◌∷◌, ◌≡◌, ◌≤◌, arith, drop, eq-eqb, eqb, eqb-true, false, get_or, le-leb}
 use Rattle.wire.proofs.Prelude.{leb-true, length, length-drop, length-take-le, refl, subst, sym, true, ℕ}
 use Rattle.home_core.specs.Layout.{HomeReady, accepts_home, home_balances_word, far_accounts_of, home_bounds, home_count_of, home_view_of, home_words}
-use Rattle.home_core.specs.Layout.{committee_held, home_accounts_of}
+use Rattle.home_core.specs.Layout.{home_accounts_of}
 use Rattle.home_core.specs.Layout.{home_supply_of, home_tariff_of, pool_of}
 use Rattle.ledgers.specs.Limits.{account_limit, capacity, max_amount}
 use Rattle.places.proofs.BalanceTotals.{balances_sum}
@@ -35,7 +35,6 @@ pub record HomeBounds (s : List ℕ) : Type 0 where
   pub room : home_count_of s ≤ capacity
   pub supply_fits : home_supply_of s ≤ max_amount
   pub tariff_allowed_lem : tariff_allowed (home_tariff_of s) (home_accounts_of s) ≡ true
-  pub committee_held_lem : committee_held s ≡ true
 
 -- from the test
 pub bounds_facts : (s : List ℕ) → home_bounds s ≡ true → HomeBounds s
@@ -46,7 +45,6 @@ bounds_facts s h =
     let c = every_first _ _ b.1 in
     let d = every_first _ _ c.1 in
     let e = every_first _ _ d.1 in
-    let f = every_first _ _ e.1 in
     record {
       home_some = (count_facts (home_accounts_of s) a.0).0;
       home_fits = (count_facts (home_accounts_of s) a.0).1;
@@ -55,7 +53,6 @@ bounds_facts s h =
       room = leb-true (home_count_of s) capacity c.0;
       supply_fits = leb-true (home_supply_of s) max_amount d.0;
       tariff_allowed_lem = e.0;
-      committee_held_lem = f.0;
     }
 
 -- and back
@@ -67,8 +64,7 @@ facts_bounds s b =
     (every_both _ _ (le-leb (home_count_of s) capacity b.room)
     (every_both _ _ (le-leb (home_supply_of s) max_amount b.supply_fits)
     (every_both _ _ b.tariff_allowed_lem
-    (every_both _ _ b.committee_held_lem
-    every_none)))))
+    every_none))))
 
 -- ## Accepted words
 

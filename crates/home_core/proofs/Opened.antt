@@ -1,16 +1,10 @@
 -- The words of an opening: what the stores leave in words of zeros, what they are as the rules' state, and that they are accepted; and
 -- the words beside a refused one. Assumes nothing.
 use Rattle.wire.proofs.Prelude.{List, [], ◌*◌, ◌++◌, ◌+◌, ◌∙◌, ◌∷◌, ◌≡◌, ◌≤◌, ap, arith, drop, false, get_or, leb-true, length}
-use Rattle.wire.proofs.Prelude.{length-replicate, refl, replicate, replicate-append-replicate, set, take, true, ℕ}
-use Rattle.certificates.specs.Certificates.{committee_allowed, first_committee}
-use Rattle.certificates.specs.declared.FarCommittee.{FarCommittee}
-use Rattle.certificates.specs.declared.FarCommittee.TheVariants.{With, Without}
-use Rattle.certificates.specs.declared.digests.Digest.{Digest}
+use Rattle.wire.proofs.Prelude.{length-replicate, refl, replicate, replicate-append-replicate, set, take, ℕ}
 use Rattle.home_core.proofs.Accept.{HomeSound}
-use Rattle.home_core.proofs.CommitteeWords.{words_committee, words_held, words_long}
 use Rattle.home_core.specs.Layout.{accepts_home, home_balances_word, far_accounts_word, home_bounds, home_opened_words, home_view_of, home_zero_words}
-use Rattle.home_core.specs.Layout.{committee_of, committee_word, committee_words, half_word}
-use Rattle.home_core.specs.Layout.{home_supply_word, home_accounts_word, home_tariff_word, home_words, keys_word, pool_word, with_digest}
+use Rattle.home_core.specs.Layout.{home_supply_word, home_accounts_word, home_tariff_word, pool_word}
 use Rattle.ledgers.specs.Limits.{account_limit, capacity, max_amount}
 use Rattle.places.proofs.Openings.{Stands, copied, count_facts, stands, stored_behind}
 use Rattle.places.specs.LedgerBalances.{zero_filled}
@@ -32,42 +26,22 @@ zeros_split a b c = simp replicate-append-replicate
 
 -- what the stores leave behind other words
 stores_leave : (z : List ℕ) → length z ≡ home_balances_word → (homes : List ℕ) → length homes ≤ account_limit → (s first : List ℕ)
-    → (supply pool n m rate account : ℕ) → s ≡ z ++ (replicate account_limit 0 ++ replicate 14 0)
+    → (supply pool n m rate account : ℕ) → s ≡ z ++ (replicate account_limit 0 ++ replicate 7 0)
     → first ≡ take home_balances_word s ++ (homes ++ drop (home_balances_word + length homes) s)
     → set (set (set (set (set (set first home_supply_word supply) pool_word pool) home_accounts_word n) far_accounts_word m) home_tariff_word rate)
     (home_tariff_word + 1) account
-    ≡ z ++ (zero_filled homes ++ supply ∷ pool ∷ n ∷ m ∷ 0 ∷ rate ∷ account ∷ committee_words Without)
+    ≡ z ++ (zero_filled homes ++ supply ∷ pool ∷ n ∷ m ∷ 0 ∷ rate ∷ account ∷ [])
 stores_leave z e homes h s first supply pool n m rate account q a =
     rw (
       a,
       q,
-      copied z home_balances_word e homes h (replicate 14 0),
-      stored_behind z home_balances_word e homes h (0 ∷ 0 ∷ 0 ∷ 0 ∷ 0 ∷ 0 ∷ 0 ∷ committee_words Without) 0 supply,
-      stored_behind z home_balances_word e homes h (supply ∷ 0 ∷ 0 ∷ 0 ∷ 0 ∷ 0 ∷ 0 ∷ committee_words Without) 1 pool,
-      stored_behind z home_balances_word e homes h (supply ∷ pool ∷ 0 ∷ 0 ∷ 0 ∷ 0 ∷ 0 ∷ committee_words Without) 2 n,
-      stored_behind z home_balances_word e homes h (supply ∷ pool ∷ n ∷ 0 ∷ 0 ∷ 0 ∷ 0 ∷ committee_words Without) 3 m,
-      stored_behind z home_balances_word e homes h (supply ∷ pool ∷ n ∷ m ∷ 0 ∷ 0 ∷ 0 ∷ committee_words Without) 5 rate,
-      stored_behind z home_balances_word e homes h (supply ∷ pool ∷ n ∷ m ∷ 0 ∷ rate ∷ 0 ∷ committee_words Without) 6 account,
-    )
-
--- what the stores of a committee leave behind other words
-founds_leave : (z : List ℕ) → length z ≡ home_balances_word → (homes : List ℕ) → length homes ≤ account_limit
-    → (supply pool n m rate account half : ℕ) (keys : Digest)
-    → with_digest (set (set (z ++ (zero_filled homes ++ supply ∷ pool ∷ n ∷ m ∷ 0 ∷ rate ∷ account ∷ committee_words Without)) committee_word 1)
-    half_word half) keys_word keys
-    ≡ z ++ (zero_filled homes ++ supply ∷ pool ∷ n ∷ m ∷ 0 ∷ rate ∷ account ∷ committee_words (With (first_committee half keys)))
-founds_leave z e homes h supply pool n m rate account half keys =
-    let front : List ℕ → List ℕ = λ (rest : List ℕ). supply ∷ pool ∷ n ∷ m ∷ 0 ∷ rate ∷ account ∷ rest in
-    let a = keys.first in
-    let b = keys.second in
-    let c = keys.third in
-    rw (
-      stored_behind z home_balances_word e homes h (front (0 ∷ 0 ∷ 0 ∷ 0 ∷ 0 ∷ 0 ∷ 0 ∷ [])) 7 1,
-      stored_behind z home_balances_word e homes h (front (1 ∷ 0 ∷ 0 ∷ 0 ∷ 0 ∷ 0 ∷ 0 ∷ [])) 8 half,
-      stored_behind z home_balances_word e homes h (front (1 ∷ half ∷ 0 ∷ 0 ∷ 0 ∷ 0 ∷ 0 ∷ [])) 10 a,
-      stored_behind z home_balances_word e homes h (front (1 ∷ half ∷ 0 ∷ a ∷ 0 ∷ 0 ∷ 0 ∷ [])) 11 b,
-      stored_behind z home_balances_word e homes h (front (1 ∷ half ∷ 0 ∷ a ∷ b ∷ 0 ∷ 0 ∷ [])) 12 c,
-      stored_behind z home_balances_word e homes h (front (1 ∷ half ∷ 0 ∷ a ∷ b ∷ c ∷ 0 ∷ [])) 13 keys.fourth,
+      copied z home_balances_word e homes h (replicate 7 0),
+      stored_behind z home_balances_word e homes h (0 ∷ 0 ∷ 0 ∷ 0 ∷ 0 ∷ 0 ∷ 0 ∷ []) 0 supply,
+      stored_behind z home_balances_word e homes h (supply ∷ 0 ∷ 0 ∷ 0 ∷ 0 ∷ 0 ∷ 0 ∷ []) 1 pool,
+      stored_behind z home_balances_word e homes h (supply ∷ pool ∷ 0 ∷ 0 ∷ 0 ∷ 0 ∷ 0 ∷ []) 2 n,
+      stored_behind z home_balances_word e homes h (supply ∷ pool ∷ n ∷ 0 ∷ 0 ∷ 0 ∷ 0 ∷ []) 3 m,
+      stored_behind z home_balances_word e homes h (supply ∷ pool ∷ n ∷ m ∷ 0 ∷ 0 ∷ 0 ∷ []) 5 rate,
+      stored_behind z home_balances_word e homes h (supply ∷ pool ∷ n ∷ m ∷ 0 ∷ rate ∷ 0 ∷ []) 6 account,
     )
 
 module _ (tariff : Tariff) (homes : List ℕ) (fars far_total : ℕ) where
@@ -76,48 +50,39 @@ module _ (tariff : Tariff) (homes : List ℕ) (fars far_total : ℕ) where
       → first ≡ take home_balances_word s ++ (homes ++ drop (home_balances_word + length homes) s)
       → set (set (set (set (set (set first home_supply_word supply) pool_word far_total) home_accounts_word (length homes)) far_accounts_word fars)
       home_tariff_word tariff.rate) (home_tariff_word + 1) tariff.account
-      ≡ home_opened_words tariff homes fars far_total Without
+      ≡ home_opened_words tariff homes fars far_total
   unfolding home_opened_words home_zero_words
   opened_by_lem h s first supply q u a =
       stores_leave (replicate (4 * capacity) 0) (length-replicate {A = ℕ} (4 * capacity) 0) homes h s first supply far_total
-      (length homes) fars tariff.rate tariff.account (q ∙ zeros_split (4 * capacity) account_limit 14) a
+      (length homes) fars tariff.rate tariff.account (q ∙ zeros_split (4 * capacity) account_limit 7) a
       ∙ ap
       (λ (n : ℕ).
       replicate (4 * capacity) 0
-      ++ (zero_filled homes ++ n ∷ far_total ∷ length homes ∷ fars ∷ 0 ∷ tariff.rate ∷ tariff.account ∷ committee_words Without))
+      ++ (zero_filled homes ++ n ∷ far_total ∷ length homes ∷ fars ∷ 0 ∷ tariff.rate ∷ tariff.account ∷ []))
       u
-
-  -- and with a committee what the stores leave in those without one
-  pub founded_by : length homes ≤ account_limit → (half : ℕ) (keys : Digest)
-      → with_digest (set (set (home_opened_words tariff homes fars far_total Without) committee_word 1) half_word half) keys_word keys
-      ≡ home_opened_words tariff homes fars far_total (With (first_committee half keys))
-  unfolding home_opened_words
-  founded_by h half keys =
-      founds_leave (replicate (4 * capacity) 0) (length-replicate {A = ℕ} (4 * capacity) 0) homes h (total homes + far_total) far_total
-      (length homes) fars tariff.rate tariff.account half keys
 
   -- ## An accepted opening
 
-  -- its number of home accounts is within the limit
-  pub opened_count : home_opening_refusal tariff homes fars far_total ≡ 0 → length homes ≤ account_limit
-  opened_count n = (count_facts (length homes) (opening_none tariff (length homes) fars (total homes + far_total) n).home_count).1
+  module _ (n : home_opening_refusal tariff homes fars far_total ≡ 0) where
+    -- its number of home accounts is within the limit
+    pub opened_count : length homes ≤ account_limit
+    opened_count = (count_facts (length homes) (opening_none tariff (length homes) fars (total homes + far_total) n).home_count).1
 
-  module _ (n : home_opening_refusal tariff homes fars far_total ≡ 0) (far : FarCommittee) where
     -- its words
     abbrev opened_words : List ℕ
-    opened_words = home_opened_words tariff homes fars far_total far
+    opened_words = home_opened_words tariff homes fars far_total
 
-    -- those after the balances
+    -- the last seven
     abbrev scalars : List ℕ
-    scalars = (total homes + far_total) ∷ far_total ∷ length homes ∷ fars ∷ 0 ∷ tariff.rate ∷ tariff.account ∷ committee_words far
+    scalars = (total homes + far_total) ∷ far_total ∷ length homes ∷ fars ∷ 0 ∷ tariff.rate ∷ tariff.account ∷ []
 
     -- the balances stand there
     opened_stand : Stands opened_words home_balances_word homes scalars
     unfolding home_opened_words
     opened_stand =
-        stands (replicate (4 * capacity) 0) home_balances_word (length-replicate {A = ℕ} (4 * capacity) 0) homes (opened_count n) scalars
+        stands (replicate (4 * capacity) 0) home_balances_word (length-replicate {A = ℕ} (4 * capacity) 0) homes opened_count scalars
 
-    -- each of them
+    -- each of the last seven
     last : (k : ℕ) → get_or opened_words (home_supply_word + k) 0 ≡ get_or scalars k 0
     last = opened_stand.behind
 
@@ -126,23 +91,15 @@ module _ (tariff : Tariff) (homes : List ℕ) (fars far_total : ℕ) where
     unfolding ledger_in records_from list_at
     opened_view = rw (last 0, last 1, last 2, last 3, last 4, last 5, last 6, opened_stand.balances)
 
-    -- they are as many as a state has
-    pub opened_long : length opened_words ≡ home_words
-    opened_long = let l = words_long far in omega (arith, opened_stand.long, l)
-
-    -- their committee is the opening's
-    pub opened_committee : committee_of opened_words ≡ far
-    opened_committee = words_committee opened_words far (last 7) (last 8) (last 9) (last 10) (last 11) (last 12) (last 13)
-
     -- so they are sound
-    pub opened_sound : committee_allowed far ≡ true → HomeSound opened_words
+    pub opened_sound : HomeSound opened_words
     unfolding supply_allowed all_at
-    opened_sound allowed =
+    opened_sound =
         let o = opening_none tariff (length homes) fars (total homes + far_total) n in
         let h = count_facts (length homes) o.home_count in
         let f = count_facts fars o.far_count in
         record {
-          long = opened_long;
+          long = opened_stand.long;
           bounds =
               record {
                 home_some = omega (arith, last 2, h);
@@ -152,7 +109,6 @@ module _ (tariff : Tariff) (homes : List ℕ) (fars far_total : ℕ) where
                 room = omega (arith, last 4);
                 supply_fits = omega (arith, last 0, leb-true (total homes + far_total) max_amount o.supply_fits);
                 tariff_allowed_lem = rw (last 2, last 5, last 6) o.tariff_allowed_lem;
-                committee_held_lem = words_held opened_words far (last 7) (last 8) (last 9) (last 10) (last 11) (last 12) (last 13) allowed;
               };
           zeros = rw (last 2) opened_stand.zeros;
           reads = rw (last 4);

@@ -4,9 +4,8 @@ use Rattle.wire.proofs.Prelude.{List, ◌*◌, ◌+◌, ◌-◌, ◌<◌, ◌^�
 use Rattle.wire.proofs.Prelude.{length-set, refl, set, sym, true, ℕ}
 use Rattle.answers.proofs.Answers.{or_else_zero}
 use Rattle.home_core.proofs.Accept.{HomeBounds, HomeSound, length_balances, length_held, sound_accepts, sound_of}
-use Rattle.home_core.proofs.CommitteeWords.{committee_same, held_same}
 use Rattle.home_core.specs.Layout.{HomeReady, accepts_home, home_balances_word, far_accounts_of, far_accounts_word, home_count_of, home_count_word}
-use Rattle.home_core.specs.Layout.{committee_of, committee_word, home_tariff_of, home_tariff_word, home_view_of, home_with}
+use Rattle.home_core.specs.Layout.{home_tariff_of, home_tariff_word, home_view_of, home_with}
 use Rattle.home_core.specs.Layout.{home_supply_of, home_supply_word, home_accounts_of, home_accounts_word, pool_of, pool_word}
 use Rattle.ledgers.specs.Limits.{account_limit, capacity, max_amount}
 use Rattle.places.proofs.PassedRecord.{Changes, zeros_kept}
@@ -118,7 +117,6 @@ pub record HomeWritten (s t : List ℕ) (w : Words) (r : Record) : Type 0 where
   pub count : home_count_of t ≡ home_count_of s + 1
   pub rate : (home_tariff_of t).rate ≡ (home_tariff_of s).rate
   pub account : (home_tariff_of t).account ≡ (home_tariff_of s).account
-  pub others : (i : ℕ) → committee_word ≤ i → get_or t i 0 ≡ get_or s i 0
 
 -- two words stored, seen elsewhere
 set_two : (x : List ℕ) (j k a b i : ℕ) → (i ≡ j → ⊥) → (i ≡ k → ⊥) → get_or (set (set x j a) k b) i 0 ≡ get_or x i 0
@@ -164,7 +162,6 @@ module _ (s : List ℕ) (w : Words) (r : Record) (o : HomeSound s) (p : HomePass
             (omega (arith, length-set stored_words pool_word x, is_stored.long, o.long));
         rate = above home_tariff_word (omega arith) (λ q. omega arith) (λ q. omega arith);
         account = above (home_tariff_word + 1) (omega arith) (λ q. omega arith) (λ q. omega arith);
-        others = λ i h. above i (omega (arith, h)) (λ q. omega (arith, h, q)) (λ q. omega (arith, h, q));
       }
 
 module _ (s t : List ℕ) (w : Words) (r : Record) (o : HomeSound s) (p : HomePasses s r r.kind) (c : HomeWritten s t w r)
@@ -195,7 +192,6 @@ module _ (s t : List ℕ) (w : Words) (r : Record) (o : HomeSound s) (p : HomePa
         room = omega (arith, c.count, p.room);
         supply_fits = omega (arith, c.supply, o.bounds.supply_fits);
         tariff_allowed_lem = rw (c.rate, c.account, c.homes) o.bounds.tariff_allowed_lem;
-        committee_held_lem = held_same s t c.others ∙ o.bounds.committee_held_lem;
       }
 
   -- balances beyond the accounts stay zero
@@ -241,7 +237,6 @@ module _ (s t : List ℕ) (w : Words) (r : Record) (o : HomeSound s) (p : HomePa
 pub record HomeNext (s : List ℕ) (w : Words) (r : Record) : Type 0 where
   pub accepted : accepts_home (home_with s w r) ≡ true
   pub view : home_view_of (home_with s w r) ≡ home_after (home_view_of s) (Read r)
-  pub committee : committee_of (home_with s w r) ≡ committee_of s
   pub ready : (index : List ℕ) → HomeReady s index → HomeReady (home_with s w r) (with_number index 0 (home_count_of s) r.number)
 
 -- bytes that pass
@@ -259,6 +254,5 @@ next_of s h b r q j =
     record {
       accepted = accepted_after s (home_with s w r) w r o p c f.2 f.1 a;
       view = view_after s (home_with s w r) w r o p c f.2;
-      committee = committee_same s (home_with s w r) c.others;
       ready = λ index d. ready_after s (home_with s w r) w r o p c f.2 index d f.1 a;
     }

@@ -1,16 +1,8 @@
 -- The state of the home validator (document 01: guard) is one array of words: the held records, four words each, as many as the
 -- capacity; the balances, as many as a ledger can have; then the supply, the far pool, the numbers of home and of far accounts, the
--- number of held records, the tariff (document 02, U3): its rate and its account, and the far committee (document 02, U5): whether there is
--- one, k, the number of its last passed certificate and the digest of the keys in force. Here stands what it is as the rules' state, what
--- refusal 3 asks of it, and what a passed record and a passed certificate make of it. Assumes nothing.
-use Rattle.std.specs.Prelude.{◌*◌, ◌+◌, ◌-◌, suc, zero, ℕ, Bool, true, List, [], ◌++◌, ◌∷◌, ◌≡◌, eqb, leb, get_or, length, replicate, set}
-use Rattle.certificates.specs.Certificates.{certificate_refusal, half_allowed}
-use Rattle.certificates.specs.declared.Certificate.{Certificate}
-use Rattle.certificates.specs.declared.Committee.{Committee}
-use Rattle.certificates.specs.declared.FarCommittee.{FarCommittee}
-use Rattle.certificates.specs.declared.FarCommittee.TheVariants.{With, Without}
-use Rattle.certificates.specs.declared.digests.Digest.{Digest}
-use Rattle.home_calls.specs.HomeCalls.{HomeChecker}
+-- number of held records, and the tariff (document 02, U3): its rate and its account. Here stands what it is as the rules' state, what
+-- refusal 3 asks of it, and what a passed record makes of it. Assumes nothing.
+use Rattle.std.specs.Prelude.{◌*◌, ◌+◌, ◌-◌, ℕ, Bool, true, List, [], ◌++◌, ◌∷◌, ◌≡◌, eqb, leb, get_or, length, replicate, set}
 use Rattle.ledgers.specs.Limits.{account_limit, capacity}
 use Rattle.places.specs.LedgerBalances.{zero_filled, zeros_at}
 use Rattle.places.specs.OverPlaces.{all_at}
@@ -53,22 +45,9 @@ home_count_word = home_supply_word + 4
 abbrev pub home_tariff_word : ℕ
 home_tariff_word = home_supply_word + 5
 
--- the words of the committee: 0 where there is none and else 1, k, the last number, and the first of four of the keys
-abbrev pub committee_word : ℕ
-committee_word = home_supply_word + 7
-
-abbrev pub half_word : ℕ
-half_word = home_supply_word + 8
-
-abbrev pub last_word : ℕ
-last_word = home_supply_word + 9
-
-abbrev pub keys_word : ℕ
-keys_word = home_supply_word + 10
-
 -- all words
 abbrev pub home_words : ℕ
-home_words = home_supply_word + 14
+home_words = home_supply_word + 7
 
 -- ## What the words say
 
@@ -106,33 +85,10 @@ home_view_of s =
       supply = home_supply_of s;
     }
 
--- the digest in four words
-abbrev pub digest_at : List ℕ → ℕ → Digest
-digest_at s at = record { first = get_or s at 0; second = get_or s (at + 1) 0; third = get_or s (at + 2) 0; fourth = get_or s (at + 3) 0 }
-
--- none for 0
-abbrev pub committee_by : ℕ → Committee → FarCommittee
-committee_by zero c = Without
-committee_by (suc n) c = With c
-
--- the far committee
-abbrev pub committee_of : List ℕ → FarCommittee
-committee_of s =
-    committee_by (get_or s committee_word 0) (record { half = get_or s half_word 0; last = get_or s last_word 0; keys = digest_at s keys_word })
-
 -- ## 3
 
--- the words of no committee are zeros, and one has 1 and k in bounds (document 02, U5)
-abbrev pub committee_held_by : ℕ → List ℕ → Bool
-committee_held_by zero s = zeros_at s half_word 6
-committee_held_by (suc n) s = every (eqb n 0 ∷ half_allowed (get_or s half_word 0) ∷ [])
-
--- of a state's words
-unfoldable pub committee_held : List ℕ → Bool
-committee_held s = committee_held_by (get_or s committee_word 0) s
-
--- the counts of accounts and of held records, the supply, the tariff and the committee are in bounds (Refusals: 3, counts out of bounds,
--- stake; document 02, U3 and U5)
+-- the counts of accounts and of held records, the supply and the tariff are in bounds (Refusals: 3, counts out of bounds, stake; document
+-- 02, U3)
 unfoldable pub home_bounds : List ℕ → Bool
 home_bounds s =
     every
@@ -141,7 +97,6 @@ home_bounds s =
     ∷ leb (home_count_of s) capacity
     ∷ supply_allowed (home_supply_of s)
     ∷ tariff_allowed (home_tariff_of s) (home_accounts_of s)
-    ∷ committee_held s
     ∷ []
     )
 
@@ -180,35 +135,14 @@ home_words_checker =
       after = λ s b. home_after_read s (words_of b) (reading b);
     }
 
--- ## A passed certificate
-
--- the words with a digest's from a word on
-abbrev pub with_digest : List ℕ → ℕ → Digest → List ℕ
-with_digest s at d = set (set (set (set s at d.first) (at + 1) d.second) (at + 2) d.third) (at + 3) d.fourth
-
--- the words once a certificate has passed: its number, and the next keys
-unfoldable pub home_certified : List ℕ → Certificate → List ℕ
-home_certified s x = with_digest (set s last_word x.number) keys_word x.next_keys
-
--- the home validator over words, with certificates
-abbrev pub home_over_words : HomeChecker (List ℕ)
-home_over_words =
-    record { records = home_words_checker; refusal = λ s x. certificate_refusal (committee_of s) x; certified = home_certified }
-
 -- ## The opening
 
--- the words of a committee
-abbrev pub committee_words : FarCommittee → List ℕ
-committee_words Without = 0 ∷ 0 ∷ 0 ∷ 0 ∷ 0 ∷ 0 ∷ 0 ∷ []
-committee_words (With c) =
-    1 ∷ c.half ∷ c.last ∷ c.keys.first ∷ c.keys.second ∷ c.keys.third ∷ c.keys.fourth ∷ []
-
--- the words of an accepted opening, with a committee or without one
-unfoldable pub home_opened_words : Tariff → List ℕ → ℕ → ℕ → FarCommittee → List ℕ
-home_opened_words tariff homes fars far_total far =
+-- the words of an accepted opening
+unfoldable pub home_opened_words : Tariff → List ℕ → ℕ → ℕ → List ℕ
+home_opened_words tariff homes fars far_total =
     replicate (4 * capacity) 0
     ++ (zero_filled homes
-    ++ (total homes + far_total) ∷ far_total ∷ length homes ∷ fars ∷ 0 ∷ tariff.rate ∷ tariff.account ∷ committee_words far)
+    ++ (total homes + far_total) ∷ far_total ∷ length homes ∷ fars ∷ 0 ∷ tariff.rate ∷ tariff.account ∷ [])
 
 -- all zero, which 3 refuses: what stands beside a refused opening
 unfoldable pub home_zero_words : List ℕ

@@ -1,15 +1,10 @@
 // The home validator (document 01: guard) over the words of its state, in place: whether a state is accepted, a record judged, a passed
-// record stored, the opening, and the calls with one record, with a list and with a certificate.
-pub mod committees; // committees.rt: the words of the far committee
-
+// record stored, the opening, and the calls with one record and with a list.
 ghost use Rattle.std.specs.Prelude.{ℕ, ◌+◌, true, ◌≡◌, eqb, get_or, length};
 ghost use Rattle.answers.specs.Answers.{unless_refused};
-ghost use Rattle.certificates.specs.Certificates.{first_committee};
-ghost use Rattle.certificates.specs.declared.FarCommittee.TheVariants.{With, Without};
-ghost use Rattle.home_calls.specs.HomeCalls.{certificate, committee_opening_refusal, home_call};
 ghost use Rattle.home_core.specs.Layout.{HomeReady, accepts_home, home_balances_word, home_bounds, home_view_of, home_with, home_words};
 ghost use Rattle.home_core.specs.Layout.{home_opened_words, home_words_checker, home_zero_words, home_accounts_of, pool_of};
-ghost use Rattle.home_core.specs.Layout.{home_over_words, home_supply_of, home_tariff_of};
+ghost use Rattle.home_core.specs.Layout.{home_supply_of, home_tariff_of};
 ghost use Rattle.ledgers.specs.Limits.{capacity};
 ghost use Rattle.places.specs.OverPlaces.{sum_at};
 ghost use Rattle.records.specs.Records.{formed, record_in};
@@ -19,8 +14,6 @@ ghost use Rattle.rules.specs.HomeValidator.{home_accounts, home_judge, home_last
 ghost use Rattle.table.specs.Table.{EmptyIndex, index_length};
 
 use answers::{Answer, first_refusal, refusal_if};
-use certificates::{Certificate, Digest, is_half};
-use committees::{certify, committee_of, is_held, put_committee};
 use ledgers::Ledger;
 use places::{
     Wide, add_balances, are_zero, copy_numbers, given_by, is_count_allowed, is_receiving, taken_by,
@@ -52,18 +45,8 @@ pub const RATE_WORD: usize = SUPPLY_WORD + 5;
 
 pub const CHARGE_ACCOUNT_WORD: usize = SUPPLY_WORD + 6;
 
-// The words of the far committee: 0 where there is none and else 1, k, the number of the last passed certificate, and the first of four
-// of the keys in force.
-pub const COMMITTEE_WORD: usize = SUPPLY_WORD + 7;
-
-pub const HALF_WORD: usize = SUPPLY_WORD + 8;
-
-pub const LAST_WORD: usize = SUPPLY_WORD + 9;
-
-pub const KEYS_WORD: usize = SUPPLY_WORD + 10;
-
 // All words of a state.
-pub const WORDS: usize = SUPPLY_WORD + 14;
+pub const WORDS: usize = SUPPLY_WORD + 7;
 
 // The tariff.
 fn tariff_of(s: &[u64]) -> Tariff
@@ -78,7 +61,7 @@ fn tariff_of(s: &[u64]) -> Tariff
 
 // ## 3
 
-// Counts of accounts and of held records, the supply, the tariff and the committee.
+// Counts of accounts and of held records, the supply and the tariff.
 fn is_bounded(s: &[u64]) -> bool
     requires { length s.now ≡ home_words }
     ensures { result ≡ home_bounds s.now }
@@ -95,10 +78,7 @@ fn is_bounded(s: &[u64]) -> bool
     if Record::MAX_AMOUNT < s[SUPPLY_WORD] {
         return false;
     }
-    if !tariff_of(s).is_allowed(s[HOME_ACCOUNTS_WORD]) {
-        return false;
-    }
-    is_held(s)
+    tariff_of(s).is_allowed(s[HOME_ACCOUNTS_WORD])
 }
 
 // Balances and the far pool, against the supply.
@@ -233,8 +213,8 @@ fn pass(state: &mut [u64; WORDS], w: Words, r: Record)
 
 // ## The opening
 
-// An opening with the home balances, the number of far accounts, the far total and the tariff, without a committee, in words of zeros: 1, 2
-// or 52, and no word is stored, or 0.
+// An opening with the home balances, the number of far accounts, the far total and the tariff, in words of zeros: 1, 2 or 52, and no word is
+// stored, or 0.
 pub fn open<'a, 'b>(
     balances: &'a [u64],
     far_accounts: usize,
@@ -245,7 +225,7 @@ pub fn open<'a, 'b>(
     requires { state.old ≡ home_zero_words }
     ensures answers { result ≡ home_opening_refusal tariff balances.now far_accounts far_total }
     ensures leaves { state.new ≡ unless_refused (home_opening_refusal tariff balances.now far_accounts far_total)
-        (home_opened_words tariff balances.now far_accounts far_total Without) home_zero_words }
+        (home_opened_words tariff balances.now far_accounts far_total) home_zero_words }
 {
     let opening = home_opening(balances, far_accounts, far_total, tariff);
     if opening.refusal != 0 {
@@ -258,34 +238,6 @@ pub fn open<'a, 'b>(
     state[FAR_ACCOUNTS_WORD] = far_accounts as u64;
     state[RATE_WORD] = tariff.rate;
     state[CHARGE_ACCOUNT_WORD] = tariff.account;
-    0
-}
-
-// The same with a committee of 2k members and its first keys: 1 for k outside 1 to 32 too.
-pub fn open_committee<'a, 'b>(
-    balances: &'a [u64],
-    far_accounts: usize,
-    far_total: u64,
-    tariff: Tariff,
-    half: u64,
-    keys: Digest,
-    state: &'b mut [u64; WORDS],
-) -> u32
-    requires { state.old ≡ home_zero_words }
-    ensures answers { result ≡ committee_opening_refusal (With (first_committee half keys)) tariff balances.now far_accounts
-        far_total }
-    ensures leaves { state.new ≡ unless_refused
-        (committee_opening_refusal (With (first_committee half keys)) tariff balances.now far_accounts far_total)
-        (home_opened_words tariff balances.now far_accounts far_total (With (first_committee half keys))) home_zero_words }
-{
-    if !is_half(half) {
-        return 1;
-    }
-    let number = open(balances, far_accounts, far_total, tariff, state);
-    if number != 0 {
-        return number;
-    }
-    put_committee(state, half, keys);
     0
 }
 
@@ -354,25 +306,4 @@ pub fn take_list(state: &mut [u64; WORDS], bytes: &[u8]) -> Answer
         i += 1;
     }
     Answer::Passed
-}
-
-// A call with a certificate, on a state lent: 3, 21, 53, 54, 55. A refusal leaves every word as it was, and a pass every word of the records,
-// balances and figures.
-pub fn take_certificate(state: &mut [u64; WORDS], x: Certificate) -> Answer
-    ensures answers { result ≡ (home_call home_over_words state.old (certificate x)).answer }
-    ensures leaves { state.new ≡ (home_call home_over_words state.old (certificate x)).state }
-{
-    let mut index = [0u16; INDEX];
-    if !is_accepted(state, &mut index) {
-        return Answer::Refused {
-            number: 3, // before the certificate is looked at
-            place: 0,
-        };
-    }
-    let refusal = x.refusal(committee_of(state));
-    if refusal != 0 {
-        return Answer::new(refusal, 0);
-    }
-    certify(state, x);
-    Answer::Passed // its next keys are in force
 }

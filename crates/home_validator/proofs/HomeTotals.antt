@@ -4,12 +4,9 @@ use Rattle.answers.specs.Answers.{answer}
 use Rattle.answers.specs.Balances.{balance_among}
 use Rattle.answers.specs.declared.Answer.{Answer}
 use Rattle.answers.specs.declared.Answer.TheVariants.{Passed}
-use Rattle.certificates.specs.declared.Committee.{Committee}
-use Rattle.certificates.specs.declared.FarCommittee.TheVariants.{With, Without}
 use Rattle.home_core.proofs.Accept.{length_held, sound_of}
-use Rattle.home_core.specs.Layout.{accepts_home, committee_of, home_balances_word, home_count_of, home_supply_of, home_view_of, home_accounts_of, pool_of}
-use Rattle.home_validator.specs.Figures.{home_balance_of, home_committee_of, home_figures_of, home_places_of, no_digest}
-use Rattle.home_validator.specs.declared.asked.HomeCommittee.{HomeCommittee}
+use Rattle.home_core.specs.Layout.{accepts_home, home_balances_word, home_count_of, home_supply_of, home_view_of, home_accounts_of, pool_of}
+use Rattle.home_validator.specs.Figures.{home_balance_of, home_figures_of, home_places_of}
 use Rattle.home_validator.specs.declared.asked.HomeFigures.{HomeFigures}
 use Rattle.home_validator.specs.declared.asked.HomePlaces.{HomePlaces}
 use Rattle.ledgers.specs.Limits.{capacity}
@@ -22,23 +19,7 @@ pub home_places_refused : (s : List ℕ) → accepts_home s ≡ false → {a : A
     → ◌≡◌ {A = HomePlaces} (record { answer = a; home = 0 }) (home_places_of (accepts_home s) s)
 home_places_refused s h e = rw h (λ i. record { answer = e i; home = 0 })
 
--- nor a committee
-pub home_committee_refused : (s : List ℕ) → accepts_home s ≡ false → {a : Answer} → a ≡ answer 3 0
-    → ◌≡◌ {A = HomeCommittee} (record { answer = a; half = 0; last = 0; keys = no_digest }) (home_committee_of (accepts_home s) s)
-home_committee_refused s h e = rw h (λ i. record { answer = e i; half = 0; last = 0; keys = no_digest })
-
 module _ (s : List ℕ) (h : accepts_home s ≡ true) where
-  -- accepted words without a committee
-  pub home_committee_none : committee_of s ≡ Without
-      → ◌≡◌ {A = HomeCommittee} (record { answer = Passed; half = 0; last = 0; keys = no_digest }) (home_committee_of (accepts_home s) s)
-  home_committee_none e = rw (h, e)
-
-  -- and with one
-  pub home_committee_told : {c : Committee} → committee_of s ≡ With c
-      → ◌≡◌ {A = HomeCommittee} (record { answer = Passed; half = c.half; last = c.last; keys = c.keys })
-      (home_committee_of (accepts_home s) s)
-  home_committee_told e = rw (h, e)
-
   -- balances and the pool are the supply
   pub home_supply_shared : total (home_view_of s).home.balances + pool_of s ≡ home_supply_of s
   home_supply_shared = (home_accepts_facts capacity (home_view_of s) (sound_of s h).accepted).sums

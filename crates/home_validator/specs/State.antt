@@ -1,11 +1,7 @@
 -- The state of the home validator (document 01: guard) and its calls: the rules' judgement of the state seen as theirs.
 -- Assumes nothing.
 use Rattle.std.specs.Prelude.{ℕ, List}
-use Rattle.certificates.specs.Certificates.{certificate_refusal}
-use Rattle.certificates.specs.declared.FarCommittee.{FarCommittee}
-use Rattle.certificates.specs.declared.FarCommittee.TheVariants.{Without}
-use Rattle.home_calls.specs.HomeCalls.{HomeChecker}
-use Rattle.home_core.specs.Layout.{accepts_home, committee_of, home_after_read, home_certified, home_opened_words, home_view_of, home_zero_words}
+use Rattle.home_core.specs.Layout.{accepts_home, home_after_read, home_opened_words, home_view_of, home_zero_words}
 use Rattle.home_validator.specs.declared.HomeValidator.{HomeValidator}
 use Rattle.ledgers.specs.Limits.{capacity}
 use Rattle.records.specs.Records.{reading, words_of}
@@ -19,10 +15,6 @@ use Rattle.rules.specs.Rules.{Tariff}
 abbrev pub home_view_of_state : HomeValidator → HomeView
 home_view_of_state s = home_view_of s.words
 
--- its far committee (document 02, U5)
-abbrev pub far_committee_of : HomeValidator → FarCommittee
-far_committee_of s = committee_of s.words
-
 -- ## The calls
 
 -- the home validator over this state
@@ -34,24 +26,11 @@ home_checker =
       after = λ s b. record { words = home_after_read s.words (words_of b) (reading b) };
     }
 
--- with certificates
-abbrev pub home_over_state : HomeChecker HomeValidator
-home_over_state =
-    record {
-      records = home_checker;
-      refusal = λ s x. certificate_refusal (far_committee_of s) x;
-      certified = λ s x. record { words = home_certified s.words x };
-    }
-
 -- ## The opening
 
--- the state of an accepted opening, with its tariff (document 02, U3) and its committee or none
-abbrev pub home_opened_with : FarCommittee → Tariff → List ℕ → ℕ → ℕ → HomeValidator
-home_opened_with far tariff homes fars far_total = record { words = home_opened_words tariff homes fars far_total far }
-
--- without a committee
+-- the state of an accepted opening, with its tariff (document 02, U3)
 abbrev pub home_opened_state : Tariff → List ℕ → ℕ → ℕ → HomeValidator
-home_opened_state tariff homes fars far_total = home_opened_with Without tariff homes fars far_total
+home_opened_state tariff homes fars far_total = record { words = home_opened_words tariff homes fars far_total }
 
 -- the state beside a refused opening: all zero, which 3 refuses
 abbrev pub home_zero_state : HomeValidator

@@ -1,13 +1,11 @@
-// What a state of the home validator is asked for: the home total with the far pool, the balance of one account, the places left, and the
-// far committee. All judge the state as every call does (3), alter nothing and hand no state back.
+// What a state of the home validator is asked for: the home total with the far pool, the balance of one account, and the places left.
+// All judge the state as every call does (3), alter nothing and hand no state back.
 ghost use Rattle.std.specs.Prelude.{◌≡◌};
 ghost use Rattle.home_core.specs.Layout.{accepts_home};
-ghost use Rattle.home_validator.specs.Figures.{home_figures_of, home_balance_of, home_committee_of, home_places_of, no_digest};
+ghost use Rattle.home_validator.specs.Figures.{home_figures_of, home_balance_of, home_places_of};
 
 use super::HomeValidator;
 use answers::{Answer, Balance, balance_among, balance_refused};
-use certificates::{Digest, FarCommittee};
-use home_core::committees::committee_of;
 use home_core::{
     BALANCES_WORD, COUNT_WORD, HOME_ACCOUNTS_WORD, POOL_WORD, SUPPLY_WORD, is_accepted,
 };
@@ -85,51 +83,5 @@ pub fn places_left(state: HomeValidator) -> HomePlaces
     HomePlaces {
         answer: Answer::Passed,
         home: (Ledger::CAPACITY - home) as u64,
-    }
-}
-
-// The far committee, beside the answer: k, the number of its last passed certificate and the keys in force; zeros where there is none.
-#[derive(Drop)]
-pub struct HomeCommittee {
-    pub answer: Answer,
-    pub half: u64,
-    pub last: u64,
-    pub keys: Digest,
-}
-
-// An answer with no committee.
-fn no_committee(answer: Answer) -> HomeCommittee
-    ensures { result ≡ record { answer = answer; half = 0; last = 0; keys = no_digest } }
-{
-    let keys = Digest {
-        first: 0,
-        second: 0,
-        third: 0,
-        fourth: 0,
-    };
-    HomeCommittee {
-        answer,
-        half: 0,
-        last: 0,
-        keys,
-    }
-}
-
-// The far committee. Refusal 3 comes with zeros.
-pub fn committee(state: HomeValidator) -> HomeCommittee
-    ensures { result ≡ home_committee_of (accepts_home state.words) state.words }
-{
-    if !accepted(&state.words) {
-        return no_committee(Answer::new(3, 0));
-    }
-    let FarCommittee::With(c) = committee_of(&state.words) else {
-        return no_committee(Answer::Passed);
-    };
-    let keys = c.keys;
-    HomeCommittee {
-        answer: Answer::Passed,
-        half: c.half,
-        last: c.last,
-        keys,
     }
 }

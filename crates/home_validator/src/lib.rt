@@ -2,21 +2,17 @@
 // and what home has sent: its state, and the calls that makers use. A call takes the state by value and hands it back beside the
 // answer; a list copies it once to have it for a refusal, and beside that the words are lent and stored to in place. No call asks
 // anything of the state or of the bytes that it is given.
-pub mod asked; // asked.rt: what a state is asked for: figures, a balance, the places left, the far committee
+pub mod asked; // asked.rt: what a state is asked for: figures, a balance, the places left
 
 ghost use Rattle.std.specs.Prelude.{◌≡◌};
 ghost use Rattle.answers.specs.Answers.{answer, unless_refused};
-ghost use Rattle.certificates.specs.Certificates.{first_committee};
-ghost use Rattle.certificates.specs.declared.FarCommittee.TheVariants.{With};
-ghost use Rattle.home_calls.specs.HomeCalls.{certificate, committee_opening_refusal, home_call};
-ghost use Rattle.home_validator.specs.State.{home_checker, home_opened_state, home_opened_with, home_over_state, home_zero_state};
+ghost use Rattle.home_validator.specs.State.{home_checker, home_opened_state, home_zero_state};
 ghost use Rattle.rules.specs.Calls.{call, one, list};
 ghost use Rattle.rules.specs.HomeValidator.{home_opening_refusal};
 
 use answers::Answer;
-pub use asked::{balance, committee, figures, places_left};
-use certificates::{Certificate, Digest};
-use home_core::{WORDS, take, take_certificate, take_list};
+pub use asked::{balance, figures, places_left};
+use home_core::{WORDS, take, take_list};
 use tariffs::Tariff;
 
 // The state: the held records, the balances, and the numbers that home_core lays out after them. Words of records at or beyond the count
@@ -35,8 +31,8 @@ pub struct HomeOutcome {
 }
 
 impl HomeValidator {
-    // An opening with the home balances, the number of far accounts, the far total and the tariff, without a committee: 1, 2, 52. Beside a
-    // refusal stands the all-zero state, which every call refuses.
+    // An opening with the home balances, the number of far accounts, the far total and the tariff: 1, 2, 52. Beside a refusal stands the
+    // all-zero state, which every call refuses.
     pub fn open(
         balances: &[u64],
         far_accounts: usize,
@@ -49,37 +45,6 @@ impl HomeValidator {
     {
         let mut words = [0u64; WORDS];
         let number = home_core::open(balances, far_accounts, far_total, tariff, &mut words);
-        HomeOutcome {
-            answer: Answer::new(number, 0),
-            state: HomeValidator { words },
-        }
-    }
-
-    // The same with a far committee of 2k members and the digest of its first keys: 1 for k outside 1 to 32 too, 2, 52.
-    pub fn open_committee(
-        balances: &[u64],
-        far_accounts: usize,
-        far_total: u64,
-        tariff: Tariff,
-        half: u64,
-        keys: Digest,
-    ) -> HomeOutcome
-        ensures answers { result.answer ≡ answer (committee_opening_refusal (With (first_committee half keys)) tariff balances.now
-            far_accounts far_total) 0 }
-        ensures hands_back { result.state ≡ unless_refused
-            (committee_opening_refusal (With (first_committee half keys)) tariff balances.now far_accounts far_total)
-            (home_opened_with (With (first_committee half keys)) tariff balances.now far_accounts far_total) home_zero_state }
-    {
-        let mut words = [0u64; WORDS];
-        let number = home_core::open_committee(
-            balances,
-            far_accounts,
-            far_total,
-            tariff,
-            half,
-            keys,
-            &mut words,
-        );
         HomeOutcome {
             answer: Answer::new(number, 0),
             state: HomeValidator { words },
@@ -108,19 +73,6 @@ impl HomeValidator {
         HomeOutcome {
             answer,
             state: self,
-        }
-    }
-
-    // A call with a certificate of the far committee: 3, 21, 53, 54, 55. A refusal hands back the state as it came; a pass brings the next
-    // keys into force, and takes no place in the table.
-    pub fn check_certificate(mut self, x: Certificate) -> HomeOutcome
-        ensures answers { result.answer ≡ (home_call home_over_state self (certificate x)).answer }
-        ensures hands_back { result.state ≡ (home_call home_over_state self (certificate x)).state }
-    {
-        let answer = take_certificate(&mut self.words, x);
-        HomeOutcome {
-            answer,
-            state: self, // after the certificate
         }
     }
 }

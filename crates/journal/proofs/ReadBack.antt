@@ -258,7 +258,7 @@ written_reads t home far records w =
       tariff_is = tariff_back t (length home) (balance_bytes home) w.home_opening.most w.tariff_allowed_lem;
       home_balances = h.reads;
       far_balances = f.reads;
-      record_list_lem = r.read;
+      record_list = r.read;
     }
 
 -- blocks in a row of bytes are bytes
@@ -279,7 +279,7 @@ read_written t home far records j y r =
     let n : stated_count r.first ≡ length home =
     sym (length_balances (stated_count r.first) r.first) ∙ ap length r.home_balances in
     let o = records_back t 2 (stated_count r.second) r.others (omega arith) ys.1.1 r.right.1.1 in
-    let e = r.record_list_lem in (
+    let e = r.record_list in (
       record {
         tariff_allowed_lem = sym (ap₂ tariff_allowed r.tariff_is n) ∙ tariff_allowed_lem r.first 0 r.right.0;
         home_opening = subst IsOpening r.home_balances h.opening;
@@ -331,7 +331,7 @@ reads_once j t home far records t' home' far' records' r s =
       sym r.tariff_is ∙ ap tariff_in f ∙ s.tariff_is,
       sym r.home_balances ∙ ap balances_of f ∙ s.home_balances,
       sym r.far_balances ∙ ap balances_of g ∙ s.far_balances,
-      sym r.record_list_lem ∙ ap all_records o ∙ s.record_list_lem,
+      sym r.record_list ∙ ap all_records o ∙ s.record_list,
     )
 
 -- a header with rate 0 and account 0 is the one of before

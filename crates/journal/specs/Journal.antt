@@ -94,7 +94,7 @@ pub record Reads (j : List ℕ) (tariff : Tariff) (home far : List ℕ) (records
   pub tariff_is : tariff_in first ≡ tariff
   pub home_balances : balances_of first ≡ home
   pub far_balances : balances_of second ≡ far
-  pub record_list_lem : all_records others ≡ records
+  pub record_list : all_records others ≡ records
 
 -- ## The theorem
 

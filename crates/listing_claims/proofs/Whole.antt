@@ -73,7 +73,7 @@ listed_by_lem j tariff home far records r =
     (blocks_back 2 (stated_count r.second) r.others r.right.1.1) in
     let lines = lines_of_blocks (pair_validator capacity) figures_line
     (opened_progress (pair_opened (tariff_in r.first) (balances_of r.first) (balances_of r.second)) (stated_count r.second)) r.others refl r.right.1.1 in
-    rw (first, second, others, r.right.0, r.right.1.0, lines, r.tariff_is, r.home_balances, r.far_balances, r.record_list_lem)
+    rw (first, second, others, r.right.0, r.right.1.0, lines, r.tariff_is, r.home_balances, r.far_balances, r.record_list)
 
 -- ## The claims
 

@@ -4,14 +4,7 @@ use Rattle.answers.specs.Answers.{answer, number_of, place_of, unless_refused}
 use Rattle.answers.specs.declared.Answer.{Answer}
 use Rattle.answers.specs.declared.Answer.TheVariants.{Passed, Refused}
 use Rattle.answers.specs.declared.balance.Balance.{Balance}
-use Rattle.certificates.specs.Certificates.{first_committee}
-use Rattle.certificates.specs.Digests.{digest_bytes, digest_of}
-use Rattle.certificates.specs.declared.Certificate.{Certificate}
-use Rattle.certificates.specs.declared.FarCommittee.{FarCommittee}
-use Rattle.certificates.specs.declared.FarCommittee.TheVariants.{With}
-use Rattle.home_calls.specs.HomeCalls.{HomeCall, certificate}
 use Rattle.home_validator.specs.declared.HomeValidator.{HomeValidator}
-use Rattle.home_validator.specs.declared.asked.HomeCommittee.{HomeCommittee}
 use Rattle.home_validator.specs.declared.asked.HomeFigures.{HomeFigures}
 use Rattle.home_validator.specs.declared.asked.HomePlaces.{HomePlaces}
 use Rattle.journal_reader.specs.declared.Balances.{Balances}
@@ -19,11 +12,8 @@ use Rattle.journal_reader.specs.declared.Counted.{Counted}
 use Rattle.ledgers.specs.Ledgers.{kind_byte, ledger_byte, ledger_of}
 use Rattle.moatbetony.specs.declared.PlainBalance.{PlainBalance}
 use Rattle.moatbetony.specs.declared.PlainBalances.{PlainBalances}
-use Rattle.moatbetony.specs.declared.PlainCertificate.{PlainCertificate}
 use Rattle.moatbetony.specs.declared.PlainCharge.{PlainCharge}
-use Rattle.moatbetony.specs.declared.PlainCommittee.{PlainCommittee}
 use Rattle.moatbetony.specs.declared.PlainCount.{PlainCount}
-use Rattle.moatbetony.specs.declared.PlainDigest.{PlainDigest}
 use Rattle.moatbetony.specs.declared.PlainEncoded.{PlainEncoded}
 use Rattle.moatbetony.specs.declared.PlainHomeFigures.{PlainHomeFigures}
 use Rattle.moatbetony.specs.declared.PlainHomePlaces.{PlainHomePlaces}
@@ -46,13 +36,13 @@ use Rattle.tariffs.specs.declared.Tariff.{Tariff}
 
 -- ## Versions
 
--- 0.7.0: major times 10,000, minor times 100 and patch
+-- 0.6.1: major times 10,000, minor times 100 and patch
 abbrev pub library_version : ℕ
-library_version = 700
+library_version = 601
 
 -- the layout of both states
 abbrev pub state_version : ℕ
-state_version = 4
+state_version = 3
 
 -- ## Answers
 
@@ -94,30 +84,6 @@ plain_home_figures f = record { answer = plain_answer f.answer; home = f.home; p
 -- its places left
 abbrev pub plain_home_places : HomePlaces → PlainHomePlaces
 plain_home_places p = record { answer = plain_answer p.answer; home = p.home }
-
--- a certificate from its numbers and arrays of bytes
-abbrev pub certificate_of : PlainCertificate → Certificate
-certificate_of x =
-    record {
-      number = x.number;
-      root = digest_of x.root;
-      leaves = x.leaves;
-      next_keys = digest_of x.next_keys;
-      keys = digest_of x.keys;
-      signers = x.signers;
-    }
-
--- a call with it
-abbrev pub with_certificate : PlainCertificate → HomeCall
-with_certificate x = certificate (certificate_of x)
-
--- the committee of an opening from k and the bytes of its first keys' digest
-abbrev pub plain_committee_of : ℕ → PlainDigest → FarCommittee
-plain_committee_of half keys = With (first_committee half (digest_of keys.bytes))
-
--- the far committee of a state
-abbrev pub plain_committee : HomeCommittee → PlainCommittee
-plain_committee c = record { answer = plain_answer c.answer; half = c.half; last = c.last; keys = digest_bytes c.keys }
 
 -- the balance of an account
 abbrev pub plain_balance : Balance → PlainBalance

@@ -3,17 +3,16 @@
 // include/moatbetony.h declares all of it.
 ghost use Rattle.std.specs.Prelude.{◌+◌, ◌*◌, ◌≡◌, drop, length, take};
 ghost use Rattle.answers.specs.Answers.{answer, unless_refused};
-ghost use Rattle.home_calls.specs.HomeCalls.{committee_opening_refusal, home_call};
-ghost use Rattle.home_core.specs.Layout.{accepts_home, home_over_words, home_words_checker};
-ghost use Rattle.home_validator.specs.Figures.{home_figures_of, home_balance_of, home_committee_of, home_places_of};
-ghost use Rattle.home_validator.specs.State.{home_checker, home_opened_state, home_opened_with, home_over_state, home_zero_state};
+ghost use Rattle.home_core.specs.Layout.{accepts_home, home_words_checker};
+ghost use Rattle.home_validator.specs.Figures.{home_figures_of, home_balance_of, home_places_of};
+ghost use Rattle.home_validator.specs.State.{home_checker, home_opened_state, home_zero_state};
 ghost use Rattle.journal_blocks.specs.Checked.{block_refusal};
 ghost use Rattle.journal_reader.specs.Judged.{record_refusal, part_of, count_of, opening_of};
 ghost use Rattle.journal_writer.specs.Written.{write_refusal, written};
 ghost use Rattle.moatbetony.specs.Plain.{library_version, state_version, plain_answer, plain_pair_outcome, plain_pair_figures};
 ghost use Rattle.moatbetony.specs.Plain.{plain_home_outcome, plain_home_figures, plain_balance, plain_record, plain_encoded, plain_part};
 ghost use Rattle.moatbetony.specs.Plain.{plain_count, plain_balances, plain_pair_places, plain_home_places, plain_tariff};
-ghost use Rattle.moatbetony.specs.Plain.{certificate_of, plain_charge, plain_committee, plain_committee_of, with_certificate};
+ghost use Rattle.moatbetony.specs.Plain.{plain_charge};
 ghost use Rattle.tariffs.specs.Tariffs.{charge_told};
 ghost use Rattle.pair_core.specs.Layout.{accepts_pair, pair_words_checker};
 ghost use Rattle.pair_validator.specs.Figures.{pair_balance_of, pair_figures_of, pair_places_of};
@@ -27,7 +26,6 @@ ghost use Rattle.rules.specs.PairValidator.{pair_opening_refusal};
 ghost use Rattle.sha256.specs.Sha256.{sha256};
 
 use answers::Answer;
-use certificates::{Certificate, Digest};
 use home_validator::HomeValidator;
 use ledgers::Ledger;
 use pair_validator::PairValidator;
@@ -41,7 +39,7 @@ use tariffs::Tariff;
 pub extern "C" fn moatbetony_version() -> u32
     ensures { result ≡ library_version }
 {
-    700
+    601
 }
 
 // The version of the layout of both states. A stored state is taken up only under the version that it was stored with.
@@ -49,7 +47,7 @@ pub extern "C" fn moatbetony_version() -> u32
 pub extern "C" fn moatbetony_state_version() -> u32
     ensures { result ≡ state_version }
 {
-    4 // of the states
+    3 // of the states
 }
 
 // ## Answers
@@ -274,46 +272,6 @@ pub struct PlainHomePlaces {
     pub home: u64,
 }
 
-// A certificate of the far committee: its number, the root and the number of leaves of the pending sendings, the digest of the next keys, the
-// digest of the keys that it was checked under, and the members whose signature was found good, member 0 the lowest bit.
-#[repr(C)]
-#[derive(Drop)]
-pub struct PlainCertificate {
-    pub number: u64,
-    pub root: [u8; 32],
-    pub leaves: u64,
-    pub next_keys: [u8; 32],
-    pub keys: [u8; 32],
-    pub signers: u64,
-}
-
-// An answer, and the far committee: k, the number of its last passed certificate, and the digest of the keys in force.
-#[repr(C)]
-#[derive(Drop)]
-pub struct PlainCommittee {
-    pub answer: PlainAnswer,
-    pub half: u64,
-    pub last: u64,
-    pub keys: [u8; 32],
-}
-
-// A certificate as the home validator takes it.
-fn certificate_of(x: PlainCertificate) -> Certificate
-    ensures { result ≡ certificate_of x }
-{
-    let root = x.root;
-    let next = x.next_keys;
-    let under = x.keys;
-    Certificate {
-        number: x.number,
-        root: Digest::of(root),
-        leaves: x.leaves,
-        next_keys: Digest::of(next),
-        keys: Digest::of(under),
-        signers: x.signers,
-    }
-}
-
 // An opening, with the rate and the account of the charge on home's sendings.
 #[unsafe(no_mangle)]
 pub extern "C" fn moatbetony_home_open(
@@ -333,45 +291,6 @@ pub extern "C" fn moatbetony_home_open(
         account: charge_account,
     };
     let o = HomeValidator::open(home_balances, far_accounts, far_total, tariff);
-    let a = o.answer;
-    let state = o.state;
-    PlainHomeOutcome {
-        answer: plain(a),
-        state,
-    }
-}
-
-// An opening with a far committee of 2k members and the digest of its first keys.
-#[unsafe(no_mangle)]
-pub extern "C" fn moatbetony_home_open_committee(
-    home_balances: &[u64],
-    far_accounts: usize,
-    far_total: u64,
-    rate: u64,
-    charge_account: u64,
-    half: u64,
-    keys: PlainDigest,
-) -> PlainHomeOutcome
-    ensures { result ≡ plain_home_outcome (answer (committee_opening_refusal (plain_committee_of half keys) (plain_tariff rate charge_account)
-        home_balances.now far_accounts far_total) 0)
-        (unless_refused (committee_opening_refusal (plain_committee_of half keys) (plain_tariff rate charge_account)
-        home_balances.now far_accounts far_total)
-        (home_opened_with (plain_committee_of half keys) (plain_tariff rate charge_account) home_balances.now far_accounts
-        far_total) home_zero_state) }
-{
-    let tariff = Tariff {
-        rate,
-        account: charge_account,
-    };
-    let first = keys.bytes;
-    let o = HomeValidator::open_committee(
-        home_balances,
-        far_accounts,
-        far_total,
-        tariff,
-        half,
-        Digest::of(first),
-    );
     let a = o.answer;
     let state = o.state;
     PlainHomeOutcome {
@@ -434,52 +353,6 @@ pub extern "C" fn moatbetony_home_take_list(
     ensures leaves { state.new ≡ (call home_words_checker state.old (list bytes.now)).state }
 {
     plain(home_core::take_list(state, bytes))
-}
-
-// A call with a certificate.
-#[unsafe(no_mangle)]
-pub extern "C" fn moatbetony_home_check_certificate(
-    mut state: HomeValidator,
-    certificate: PlainCertificate,
-) -> PlainHomeOutcome
-    ensures { result ≡ plain_home_outcome (home_call home_over_state state (with_certificate certificate)).answer
-        (home_call home_over_state state (with_certificate certificate)).state }
-{
-    let x = certificate_of(certificate);
-    let answer = home_core::take_certificate(&mut state.words, x);
-    PlainHomeOutcome {
-        answer: plain(answer),
-        state, // after the certificate
-    }
-}
-
-// A call with a certificate, on a state lent. A refusal leaves every word as it was.
-#[unsafe(no_mangle)]
-pub extern "C" fn moatbetony_home_take_certificate(
-    state: &mut [u64; home_core::WORDS],
-    certificate: PlainCertificate,
-) -> PlainAnswer
-    ensures answers { result ≡ plain_answer (home_call home_over_words state.old (with_certificate certificate)).answer }
-    ensures leaves { state.new ≡ (home_call home_over_words state.old (with_certificate certificate)).state }
-{
-    let x = certificate_of(certificate);
-    plain(home_core::take_certificate(state, x))
-}
-
-// The far committee of a state.
-#[unsafe(no_mangle)]
-pub extern "C" fn moatbetony_home_committee(state: HomeValidator) -> PlainCommittee
-    ensures { result ≡ plain_committee (home_committee_of (accepts_home state.words) state.words) }
-{
-    let c = home_validator::committee(state);
-    let a = c.answer;
-    let keys = c.keys;
-    PlainCommittee {
-        answer: plain(a),
-        half: c.half,
-        last: c.last,
-        keys: keys.bytes(),
-    }
 }
 
 // The figures of a state.

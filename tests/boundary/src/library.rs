@@ -2,7 +2,6 @@
 //! too, lies flush against a closed page, and an empty slice goes as a null pointer.
 
 use second_validator::answer::Answer;
-use second_validator::committee::{Certificate, Committee, Digest};
 use second_validator::journal::Stakes;
 use second_validator::record::{Held, RECORD};
 use second_validator::runner::calls::Part;
@@ -37,12 +36,6 @@ impl Library {
         self.state.take_back(&mut words);
         (answer(told), of_words(&words))
     }
-}
-
-/// A certificate as it crosses.
-fn certificate_in(x: &Certificate) -> ffi::PlainCertificate {
-    let Certificate { number, root, leaves, next_keys, keys, signers } = *x;
-    ffi::PlainCertificate { number, root, leaves, next_keys, keys, signers }
 }
 
 /// A state as it crosses: words of 64 bits and nothing else.
@@ -150,38 +143,6 @@ impl Part for Library {
     fn home_open(&mut self, home: &[u64], fars: usize, far_total: u64, rate: u64, charge_account: u64) -> (Answer, Box<HomeState>) {
         let homes = self.first.lend(home);
         home_out(unsafe { ffi::moatbetony_home_open(homes, home.len(), fars, far_total, rate, charge_account) })
-    }
-
-    fn home_open_committee(
-        &mut self,
-        home: &[u64],
-        fars: usize,
-        far_total: u64,
-        rate: u64,
-        charge_account: u64,
-        half: u64,
-        keys: &Digest,
-    ) -> (Answer, Box<HomeState>) {
-        let (homes, keys) = (self.first.lend(home), ffi::PlainDigest { bytes: *keys });
-        home_out(unsafe { ffi::moatbetony_home_open_committee(homes, home.len(), fars, far_total, rate, charge_account, half, keys) })
-    }
-
-    fn home_check_certificate(&mut self, state: &HomeState, certificate: &Certificate) -> (Answer, Box<HomeState>) {
-        home_out(unsafe { ffi::moatbetony_home_check_certificate(home_in(state), certificate_in(certificate)) })
-    }
-
-    fn home_take_certificate(&mut self, state: &mut HomeState, certificate: &Certificate) -> Answer {
-        let mut words = words_of(&home_in(state)).to_vec();
-        let lent = self.state.lend(&words).cast::<HomeValidator>();
-        let told = unsafe { ffi::moatbetony_home_take_certificate(lent, certificate_in(certificate)) };
-        self.state.take_back(&mut words);
-        *state = home_back(&of_words(&words));
-        answer(told)
-    }
-
-    fn home_committee(&mut self, state: &HomeState) -> (Answer, Committee) {
-        let told = unsafe { ffi::moatbetony_home_committee(home_in(state)) };
-        (answer(told.answer), Committee { half: told.half, last: told.last, keys: told.keys })
     }
 
     fn home_take(&mut self, state: &mut HomeState, bytes: &[u8]) -> Answer {

@@ -5,7 +5,7 @@ use crate::{Function, Interface, Named, Read, Type};
 use std::collections::BTreeMap;
 
 // The structs' names here and in the Rattle sources.
-const STRUCTS: [(&str, &str); 20] = [
+const STRUCTS: [(&str, &str); 18] = [
     ("moatbetony_answer_t", "PlainAnswer"),
     ("moatbetony_held_t", "Held"),
     ("moatbetony_pair_t", "PairValidator"),
@@ -16,8 +16,6 @@ const STRUCTS: [(&str, &str); 20] = [
     ("moatbetony_home_outcome_t", "PlainHomeOutcome"),
     ("moatbetony_home_figures_t", "PlainHomeFigures"),
     ("moatbetony_home_places_t", "PlainHomePlaces"),
-    ("moatbetony_certificate_t", "PlainCertificate"),
-    ("moatbetony_committee_t", "PlainCommittee"),
     ("moatbetony_balance_t", "PlainBalance"),
     ("moatbetony_record_t", "PlainRecord"),
     ("moatbetony_encoded_t", "PlainEncoded"),

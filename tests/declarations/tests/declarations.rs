@@ -22,7 +22,6 @@ const LEDGERS: &str = "crates/ledgers/src/lib.rt";
 const NUMBER_INDEX: &str = "crates/places/src/number_index.rt";
 const TABLE: &str = "crates/table/src/lib.rt";
 const TARIFFS: &str = "crates/tariffs/src/lib.rt";
-const CERTIFICATES: &str = "crates/certificates/src/lib.rt";
 
 // A validator: its name here; the source that has its state's struct, and the one that has the words of its fields, with that crate's name;
 // the fields after the records with the constants for the words at which they start, in order, and under no name that for all words.
@@ -64,10 +63,6 @@ const HOME: Validator = Validator {
         ("count", "COUNT_WORD"),
         ("rate", "RATE_WORD"),
         ("charge_account", "CHARGE_ACCOUNT_WORD"),
-        ("committee", "COMMITTEE_WORD"),
-        ("half", "HALF_WORD"),
-        ("last", "LAST_WORD"),
-        ("keys", "KEYS_WORD"),
         ("", "WORDS"),
     ],
 };
@@ -161,8 +156,8 @@ fn header_binding_and_exports_agree() {
     let complaints = Sources::as_they_are().complaints();
     assert!(complaints.is_empty(), "\n{}", complaints.join("\n"));
     let exports = Sources::as_they_are().exports().expect("the exports");
-    assert_eq!(exports.functions.len(), 32);
-    assert_eq!(exports.in_words().expect("states of words").structs.len(), 17);
+    assert_eq!(exports.functions.len(), 28);
+    assert_eq!(exports.in_words().expect("states of words").structs.len(), 15);
 }
 
 #[test]
@@ -173,9 +168,6 @@ fn constants_agree() {
     assert_eq!(header.get("MOATBETONY_CAPACITY").copied(), rattle.get("Ledger::CAPACITY"));
     let rate = header.get("MOATBETONY_MAX_RATE").expect("the greatest rate");
     assert!(source(TARIFFS).contains(&format!("pub const PARTS: u64 = {rate};")));
-    for (name, here) in [("MOST_HALF", "MOATBETONY_MAX_COMMITTEE_HALF"), ("MOST_LEAVES", "MOATBETONY_MAX_LEAVES")] {
-        assert!(source(CERTIFICATES).contains(&format!("pub const {name}: u64 = {};", header[here])), "{name}");
-    }
     let lib = source("bindings/rust/src/lib.rs");
     let journal = source("bindings/rust/src/journal.rs");
     let number = |text: &str, name: &str| -> Option<u64> {
@@ -188,8 +180,6 @@ fn constants_agree() {
         (&lib, "MAX_ACCOUNTS"),
         (&lib, "CAPACITY"),
         (&lib, "MAX_RATE"),
-        (&lib, "MAX_COMMITTEE_HALF"),
-        (&lib, "MAX_LEAVES"),
         (&journal, "BLOCK_SIZE"),
         (&journal, "HEADER_SIZE"),
         (&journal, "BALANCE_SIZE"),
@@ -260,7 +250,7 @@ fn binding_asks_before_it_calls() {
     let bodies: Vec<&str> = calls.split("\npub(crate) fn ").filter(|body| body.contains("ffi::moatbetony_")).collect();
     assert_eq!(bodies.len(), calls.matches("ffi::moatbetony_").count(), "a function has one call");
     let unasked: Vec<&str> = bodies.iter().filter(|body| !body.contains(" {\n    belongs();\n")).copied().collect();
-    assert_eq!(bodies.len(), 32);
+    assert_eq!(bodies.len(), 28);
     assert!(unasked.len() == 2 && unasked.iter().all(|body| body.starts_with("version()") || body.starts_with("state_version()")));
 }
 
@@ -270,23 +260,16 @@ fn is_found(path: &'static str, from: &str, to: &str, item: &str) {
     assert!(complaints.iter().any(|line| line.contains(item)), "{path}: `{to}` is not found: {complaints:?}");
 }
 
-// Where moatbetony_home_open ends and the opening with a committee goes on: each replacement there is in the one alone.
-const HOME_OPEN_ENDS: &str = "far_accounts, uint64_t far_total, uint64_t rate,\n    uint64_t charge_account);";
-
 #[test]
 fn differences_in_the_header_are_found() {
     let found = |from: &str, to: &str, item: &str| is_found(HEADER, from, to, item);
     // widths
     found("uint8_t ledger, uint16_t account", "uint8_t ledger, uint32_t account", "moatbetony_pair_balance: parameter 3");
-    found(&format!("size_t {HOME_OPEN_ENDS}"), &format!("uint32_t {HOME_OPEN_ENDS}"), "moatbetony_home_open: parameter 3");
     found(
-        "uint64_t charge_account, uint64_t half,",
-        "uint64_t charge_account, uint32_t half,",
-        "moatbetony_home_open_committee: parameter 7",
+        "size_t far_accounts, uint64_t far_total",
+        "uint32_t far_accounts, uint64_t far_total",
+        "moatbetony_home_open: parameter 3",
     );
-    found("uint64_t keys[4]", "uint64_t keys[5]", "moatbetony_home_take: parameter 1");
-    found("    uint64_t leaves;", "    uint32_t leaves;", "PlainCertificate: field 3");
-    found("    uint8_t next_keys[32];", "    uint8_t next_keys[31];", "PlainCertificate: field 4");
     found("    uint32_t number; /*", "    uint64_t number; /*", "PlainAnswer: field 1");
     found("uint64_t balances[2][56]", "uint64_t balances[56][2]", "PairValidator: field 2");
     found("uint64_t balances[2][56]", "uint64_t balances[2][57]", "PairValidator: field 3");
@@ -298,7 +281,7 @@ fn differences_in_the_header_are_found() {
         "u32 where a word of 64 bits is wanted",
     );
     found("uint32_t moatbetony_version(void)", "uint64_t moatbetony_version(void)", "moatbetony_version: its result");
-    found(HOME_OPEN_ENDS, &HOME_OPEN_ENDS.replace("uint64_t rate", "uint16_t rate"), "moatbetony_home_open: parameter 5");
+    found("uint64_t far_total, uint64_t rate,", "uint64_t far_total, uint16_t rate,", "moatbetony_home_open: parameter 5");
     found(
         "uint64_t rate, uint64_t charge_account, const",
         "uint64_t rate, uint16_t charge_account, const",
@@ -340,29 +323,7 @@ fn differences_in_the_header_are_found() {
     );
     found("uint64_t rate, uint64_t amount)", "uint64_t amount, uint64_t rate)", "moatbetony_charge: parameter 1");
     found("    uint64_t charge;\n", "    uint64_t cost;\n", "PlainCharge: field 2");
-    found("uint8_t next_keys[32];", "uint8_t after_keys[32];", "PlainCertificate: field 4");
-    found(
-        "uint64_t half, moatbetony_digest_t keys",
-        "moatbetony_digest_t keys, uint64_t half",
-        "moatbetony_home_open_committee: parameter 7",
-    );
-    found("    uint64_t half;    /* k", "    uint64_t members; /* k", "PlainCommittee: field 2");
     // pointers
-    found(
-        "moatbetony_home_t *state, moatbetony_certificate_t certificate",
-        "moatbetony_home_t state, moatbetony_certificate_t certificate",
-        "moatbetony_home_take_certificate: parameter 1",
-    );
-    found(
-        "    moatbetony_home_t state, moatbetony_certificate_t certificate",
-        "    moatbetony_home_t state, const moatbetony_certificate_t *certificate",
-        "moatbetony_home_check_certificate: parameter 2",
-    );
-    found(
-        "uint64_t half, moatbetony_digest_t keys",
-        "uint64_t half, const uint8_t *keys",
-        "moatbetony_home_open_committee: parameter 8",
-    );
     found("    uint8_t *out,", "    const uint8_t *out,", "moatbetony_block_write: parameter 1");
     found("charge_account, const uint8_t *items", "charge_account, uint8_t *items", "moatbetony_block_write: parameter 7");
     found(
@@ -387,12 +348,7 @@ fn differences_in_the_header_are_found() {
         "uint32_t moatbetony_version(void);\nuint32_t moatbetony_more(void);",
         "moatbetony_more: in the header, and missing in the exports",
     );
-    found(HOME_OPEN_ENDS, &HOME_OPEN_ENDS.replace(", uint64_t far_total", ""), "moatbetony_home_open: parameter 4");
-    found(
-        "    uint64_t last;    /* the number of the last passed certificate, 0 before the first */\n",
-        "",
-        "PlainCommittee: field 3",
-    );
+    found("size_t far_accounts, uint64_t far_total", "size_t far_accounts", "moatbetony_home_open: parameter 4");
     found("    uint64_t far;\n    uint64_t flight;\n", "    uint64_t flight;\n", "PlainPairFigures: field 3");
     found("    uint32_t passed; /* 1 if passed, else 0 */\n", "", "PlainAnswer: field 2");
     found(
@@ -407,26 +363,11 @@ fn differences_in_the_binding_are_found() {
     let found = |from: &str, to: &str, item: &str| is_found(FFI, from, to, item);
     found("ledger: u8, account: u16", "ledger: u8, account: u8", "moatbetony_pair_balance: parameter 3");
     found("ledger: u8, account: u16", "account: u16, ledger: u8", "moatbetony_pair_balance: parameter 2");
-    let home_open_ends = "far_total: u64,\n        rate: u64,\n        charge_account: u64,\n    ) -> PlainHomeOutcome;";
-    found(
-        &format!("        far_accounts: usize,\n        {home_open_ends}"),
-        &format!("        far_accounts: u32,\n        {home_open_ends}"),
-        "moatbetony_home_open: parameter 3",
-    );
-    found("        half: u64,\n        keys: PlainDigest,", "        half: u64,", "moatbetony_home_open_committee: parameter 8");
-    found("        half: u64,\n", "        half: u8,\n", "moatbetony_home_open_committee: parameter 7");
-    found("    pub(crate) leaves: u64,", "    pub(crate) leaves: u16,", "PlainCertificate: field 3");
-    found("pub(crate) next_keys: [u8; 32],", "pub(crate) next_keys: [u64; 4],", "PlainCertificate: field 4");
-    found("    pub(crate) keys: [u64; 4],", "    pub(crate) keys: [u8; 32],", "HomeValidator: field 13");
-    found(
-        "moatbetony_home_take_certificate(state: *mut HomeValidator",
-        "moatbetony_home_take_certificate(state: HomeValidator",
-        "moatbetony_home_take_certificate: parameter 1",
-    );
+    found("        far_accounts: usize,", "        far_accounts: u32,", "moatbetony_home_open: parameter 3");
     found("out: *mut u8", "out: *const u8", "moatbetony_block_write: parameter 1");
     found(
-        home_open_ends,
-        "far_total: u64,\n        charge_account: u64,\n        rate: u64,\n    ) -> PlainHomeOutcome;",
+        "        far_total: u64,\n        rate: u64,\n        charge_account: u64,",
+        "        far_total: u64,\n        charge_account: u64,\n        rate: u64,",
         "moatbetony_home_open: parameter 5",
     );
     found("rate: u64, amount: u64)", "amount: u64, rate: u64)", "moatbetony_charge: parameter 1");
@@ -466,35 +407,13 @@ fn differences_in_the_binding_are_found() {
 #[test]
 fn differences_in_the_exports_are_found() {
     let found = |path: &'static str, from: &str, to: &str, item: &str| is_found(path, from, to, item);
-    let home_open =
-        "    far_accounts: usize,\n    far_total: u64,\n    rate: u64,\n    charge_account: u64,\n) -> PlainHomeOutcome";
     found(
         EXPORTS,
-        home_open,
-        &home_open.replace("far_accounts: usize,\n    far_total: u64,", "far_total: u64,\n    far_accounts: usize,"),
+        "    far_accounts: usize,\n    far_total: u64,",
+        "    far_total: u64,\n    far_accounts: usize,",
         "moatbetony_home_open: parameter 3",
     );
-    found(EXPORTS, home_open, &home_open.replace("usize", "u64"), "moatbetony_home_open: parameter 3");
-    found(
-        EXPORTS,
-        "    half: u64,\n    keys: PlainDigest,",
-        "    keys: PlainDigest,\n    half: u64,",
-        "open_committee: parameter 7",
-    );
-    found(EXPORTS, "    pub leaves: u64,", "    pub leaves: u32,", "PlainCertificate: field 3");
-    found(
-        EXPORTS,
-        "    pub next_keys: [u8; 32],\n    pub keys: [u8; 32],",
-        "    pub keys: [u8; 32],\n    pub next_keys: [u8; 32],",
-        "PlainCertificate: field 4",
-    );
-    found(
-        EXPORTS,
-        "    mut state: HomeValidator,\n    certificate: PlainCertificate,",
-        "    state: &mut [u64; home_core::WORDS],\n    certificate: PlainCertificate,",
-        "moatbetony_home_check_certificate: parameter 1",
-    );
-    found(EXPORTS, "    pub half: u64,\n    pub last: u64,", "    pub last: u64,\n    pub half: u64,", "PlainCommittee: field 2");
+    found(EXPORTS, "    far_accounts: usize,", "    far_accounts: u64,", "moatbetony_home_open: parameter 3");
     found(
         EXPORTS,
         "    pub start: usize,\n    pub length: usize,",
@@ -520,10 +439,8 @@ fn differences_in_the_exports_are_found() {
     found(HOME.core, "POOL_WORD: usize = SUPPLY_WORD + 1", "POOL_WORD: usize = SUPPLY_WORD + 2", "HomeValidator: field 4");
     found(HOME.core, "BALANCES_WORD: usize = 4 * ", "BALANCES_WORD: usize = 3 * ", "HomeValidator: field 2");
     found(HOME.core, "RATE_WORD: usize = SUPPLY_WORD + 5", "RATE_WORD: usize = SUPPLY_WORD + 6", "HomeValidator: field 8");
-    found(HOME.core, "HALF_WORD: usize = SUPPLY_WORD + 8", "HALF_WORD: usize = SUPPLY_WORD + 9", "HomeValidator: field 11");
-    found(HOME.core, "KEYS_WORD: usize = SUPPLY_WORD + 10", "KEYS_WORD: usize = SUPPLY_WORD + 9", "HomeValidator: field 13");
     found(PAIR.core, "ACCOUNT_WORD: usize = SUPPLY_WORD + 6", "ACCOUNT_WORD: usize = SUPPLY_WORD + 5", "PairValidator: field 7");
-    found(HOME.core, " WORDS: usize = SUPPLY_WORD + 14", " WORDS: usize = SUPPLY_WORD + 15", "moatbetony_home_take: parameter 1");
+    found(HOME.core, " WORDS: usize = SUPPLY_WORD + 7", " WORDS: usize = SUPPLY_WORD + 8", "moatbetony_home_take: parameter 1");
     found(LEDGERS, "CAPACITY: usize = 512", "CAPACITY: usize = 1730", "PairValidator: field 2");
     found(LEDGERS, "ACCOUNTS: usize = 56", "ACCOUNTS: usize = 57", "PlainBalances: field 5");
 }

@@ -1,10 +1,10 @@
 -- `home_core::is_bounded` meets its contract. Assumes nothing.
-use Rattle.home_core.specs.Layout.{home_accounts_of, home_bounds, home_tariff_of}
+use Rattle.home_core.specs.Layout.{home_accounts_of, home_bounds}
 use Rattle.rules.specs.PairValidator.{supply_allowed}
 use Rattle.rules.specs.Rules.{Tariff}
 use Rattle.tariffs.specs.Tariffs.{tariff_allowed}
 use Rattle.wire.proofs.Lists.{every_not, every_one, every_skip}
-use Rattle.wire.proofs.Prelude.{◌∙◌, ◌≡◌, ap, le-leb, lt-leb, needs, not-false, not-true, sym}
+use Rattle.wire.proofs.Prelude.{◌∙◌, ap, le-leb, lt-leb, needs, not-false, not-true, sym}
 use Rattle.home_core.proofs.is_bounded.Statement.{statement}
 use Rattle.home_core.proofs.is_bounded.Tie as tie
 
@@ -24,34 +24,24 @@ returns-4 : tie.Need-returns-4
 unfolding home_bounds supply_allowed
 returns-4 c = sym (every_not 3 _ (lt-leb _ _ c.if4.true))
 
--- what the test of the tariff says
-tariff-at : (c : tie.After-is-allowed) → c.is-allowed.result ≡ tariff_allowed (home_tariff_of c.before.before.before.before.before.before.before.before.before.before.before.before.before.before.args.s.now) (home_accounts_of c.before.before.before.before.before.before.before.before.before.before.before.before.before.before.args.s.now)
-tariff-at c =
-    let s = c.before.before.before.before.before.before.before.before.before.before.before.before.before.before.args.s.now in
-    c.is-allowed.ensures ∙ ap (λ (t : Tariff). tariff_allowed t (home_accounts_of s)) c.before.before.tariff-of.ensures
-
 returns-5 : tie.Need-returns-5
-unfolding home_bounds
-returns-5 c = sym (every_not 4 _ (sym (tariff-at c.before) ∙ not-true _ c.if5.true))
-
-returns-6 : tie.Need-returns-6
 unfolding home_bounds supply_allowed
-returns-6 c =
-    let c5 = c.before in
-    let c4 = c5.before.before.before.before in
+returns-5 c =
+    let c4 = c.before.before.before in
     let c3 = c4.before.before in
     let c2 = c3.before.before in
     let c1 = c2.before.before.before in
+    let a = c1.before.before.before.before.args in
     sym
     (every_skip _ _ (sym c1.before.is-count-allowed.ensures ∙ not-false _ c1.if1.false)
     ∙ every_skip _ _ (sym c2.before.is-count-allowed2.ensures ∙ not-false _ c2.if2.false)
     ∙ every_skip _ _ (le-leb _ _ c3.if3.false)
     ∙ every_skip _ _ (le-leb _ _ c4.if4.false)
-    ∙ every_skip _ _ (sym (tariff-at c5.before) ∙ not-false _ c5.if5.false)
     ∙ every_one _
-    ∙ sym c.is_held_lem.ensures)
+    ∙ sym
+    (c.is-allowed.ensures ∙ ap (λ (t : Tariff). tariff_allowed t (home_accounts_of a.s.now)) c.before.before.tariff-of.ensures))
 
 pub is-bounded-spec : {M : Type 1} → statement M
 is-bounded-spec = tie.close (tie.spec (λ c. search needs) (λ c κs. search needs) returns (λ c. search needs) (λ c κs. search needs)
     returns-2 (λ c. search needs) returns-3 (λ c. search needs) returns-4 (λ c κs. search needs) (λ c. search needs) (λ c κs. search needs)
-    returns-5 (λ c κs. search needs) returns-6)
+    returns-5)

@@ -8,7 +8,6 @@ use super::fields::{differing, runs, shown, Fields};
 use super::report::{Difference, Report, KEPT};
 use super::{Oracle, Part};
 use crate::answer::Answer;
-use crate::committee::{Certificate, Committee, Digest};
 use crate::journal::Stakes;
 use crate::record::{Held, RECORD};
 use crate::states::{HomeState, PairState, State};
@@ -117,20 +116,20 @@ impl<'a> Both<'a> {
 
     /// Makes a call on both that alters a state in place, and leaves in it what
     /// the library does.
-    fn take<const N: usize, J: Lent + ?Sized>(
+    fn take<const N: usize>(
         &mut self,
         name: &'static str,
         state: &mut State<N>,
-        handed: &J,
-        make: impl Fn(&mut dyn Part, &mut State<N>, &J) -> Answer,
+        bytes: &[u8],
+        make: impl Fn(&mut dyn Part, &mut State<N>, &[u8]) -> Answer,
     ) -> Answer
     where
         State<N>: Fields,
     {
-        let lent = (&*state, handed);
-        let (answer, taken) = self.call(name, lent, &[], |part, state, handed| {
+        let lent = (&*state, bytes);
+        let (answer, taken) = self.call(name, lent, &[], |part, state, bytes| {
             let mut taken = Box::new(Taken::of(state));
-            let answer = make(part, &mut taken.state, handed);
+            let answer = make(part, &mut taken.state, bytes);
             // The words around it are looked at anew too.
             (answer, black_box(taken))
         });
@@ -172,11 +171,6 @@ fn numbers_shown(numbers: &[u64]) -> String {
     format!("  numbers: {}\n", words.join(", "))
 }
 
-/// Bytes in hexadecimal.
-fn digits(bytes: &[u8]) -> String {
-    bytes.iter().map(|byte| format!("{byte:02x}")).collect()
-}
-
 impl Lent for () {
     fn copy(&self) -> Box<()> {
         Box::new(())
@@ -193,7 +187,8 @@ impl Lent for [u8] {
     }
 
     fn shown(&self) -> String {
-        format!("  {} bytes: {}\n", self.len(), digits(self))
+        let digits: String = self.iter().map(|byte| format!("{byte:02x}")).collect();
+        format!("  {} bytes: {digits}\n", self.len())
     }
 }
 
@@ -214,32 +209,6 @@ impl Lent for Held {
 
     fn shown(&self) -> String {
         format!("  fields: {self:?}\n")
-    }
-}
-
-impl Lent for Certificate {
-    fn copy(&self) -> Box<Certificate> {
-        Box::new(*self)
-    }
-
-    fn shown(&self) -> String {
-        let Certificate { number, leaves, .. } = self;
-        let [root, next, keys] = [self.root, self.next_keys, self.keys].map(|d| digits(&d));
-        let signers = self.signers;
-        format!(
-            "  certificate {number}: {leaves} leaves, signers {signers:064b}\n    \
-             root {root}\n    next keys {next}\n    keys {keys}\n"
-        )
-    }
-}
-
-impl Lent for Digest {
-    fn copy(&self) -> Box<Digest> {
-        Box::new(*self)
-    }
-
-    fn shown(&self) -> String {
-        self[..].shown()
     }
 }
 
@@ -282,7 +251,6 @@ handed_whole!(
     [u64; 3],
     [usize; 2],
     Stakes,
-    Committee,
     Held,
     [u8; RECORD]
 );
@@ -428,23 +396,6 @@ impl Part for Both<'_> {
         })
     }
 
-    fn home_open_committee(
-        &mut self,
-        home: &[u64],
-        fars: usize,
-        far_total: u64,
-        rate: u64,
-        charge_account: u64,
-        half: u64,
-        keys: &Digest,
-    ) -> (Answer, Box<HomeState>) {
-        let numbers = [fars as u64, far_total, rate, charge_account, half];
-        let make = |part: &mut dyn Part, home: &[u64], keys: &Digest| {
-            part.home_open_committee(home, fars, far_total, rate, charge_account, half, keys)
-        };
-        self.call("home_open_committee", (home, keys), &numbers, make)
-    }
-
     fn home_check_record(&mut self, state: &HomeState, bytes: &[u8]) -> (Answer, Box<HomeState>) {
         let lent = (state, bytes);
         self.call("home_check_record", lent, &[], |part, state, bytes| {
@@ -468,37 +419,6 @@ impl Part for Both<'_> {
     fn home_take_list(&mut self, state: &mut HomeState, bytes: &[u8]) -> Answer {
         self.take("home_take_list", state, bytes, |part, state, bytes| {
             part.home_take_list(state, bytes)
-        })
-    }
-
-    fn home_check_certificate(
-        &mut self,
-        state: &HomeState,
-        certificate: &Certificate,
-    ) -> (Answer, Box<HomeState>) {
-        let lent = (state, certificate);
-        self.call(
-            "home_check_certificate",
-            lent,
-            &[],
-            |part, state, handed| part.home_check_certificate(state, handed),
-        )
-    }
-
-    fn home_take_certificate(
-        &mut self,
-        state: &mut HomeState,
-        certificate: &Certificate,
-    ) -> Answer {
-        let name = "home_take_certificate";
-        self.take(name, state, certificate, |part, state, handed| {
-            part.home_take_certificate(state, handed)
-        })
-    }
-
-    fn home_committee(&mut self, state: &HomeState) -> (Answer, Committee) {
-        self.call("home_committee", (state, &()), &[], |part, state, _| {
-            part.home_committee(state)
         })
     }
 

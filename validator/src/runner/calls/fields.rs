@@ -8,14 +8,6 @@ use crate::states::{Layout, State, HELD};
 pub enum Field {
     Supply,
     Pool,
-    /// Whether there is a committee.
-    Committee,
-    /// Half the members of the committee.
-    Half,
-    /// The number of the last passed certificate.
-    Last,
-    /// The keys in force, by words.
-    Keys,
     Accounts,
     Counts,
     Balances,
@@ -35,13 +27,9 @@ pub enum Field {
     TailZeros,
 }
 
-/// All fields; the pair book does not have the first five.
-const FIELDS: [Field; 20] = [
+/// All fields; the pair book does not have the first one.
+const FIELDS: [Field; 16] = [
     Field::Pool,
-    Field::Committee,
-    Field::Half,
-    Field::Last,
-    Field::Keys,
     Field::Supply,
     Field::Accounts,
     Field::Counts,
@@ -58,9 +46,6 @@ const FIELDS: [Field; 20] = [
     Field::Verdicts,
     Field::TailZeros,
 ];
-
-/// The words of the keys in force.
-pub const KEYS: usize = 4;
 
 impl Field {
     /// The fields of held records.
@@ -119,8 +104,6 @@ pub trait Fields: Layout {
         match field {
             Field::Supply | Field::Rate | Field::ChargeAccount => 1,
             Field::Pool => usize::from(Self::POOL.is_some()),
-            Field::Committee | Field::Half | Field::Last => usize::from(Self::COMMITTEE.is_some()),
-            Field::Keys => KEYS * usize::from(Self::COMMITTEE.is_some()),
             Field::Accounts => 2,
             Field::Counts => Self::LEDGERS,
             Field::Balances => Self::LEDGERS * MAX_ACCOUNTS,
@@ -147,10 +130,6 @@ fn spot<S: Fields + ?Sized>(field: Field, index: usize) -> Option<Spot> {
     let first = match field {
         Field::Supply => S::SUPPLY,
         Field::Pool => S::POOL?,
-        Field::Committee => S::COMMITTEE?,
-        Field::Half => S::COMMITTEE? + 1,
-        Field::Last => S::COMMITTEE? + 2,
-        Field::Keys => S::COMMITTEE? + 3,
         Field::Accounts => S::ACCOUNTS,
         Field::Counts => S::COUNTS,
         Field::Balances => S::BALANCES,
@@ -179,7 +158,7 @@ where
 {
     const FIELDS: &'static [Field] = match Self::POOL {
         Some(_) => &FIELDS,
-        None => FIELDS.split_at(5).1,
+        None => FIELDS.split_at(1).1,
     };
 
     fn words(&self) -> &[u64] {

@@ -2,7 +2,6 @@
 //! calls, made from a seed, and everything that they hand back must agree.
 
 pub mod both;
-pub mod committees;
 pub mod families;
 pub mod fields;
 pub mod makers;
@@ -15,11 +14,10 @@ pub use report::{Difference, Report};
 
 use super::rng::Rng;
 use crate::answer::Answer;
-use crate::committee::{Certificate, Committee, Digest};
 use crate::journal::Stakes;
 use crate::record::{Held, RECORD};
 use crate::states::{HomeState, PairState};
-use families::{FAMILIES, WHOLE};
+use families::FAMILIES;
 
 /// A part with all calls of the papers, on plain words and numbers, and with the
 /// places left, which they do not have. Lent things stay as they are; a
@@ -58,8 +56,7 @@ pub trait Part {
     /// refusal.
     fn pair_places_left(&mut self, state: &PairState) -> (Answer, [u64; 2]);
 
-    /// Opens a guard without a committee: 1, 2, 52. The state of zeros beside a
-    /// refusal.
+    /// Opens a guard: 1, 2, 52. The state of zeros beside a refusal.
     fn home_open(
         &mut self,
         home: &[u64],
@@ -67,20 +64,6 @@ pub trait Part {
         far_total: u64,
         rate: u64,
         charge_account: u64,
-    ) -> (Answer, Box<HomeState>);
-
-    /// Opens a guard with a committee of twice `half` members and the digest of its
-    /// first keys: 1, 2, 52. The state of zeros beside a refusal.
-    #[allow(clippy::too_many_arguments)]
-    fn home_open_committee(
-        &mut self,
-        home: &[u64],
-        fars: usize,
-        far_total: u64,
-        rate: u64,
-        charge_account: u64,
-        half: u64,
-        keys: &Digest,
     ) -> (Answer, Box<HomeState>);
 
     /// One record: 3, 21, 33, 22, 51, 23 to 25, 32, 41.
@@ -94,21 +77,6 @@ pub trait Part {
 
     /// A list of records in place, with the answers of `home_check_list`.
     fn home_take_list(&mut self, state: &mut HomeState, bytes: &[u8]) -> Answer;
-
-    /// A certificate: 3, 21, 53, 54, 55.
-    fn home_check_certificate(
-        &mut self,
-        state: &HomeState,
-        certificate: &Certificate,
-    ) -> (Answer, Box<HomeState>);
-
-    /// A certificate in place, with the answers of `home_check_certificate`.
-    fn home_take_certificate(&mut self, state: &mut HomeState, certificate: &Certificate)
-        -> Answer;
-
-    /// Half, last and keys of the committee: 3. Zeros beside a refusal, and where
-    /// there is no committee.
-    fn home_committee(&mut self, state: &HomeState) -> (Answer, Committee);
 
     /// Home total and far due: 3. Zeros beside a refusal.
     fn home_figures(&mut self, state: &HomeState) -> (Answer, [u64; 2]);
@@ -163,22 +131,16 @@ pub trait Part {
     fn sha256(&mut self, bytes: &[u8]) -> [u8; 32];
 }
 
-/// Makes at least so many calls from a seed on a part and on the library, from
-/// `WHOLE` on also the least of each family, and stops before that once `enough`
-/// differences are found. The same seed and number of calls make the same calls;
-/// what the part hands back has no influence on them.
+/// Makes at least so many calls from a seed on a part and on the library, and
+/// stops before that once `enough` differences are found. The same seed and
+/// number of calls make the same calls; what the part hands back has no
+/// influence on them.
 pub fn compare(part: &mut dyn Part, seed: u64, calls: u64, enough: u64) -> Report {
     let mut both = Both::new(part, seed);
     let mut made = [0; FAMILIES.len()];
     let mut scenarios = [0; FAMILIES.len()];
-    while both.differences() < enough {
-        let next = if both.calls() < calls {
-            furthest_behind(&made)
-        } else if let (true, Some(next)) = (calls >= WHOLE, unfinished(&scenarios)) {
-            next
-        } else {
-            break;
-        };
+    while both.calls() < calls && both.differences() < enough {
+        let next = furthest_behind(&made);
         let family = &FAMILIES[next];
         let mut rng = Rng::for_journal(seed, family.name, scenarios[next]);
         both.begin(family.name, scenarios[next]);
@@ -188,11 +150,6 @@ pub fn compare(part: &mut dyn Part, seed: u64, calls: u64, enough: u64) -> Repor
         scenarios[next] += 1;
     }
     both.into_report()
-}
-
-/// A family that has not made its least.
-fn unfinished(scenarios: &[u64; FAMILIES.len()]) -> Option<usize> {
-    (0..FAMILIES.len()).find(|&at| scenarios[at] < FAMILIES[at].least)
 }
 
 /// The family with the fewest calls for its share.

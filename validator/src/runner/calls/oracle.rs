@@ -3,7 +3,6 @@
 use super::Part;
 use crate::answer::Answer;
 use crate::charge::Charge;
-use crate::committee::{Certificate, Committee, Digest};
 use crate::journal::{self, Stakes};
 use crate::record::{self, Held, RECORD};
 use crate::sha256;
@@ -65,20 +64,6 @@ impl Part for Oracle {
         HomeState::open(home, fars, far_total, Charge::new(rate, charge_account))
     }
 
-    fn home_open_committee(
-        &mut self,
-        home: &[u64],
-        fars: usize,
-        far_total: u64,
-        rate: u64,
-        charge_account: u64,
-        half: u64,
-        keys: &Digest,
-    ) -> (Answer, Box<HomeState>) {
-        let charge = Charge::new(rate, charge_account);
-        HomeState::open_committee(home, fars, far_total, charge, half, *keys)
-    }
-
     fn home_check_record(&mut self, state: &HomeState, bytes: &[u8]) -> (Answer, Box<HomeState>) {
         let mut state = Box::new(state.clone());
         (state.check_record(bytes), state)
@@ -95,27 +80,6 @@ impl Part for Oracle {
 
     fn home_take_list(&mut self, state: &mut HomeState, bytes: &[u8]) -> Answer {
         state.check_list(bytes)
-    }
-
-    fn home_check_certificate(
-        &mut self,
-        state: &HomeState,
-        certificate: &Certificate,
-    ) -> (Answer, Box<HomeState>) {
-        let mut state = Box::new(state.clone());
-        (state.check_certificate(certificate), state)
-    }
-
-    fn home_take_certificate(
-        &mut self,
-        state: &mut HomeState,
-        certificate: &Certificate,
-    ) -> Answer {
-        state.check_certificate(certificate)
-    }
-
-    fn home_committee(&mut self, state: &HomeState) -> (Answer, Committee) {
-        state.committee()
     }
 
     fn home_figures(&mut self, state: &HomeState) -> (Answer, [u64; 2]) {

@@ -1,7 +1,6 @@
 -- `home_validator::HomeValidator::open` meets its contract. Assumes nothing.
 use Rattle.wire.proofs.Prelude.{List, ◌∙◌, ap, needs, refl, ℕ}
 use Rattle.answers.specs.Answers.{answer}
-use Rattle.certificates.specs.declared.FarCommittee.TheVariants.{Without}
 use Rattle.home_core.specs.Layout.{home_opened_words, home_zero_words}
 use Rattle.home_validator.specs.declared.HomeValidator.{HomeValidator}
 use Rattle.places.proofs.Openings.{opening_in}
@@ -21,7 +20,7 @@ returns c =
       ap {B = HomeValidator} (λ (w : List ℕ). record { words = w }) e.1
           ∙ opening_in {B = HomeValidator} (λ (w : List ℕ). record { words = w })
           (home_opening_refusal a.tariff a.balances.now a.far-accounts a.far-total)
-          (home_opened_words a.tariff a.balances.now a.far-accounts a.far-total Without) home_zero_words,
+          (home_opened_words a.tariff a.balances.now a.far-accounts a.far-total) home_zero_words,
     )
 
 pub open_spec : {M : Type 1} → statement M

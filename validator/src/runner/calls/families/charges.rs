@@ -42,13 +42,13 @@ fn openings<C: Checker>(both: &mut Both, rng: &mut Rng) {
             charge,
             ..stakes.clone()
         };
-        C::open_any(both, rng, &opening);
+        C::open(both, &opening);
     }
     let charge = doubtful_charge(rng, 1);
     let above = Opening::new(&[MAX_AMOUNT], &[1]);
-    C::open_any(both, rng, &Opening { charge, ..above });
+    C::open(both, &Opening { charge, ..above });
     let none = Opening::new(&[], &[MAX_AMOUNT, 1]);
-    C::open_any(both, rng, &Opening { charge, ..none });
+    C::open(both, &Opening { charge, ..none });
 }
 
 /// An accepted opening with a charge; in every third scenario the stakes are near

@@ -1,14 +1,11 @@
 //! Pair book and guard seen alike, so that runs and forged states are made for
 //! both in the same way.
 
-use super::seats;
 use crate::answer::Answer;
 use crate::charge::Charge;
-use crate::committee::{Certificate, Digest};
 use crate::record::{Ledger, Record, RECORD};
 use crate::rules::{Book, CAPACITY};
 use crate::runner::build::{Bytes, Opening};
-use crate::runner::calls::committees::{digest, right, some_certificate, some_half};
 use crate::runner::calls::fields::Fields;
 use crate::runner::calls::makers::{self, due_list, home_record, lawful, pair_record, take_back};
 use crate::runner::calls::{Both, Part};
@@ -17,34 +14,10 @@ use crate::runner::trader::{maybe_charged, rich_opening, Trader};
 use crate::states::{HomeState, PairState};
 
 /// The calls of one of the two checkers.
-pub trait Checker: Sized {
+pub trait Checker {
     type State: Fields + Clone;
 
-    /// Whether the checker takes certificates.
-    const CERTIFIED: bool = false;
-
     fn open(both: &mut Both, opening: &Opening) -> (Answer, Box<Self::State>);
-
-    /// Opens, every third guard with a committee.
-    fn open_any(both: &mut Both, _: &mut Rng, opening: &Opening) -> (Answer, Box<Self::State>) {
-        Self::open(both, opening)
-    }
-
-    /// Where there is a committee, mostly lets some certificates pass.
-    fn let_pass(_: &mut Both, _: &mut Rng, _: &mut Self::State) {}
-
-    /// Some certificate, by value, and in place on a copy. The state goes on to what
-    /// comes back.
-    fn certify(_: &mut Both, _: &mut Rng, _: &mut Self::State) {}
-
-    /// What a state tells of its committee.
-    fn committee(_: &mut Both, _: &Self::State) {}
-
-    /// Forges the committee of a state in turn, and makes calls.
-    fn forge_committees(_: &mut Both, _: &mut Rng, _: &Reached<Self>) {}
-
-    /// Forges it somehow, and looks at it.
-    fn look_at_forged(_: &mut Both, _: &mut Rng, _: &Reached<Self>) {}
 
     /// One record, by value, and in place on a copy.
     fn check_record(
@@ -129,82 +102,13 @@ impl Checker for Pair {
 
 pub struct Home;
 
-impl Home {
-    /// Opens with a committee.
-    pub fn open_committee(
-        both: &mut Both,
-        opening: &Opening,
-        half: u64,
-        keys: &Digest,
-    ) -> (Answer, Box<HomeState>) {
-        let Opening { home, far, charge } = opening;
-        let Charge { rate, account } = *charge;
-        let total = far_total(far);
-        both.home_open_committee(home, far.len(), total, rate, account, half, keys)
-    }
-
-    /// A certificate, by value, and in place on a copy.
-    pub fn certificate(
-        both: &mut Both,
-        state: &HomeState,
-        certificate: &Certificate,
-    ) -> (Answer, Box<HomeState>) {
-        let handed = both.home_check_certificate(state, certificate);
-        both.home_take_certificate(&mut state.clone(), certificate);
-        handed
-    }
-}
-
-/// The far stakes together, as far as 64 bits go.
-fn far_total(far: &[u64]) -> u64 {
-    far.iter().fold(0, |a: u64, &b| a.saturating_add(b))
-}
-
 impl Checker for Home {
     type State = HomeState;
 
-    const CERTIFIED: bool = true;
-
     fn open(both: &mut Both, opening: &Opening) -> (Answer, Box<HomeState>) {
-        let total = far_total(&opening.far);
+        let total = opening.far.iter().fold(0, |a: u64, &b| a.saturating_add(b));
         let Charge { rate, account } = opening.charge;
         both.home_open(&opening.home, opening.far.len(), total, rate, account)
-    }
-
-    fn open_any(both: &mut Both, rng: &mut Rng, opening: &Opening) -> (Answer, Box<HomeState>) {
-        if rng.chance(2, 3) {
-            return Home::open(both, opening);
-        }
-        let half = some_half(rng);
-        Home::open_committee(both, opening, half, &digest(rng))
-    }
-
-    fn let_pass(both: &mut Both, rng: &mut Rng, state: &mut HomeState) {
-        let certificates = match state.seats().half {
-            0 => 0,
-            _ => rng.pick(&[0, 1, 2, 3]),
-        };
-        for _ in 0..certificates {
-            let certificate = right(rng, &state.seats());
-            *state = *Home::certificate(both, state, &certificate).1;
-        }
-    }
-
-    fn certify(both: &mut Both, rng: &mut Rng, state: &mut HomeState) {
-        let certificate = some_certificate(rng, state);
-        *state = *Home::certificate(both, state, &certificate).1;
-    }
-
-    fn committee(both: &mut Both, state: &HomeState) {
-        both.home_committee(state);
-    }
-
-    fn forge_committees(both: &mut Both, rng: &mut Rng, base: &Reached<Home>) {
-        seats::sweep(both, rng, base);
-    }
-
-    fn look_at_forged(both: &mut Both, rng: &mut Rng, base: &Reached<Home>) {
-        seats::look(both, rng, base);
     }
 
     fn check_record(both: &mut Both, state: &HomeState, bytes: &[u8]) -> (Answer, Box<HomeState>) {
@@ -259,17 +163,13 @@ pub struct Reached<C: Checker> {
 }
 
 impl<C: Checker> Reached<C> {
-    /// Opens with accepted stakes, a guard with a committee or without one.
+    /// Opens with accepted stakes.
     pub fn open(both: &mut Both, rng: &mut Rng, opening: Opening) -> Reached<C> {
-        let (_, mut state) = C::open_any(both, rng, &opening);
-        C::let_pass(both, rng, &mut state);
-        Reached::of(rng, opening, state)
-    }
-
-    /// The state of an accepted opening, with a trader for it.
-    pub fn of(rng: &mut Rng, opening: Opening, state: Box<C::State>) -> Reached<C> {
-        let trader = makers::trader(rng, opening);
-        Reached { trader, state }
+        let (_, state) = C::open(both, &opening);
+        Reached {
+            trader: makers::trader(rng, opening),
+            state,
+        }
     }
 
     /// The same once more, with luck of its own.
@@ -320,18 +220,11 @@ impl<C: Checker> Reached<C> {
         }
     }
 
-    /// Some certificate, if the checker takes any.
-    pub fn any_certificate(&mut self, both: &mut Both) {
-        C::certify(both, &mut self.trader.rng, &mut self.state);
-    }
-
-    /// Figures, the places left, a balance or the committee.
+    /// Figures, the places left or a balance.
     pub fn look(&mut self, both: &mut Both) {
-        let sorts = if C::CERTIFIED { 7 } else { 6 };
-        match self.trader.rng.below(sorts) {
+        match self.trader.rng.below(6) {
             0 | 1 => C::figures(both, &self.state),
             2 => C::places_left(both, &self.state),
-            6 => C::committee(both, &self.state),
             _ => self.look_at_balance(both),
         }
     }
@@ -375,13 +268,11 @@ impl<C: Checker> Reached<C> {
 
     /// Some calls of a run.
     pub fn go_on(&mut self, both: &mut Both, calls: u64) {
-        let sorts = if C::CERTIFIED { 14 } else { 12 };
         for _ in 0..calls {
-            match self.trader.rng.below(sorts) {
+            match self.trader.rng.below(12) {
                 0..=7 => self.any_record(both),
                 8..=10 => self.any_list(both),
-                11 => self.look(both),
-                _ => self.any_certificate(both),
+                _ => self.look(both),
             }
         }
     }
@@ -396,11 +287,11 @@ pub fn reached<C: Checker>(both: &mut Both, rng: &mut Rng) -> Reached<C> {
         }
         1..=3 => {
             let few = [rng.index(12), rng.index(12)];
-            rich(both, rng, few)
+            filled(both, rng, few)
         }
         4 | 5 => {
             let some = [rng.index(300), rng.index(300)];
-            rich(both, rng, some)
+            filled(both, rng, some)
         }
         _ => full(both, rng),
     }
@@ -419,33 +310,23 @@ pub fn full<C: Checker>(both: &mut Both, rng: &mut Rng) -> Reached<C> {
         [507, 490],
     ];
     let targets = rng.pick(&targets);
-    rich(both, rng, targets)
+    filled(both, rng, targets)
 }
 
 /// Fills the tables of a rich opening so far by few list calls.
-fn rich<C: Checker>(both: &mut Both, rng: &mut Rng, targets: [usize; 2]) -> Reached<C> {
+fn filled<C: Checker>(both: &mut Both, rng: &mut Rng, targets: [usize; 2]) -> Reached<C> {
     let opening = maybe_charged(rng, rich_opening);
     filled_from(both, rng, opening, targets)
 }
 
-/// Opens and fills the tables so far by few list calls.
+/// Fills the tables so far by few list calls.
 pub fn filled_from<C: Checker>(
     both: &mut Both,
     rng: &mut Rng,
     opening: Opening,
     targets: [usize; 2],
 ) -> Reached<C> {
-    let opened = Reached::<C>::open(both, rng, opening);
-    filled(both, rng, opened, targets)
-}
-
-/// Fills the tables of what was opened so far by few list calls.
-pub fn filled<C: Checker>(
-    both: &mut Both,
-    rng: &mut Rng,
-    mut reached: Reached<C>,
-    targets: [usize; 2],
-) -> Reached<C> {
+    let mut reached = Reached::<C>::open(both, rng, opening);
     reached.trader.thrifty = true;
     let records = fill(&mut reached.trader, targets);
     let seen: Vec<u8> = records

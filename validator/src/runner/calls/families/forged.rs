@@ -54,7 +54,6 @@ pub fn scenario<C: Checker>(both: &mut Both, rng: &mut Rng) {
         let mut branch = base.branch(rng);
         tempted(both, rng, &mut branch);
     }
-    C::forge_committees(both, rng, &base);
 }
 
 /// The steps of a scenario, which begin where those of the one before end.
@@ -62,15 +61,8 @@ pub(super) fn steps(scenario: u64, length: u64) -> Range<u64> {
     scenario * length..(scenario + 1) * length
 }
 
-/// A call on a forged state, and another where it goes on. For a guard one of four
-/// is with a certificate or about the committee.
+/// A call on a forged state, and another where it goes on.
 pub(super) fn call<C: Checker>(both: &mut Both, rng: &mut Rng, forged: &mut Reached<C>) {
-    if C::CERTIFIED && rng.chance(1, 4) {
-        return match rng.below(3) {
-            0 => C::committee(both, &forged.state),
-            _ => forged.any_certificate(both),
-        };
-    }
     match rng.below(12) {
         0..=4 => {
             let bytes = C::lawful(&mut forged.trader);

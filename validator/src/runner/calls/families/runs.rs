@@ -6,7 +6,6 @@ use super::checker::{full, Checker, Reached};
 use crate::charge::Charge;
 use crate::record::{Ledger, Record};
 use crate::runner::build::{local, sending, Opening};
-use crate::runner::calls::committees::digest;
 use crate::runner::calls::makers::{doubtful_opening, lawful_opening};
 use crate::runner::calls::{Both, Part};
 use crate::runner::rng::Rng;
@@ -14,7 +13,7 @@ use crate::runner::rng::Rng;
 pub fn scenario<C: Checker>(both: &mut Both, rng: &mut Rng) {
     match rng.below(8) {
         0 => refused_openings::<C>(both, rng),
-        1 if rng.chance(1, 2) => cases::<C>(both, rng),
+        1 if rng.chance(1, 2) => cases::<C>(both),
         2 => {
             let base = full::<C>(both, rng);
             base.branch(rng).count_down(both, 8);
@@ -34,7 +33,7 @@ pub fn scenario<C: Checker>(both: &mut Both, rng: &mut Rng) {
 fn refused_openings<C: Checker>(both: &mut Both, rng: &mut Rng) {
     for _ in 0..10 {
         let opening = doubtful_opening(rng);
-        let (answer, state) = C::open_any(both, rng, &opening);
+        let (answer, state) = C::open(both, &opening);
         if !answer.passed() && rng.chance(1, 6) {
             C::check_record(both, &state, &local(Ledger::Home, 0, 0, 1, 1).bytes());
             C::check_list(both, &state, &[]);
@@ -45,18 +44,12 @@ fn refused_openings<C: Checker>(both: &mut Both, rng: &mut Rng) {
         let fars = rng.pick(&[1, 1, 56, 0, 57, usize::MAX]);
         let total = rng.pick(&[0, 1, (1 << 63) - 1, 1 << 63, u64::MAX]);
         let Charge { rate, account } = opening.charge;
-        if rng.chance(2, 3) {
-            both.home_open(&opening.home, fars, total, rate, account);
-        } else {
-            let half = rng.pick(&[0, 1, 32, 33, u64::MAX]);
-            let keys = digest(rng);
-            both.home_open_committee(&opening.home, fars, total, rate, account, half, &keys);
-        }
+        both.home_open(&opening.home, fars, total, rate, account);
     }
 }
 
 /// The cases of the paper, one after the other from its opening.
-fn cases<C: Checker>(both: &mut Both, rng: &mut Rng) {
+fn cases<C: Checker>(both: &mut Both) {
     let home = Ledger::Home;
     let over = sending(home, 0, 0, 7, 30);
     let unsigned = Record {
@@ -78,7 +71,7 @@ fn cases<C: Checker>(both: &mut Both, rng: &mut Rng) {
         local(home, 0, 0, 5, (1 << 63) - 1),
         local(home, 0, 0, 5, 1 << 63),
     ];
-    let (_, mut state) = C::open_any(both, rng, &Opening::of_cases());
+    let (_, mut state) = C::open(both, &Opening::of_cases());
     for record in records {
         state = C::check_record(both, &state, &record.bytes()).1;
         C::figures(both, &state);

@@ -3,10 +3,9 @@
 
 use super::forged::{accounts, count, some_place};
 use crate::charge::MAX_RATE;
-use crate::committee::MAX_HALF;
 use crate::record::MAX_AMOUNT;
 use crate::rules::{CAPACITY, MAX_ACCOUNTS};
-use crate::runner::calls::fields::{Field, Fields, KEYS};
+use crate::runner::calls::fields::{Field, Fields};
 use crate::runner::rng::Rng;
 
 /// The values that the sweeps give to an entry.
@@ -26,7 +25,6 @@ impl Stretch {
         for &field in S::FIELDS {
             let length = match field {
                 Field::Balances => MAX_ACCOUNTS,
-                Field::Keys => KEYS,
                 _ if field.is_column() => CAPACITY,
                 _ => 1,
             };
@@ -49,19 +47,18 @@ impl Stretch {
         match self.field {
             Field::Balances => accounts(state, self.ledger),
             field if field.is_column() => count(state, self.ledger),
-            _ => self.length,
+            _ => 1,
         }
     }
 }
 
-/// The entries that the sweep alters: all single ones, all words of keys, and of
-/// each ledger's part of an array the first, the last in use, the first beyond, the
-/// last.
+/// The entries that the sweep alters: all single ones, and of each ledger's
+/// part of an array the first, the last in use, the first beyond, the last.
 fn swept<S: Fields>(state: &S) -> Vec<(Stretch, usize)> {
     let mut entries = Vec::new();
     for stretch in Stretch::all::<S>() {
-        if stretch.length <= KEYS {
-            entries.extend((0..stretch.length).map(|place| (stretch, stretch.entry(place))));
+        if stretch.length == 1 {
+            entries.push((stretch, stretch.entry(0)));
             continue;
         }
         let used = stretch.used(state);
@@ -158,9 +155,7 @@ fn lawful<S: Fields>(rng: &mut Rng, state: &S, field: Field, ledger: usize) -> u
             let open = rng.index(accounts(state, ledger).max(1));
             state.get(Field::Balances, ledger * MAX_ACCOUNTS + open)
         }
-        Field::Committee => rng.below(2),
-        Field::Half => rng.within(1, MAX_HALF),
-        Field::Numbers | Field::Last | Field::Keys => rng.word(),
+        Field::Numbers => rng.word(),
         Field::Senders | Field::Receivers => {
             let ledger = rng.index(2);
             rng.below(state.get(Field::Accounts, ledger).max(1))
