@@ -5,7 +5,7 @@ ghost use Rattle.answers.specs.Balances.{balance_among, balance_refused};
 use super::Answer;
 
 // The balance of an account, beside the answer; 0 where it is refused.
-#[derive(Drop)]
+#[derive(Clone, Copy)]
 pub struct Balance {
     pub answer: Answer,
     pub balance: u64,

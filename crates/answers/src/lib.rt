@@ -1,5 +1,7 @@
 // The answer that every call of the journal and of the validators gives (document 01, "Refusals"), refusals in order, and the answer with
 // a balance.
+#![tactic(auto)]
+
 pub mod balance; // balance.rt: the balance of one account, beside the answer
 
 ghost use Rattle.std.specs.Prelude.{◌≡◌};
@@ -8,7 +10,7 @@ ghost use Rattle.answers.specs.Answers.{number_of, place_of, answer, refuse, or_
 pub use balance::{Balance, balance_among, balance_refused};
 
 // Passed, or one of the documents' refusals with its place.
-#[derive(Drop)]
+#[derive(Clone, Copy)]
 pub enum Answer {
     Passed,
     Refused { number: u32, place: u64 },

@@ -1,5 +1,7 @@
 // The echoes, which the speed measurements time beside the library's calls: each takes a state by value and hands it back beside an
 // answer, as the calls by value do, and does nothing else.
+#![tactic(auto)]
+
 ghost use Rattle.std.specs.Prelude.{◌≡◌};
 ghost use Rattle.answers.specs.declared.Answer.TheVariants.{Passed};
 ghost use Rattle.moatbetony.specs.Plain.{plain_pair_outcome, plain_home_outcome};

@@ -5,7 +5,7 @@ ghost use Rattle.certificates.specs.Digests.{digest_bytes, digest_of, same_diges
 use wire::{u64_at, u64_bytes};
 
 // The numbers of bytes 0-7, 8-15, 16-23 and 24-31.
-#[derive(Drop)]
+#[derive(Clone, Copy)]
 pub struct Digest {
     pub first: u64,
     pub second: u64,

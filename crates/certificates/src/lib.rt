@@ -1,5 +1,7 @@
 // The far committee and its certificates (document 02, U5): whether the mask of signers has enough bits, in which order a certificate is
 // refused, and the digests of keys. Signatures are the host's: the mask says whose it found good.
+#![tactic(auto)]
+
 pub mod digests; // digests.rt: a digest's 32 bytes as four words
 
 ghost use Rattle.std.specs.Prelude.{◌≤◌, true, ◌≡◌};
@@ -10,7 +12,7 @@ use answers::{first_refusal, refusal_if};
 pub use digests::Digest;
 
 // What a far committee certifies, as it is handed in.
-#[derive(Drop)]
+#[derive(Clone, Copy)]
 pub struct Certificate {
     pub number: u64,
     // The root of the tree of the pending sendings, and the number of its leaves.
@@ -25,7 +27,7 @@ pub struct Certificate {
 }
 
 // A committee of 2k members.
-#[derive(Drop)]
+#[derive(Clone, Copy)]
 pub struct Committee {
     // Document 02: k.
     pub half: u64,
@@ -36,7 +38,7 @@ pub struct Committee {
 }
 
 // The committee of the far ledger, where it has one.
-#[derive(Drop)]
+#[derive(Clone, Copy)]
 pub enum FarCommittee {
     Without,
     With(Committee),

@@ -1,5 +1,7 @@
 // The home validator (document 01: guard) over the words of its state, in place: whether a state is accepted, a record judged, a passed
 // record stored, the opening, and the calls with one record and with a list.
+#![tactic(auto)]
+
 ghost use Rattle.std.specs.Prelude.{ℕ, ◌+◌, true, ◌≡◌, eqb, get_or, length};
 ghost use Rattle.answers.specs.Answers.{unless_refused};
 ghost use Rattle.home_core.specs.Layout.{HomeReady, accepts_home, home_balances_word, home_bounds, home_view_of, home_with, home_words};

@@ -21,7 +21,7 @@ fn accepted(words: &[u64]) -> bool
 }
 
 // The home total and the far pool, beside the answer.
-#[derive(Drop)]
+#[derive(Clone, Copy)]
 pub struct HomeFigures {
     pub answer: Answer,
     pub home: u64,
@@ -63,7 +63,7 @@ pub fn balance(state: HomeValidator, account: u16) -> Balance
 }
 
 // The places left on the home ledger, beside the answer.
-#[derive(Drop)]
+#[derive(Clone, Copy)]
 pub struct HomePlaces {
     pub answer: Answer,
     pub home: u64,

@@ -2,6 +2,8 @@
 // and what home has sent: its state, and the calls that makers use. A call takes the state by value and hands it back beside the
 // answer; a list copies it once to have it for a refusal, and beside that the words are lent and stored to in place. No call asks
 // anything of the state or of the bytes that it is given.
+#![tactic(auto)]
+
 pub mod asked; // asked.rt: what a state is asked for: figures, a balance, the places left
 
 ghost use Rattle.std.specs.Prelude.{◌≡◌};
@@ -18,13 +20,13 @@ use tariffs::Tariff;
 // The state: the held records, the balances, and the numbers that home_core lays out after them. Words of records at or beyond the count
 // are not looked at, and only a passed record writes there.
 #[repr(C)]
-#[derive(Drop)]
+#[derive(Clone, Copy)]
 pub struct HomeValidator {
     pub words: [u64; WORDS],
 }
 
 // The answer, with the state beside it.
-#[derive(Drop)]
+#[derive(Clone, Copy)]
 pub struct HomeOutcome {
     pub answer: Answer,
     pub state: HomeValidator,

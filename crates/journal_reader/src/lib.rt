@@ -1,5 +1,7 @@
 // The journal's block reader: judging a block, handing out its count, its opening balances and the part of a record.
 // The functions named judged_.. are for a block that `judge` has passed: they do not hash it again.
+#![tactic(auto)]
+
 ghost use Rattle.std.specs.Prelude.{◌≡◌, ◌<◌, ◌≤◌, length};
 ghost use Rattle.answers.specs.Answers.{answer};
 ghost use Rattle.journal_blocks.specs.Blocks.{records_per_block, stated_count, record_part, balance_table};
@@ -14,7 +16,7 @@ use tariffs::Tariff;
 use wire::u64_at;
 
 // A block's answer, and the count of its items; 0 where it is refused.
-#[derive(Drop)]
+#[derive(Clone, Copy)]
 pub struct Counted {
     pub answer: Answer,
     pub count: u64,
@@ -22,7 +24,7 @@ pub struct Counted {
 
 // A block's answer, the count of its opening balances, of block 0 the rate and the charge account beside the balances (of block 1
 // both are 0), and the balances, zeros after them; all 0 where it is refused.
-#[derive(Drop)]
+#[derive(Clone, Copy)]
 pub struct Balances {
     pub answer: Answer,
     pub count: u64,

@@ -1,4 +1,6 @@
 // The journal's block writer, for all three kinds of block. It copies records without judging them.
+#![tactic(auto)]
+
 ghost use Rattle.std.specs.Prelude.{◌≡◌, ◌++◌, ◌-◌, ◌<◌, ◌≤◌, length, take, replicate};
 ghost use Rattle.answers.specs.Answers.{answer};
 ghost use Rattle.journal_blocks.specs.Blocks.{kind_of_block};

@@ -1,9 +1,11 @@
 // The two ledgers and the three kinds of record (document 01, "The record").
+#![tactic(auto)]
+
 ghost use Rattle.std.specs.Prelude.{◌≡◌};
 ghost use Rattle.ledgers.specs.Ledgers.{counterpart, ledger_byte, kind_byte, ledger_of, sender_ledger, receiver_ledger};
 
 // The two linked ledgers.
-#[derive(Drop)]
+#[derive(Clone, Copy)]
 pub enum Ledger {
     Home,
     Far,
@@ -41,7 +43,7 @@ impl Ledger {
 }
 
 // What a record does, with the ledger that holds it.
-#[derive(Drop)]
+#[derive(Clone, Copy)]
 pub enum Kind {
     Local(Ledger),
     Sending(Ledger),

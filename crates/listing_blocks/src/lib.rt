@@ -1,5 +1,7 @@
 // A listing's text, chunk by chunk, in a lent buffer: the state stands in lent words and is known to be accepted, each block is
 // hashed once, and nothing of the state is copied.
+#![tactic(auto)]
+
 ghost use Rattle.std.specs.Prelude.{◌+◌, ◌*◌, ◌≤◌, ◌≡◌, length, take};
 ghost use Rattle.journal_blocks.specs.Blocks.{max_block, first_records, records_per_block};
 ghost use Rattle.listing.specs.Chunks.{after_chunk, chunk_room, chunk_size, chunk_text, state_figures};
@@ -19,7 +21,7 @@ use wire::part_end;
 
 // Where a listing stands: the index of the next record, the number of the next block and the count of the one before it, the end
 // of the text in the buffer, whether the listing goes on, and the last row.
-#[derive(Drop)]
+#[derive(Clone, Copy)]
 pub struct Cursor {
     pub index: u64,
     pub block: u64,

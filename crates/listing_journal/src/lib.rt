@@ -1,6 +1,8 @@
 // Lists a journal: reads it from one file and prints its lines to another, in chunks of 64 blocks. That the chunks' texts are the
 // listing is proved (crates listing, listing_opening, listing_blocks), and so is what is made of the bytes that were handed over, from the
 // opening to a turn after which the listing does not go on. What is read and written is read off the code (docs/DECISIONS.md, 47).
+#![tactic(auto)]
+
 ghost use Rattle.std.specs.Prelude.{◌*◌, ◌≡◌, length, replicate};
 ghost use Rattle.listing.specs.Chunks.{chunk_room, chunk_size};
 ghost use Rattle.listing.specs.Listing.{opened_progress};
@@ -30,7 +32,7 @@ const CHUNKS: u64 = 1024;
 
 // What a turn leaves: where the listing stands, the bytes that it read, the length of the text that it handed on, and whether that was
 // written.
-#[derive(Drop)]
+#[derive(Clone, Copy)]
 pub struct TurnResult {
     pub cursor: Cursor,
     pub read: usize,
@@ -40,7 +42,7 @@ pub struct TurnResult {
 
 // What a listing leaves: the bytes that it read first, the end of the text that it handed on first, whether that was written and the
 // opening accepted, and the last turn after it.
-#[derive(Drop)]
+#[derive(Clone, Copy)]
 pub struct ListResult {
     pub first: usize,
     pub end: usize,

@@ -1,4 +1,6 @@
 // The lines of a listing, put into a lent buffer that has room for them. Each function of lines answers the place after what it put.
+#![tactic(auto)]
+
 pub mod hex; // hex.rt: the hexadecimal digits of a number
 
 ghost use Rattle.std.specs.Prelude.{◌+◌, ◌≤◌, ◌<◌, [], ◌∷◌, ◌≡◌, length};

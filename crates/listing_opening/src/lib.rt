@@ -1,4 +1,6 @@
 // The first lines of a listing, in a lent buffer: the header, and the opening of blocks 0 and 1 or the fault of one of them.
+#![tactic(auto)]
+
 ghost use Rattle.std.specs.Prelude.{ℕ, ◌≤◌, true, false, List, [], ◌++◌, ◌≡◌, drop, length, replicate, take};
 ghost use Rattle.listing.specs.Listing.{opening_text};
 ghost use Rattle.listing_lines.specs.Lines.{TextPut, header_line};
@@ -14,7 +16,7 @@ use pair_rows::{Row, first_row};
 use wire::part_end;
 
 // What an opening leaves: its row, the count of block 1, the end of the text, and whether the opening was accepted.
-#[derive(Drop)]
+#[derive(Clone, Copy)]
 pub struct Start {
     pub row: Row,
     pub before: u64,

@@ -1,6 +1,8 @@
 // The library that makers link from C, Rust and what can call C: the published calls, and those of both cores in place, under the C calling
 // convention. Nothing is judged here. An enum does not cross, so that an answer goes as its number, whether it passed, and its place.
 // include/moatbetony.h declares all of it.
+#![tactic(auto)]
+
 ghost use Rattle.std.specs.Prelude.{◌+◌, ◌*◌, ◌≡◌, drop, length, take};
 ghost use Rattle.answers.specs.Answers.{answer, unless_refused};
 ghost use Rattle.home_core.specs.Layout.{accepts_home, home_words_checker};
@@ -54,7 +56,7 @@ pub extern "C" fn moatbetony_state_version() -> u32
 
 // An answer: 0 for passed or a refusal's number; 1 for passed, which a struct of zeros does not have, and 0 for a refusal; its place.
 #[repr(C)]
-#[derive(Drop)]
+#[derive(Clone, Copy)]
 pub struct PlainAnswer {
     pub number: u32,
     pub passed: u32,
@@ -83,7 +85,7 @@ fn plain(a: Answer) -> PlainAnswer
 
 // An answer, and the state to go on with.
 #[repr(C)]
-#[derive(Drop)]
+#[derive(Clone, Copy)]
 pub struct PlainPairOutcome {
     pub answer: PlainAnswer,
     pub state: PairValidator,
@@ -91,7 +93,7 @@ pub struct PlainPairOutcome {
 
 // An answer, the totals of both ledgers and what is in flight.
 #[repr(C)]
-#[derive(Drop)]
+#[derive(Clone, Copy)]
 pub struct PlainPairFigures {
     pub answer: PlainAnswer,
     pub home: u64,
@@ -101,7 +103,7 @@ pub struct PlainPairFigures {
 
 // An answer, and the places left on both ledgers.
 #[repr(C)]
-#[derive(Drop)]
+#[derive(Clone, Copy)]
 pub struct PlainPairPlaces {
     pub answer: PlainAnswer,
     pub home: u64,
@@ -110,7 +112,7 @@ pub struct PlainPairPlaces {
 
 // An answer, and the balance of an account.
 #[repr(C)]
-#[derive(Drop)]
+#[derive(Clone, Copy)]
 pub struct PlainBalance {
     pub answer: PlainAnswer,
     pub balance: u64,
@@ -249,7 +251,7 @@ pub extern "C" fn moatbetony_pair_places_left(state: PairValidator) -> PlainPair
 
 // An answer, and the state to go on with.
 #[repr(C)]
-#[derive(Drop)]
+#[derive(Clone, Copy)]
 pub struct PlainHomeOutcome {
     pub answer: PlainAnswer,
     pub state: HomeValidator,
@@ -257,7 +259,7 @@ pub struct PlainHomeOutcome {
 
 // An answer, the home total and the far pool.
 #[repr(C)]
-#[derive(Drop)]
+#[derive(Clone, Copy)]
 pub struct PlainHomeFigures {
     pub answer: PlainAnswer,
     pub home: u64,
@@ -266,7 +268,7 @@ pub struct PlainHomeFigures {
 
 // An answer, and the places left on the home ledger.
 #[repr(C)]
-#[derive(Drop)]
+#[derive(Clone, Copy)]
 pub struct PlainHomePlaces {
     pub answer: PlainAnswer,
     pub home: u64,
@@ -399,7 +401,7 @@ pub extern "C" fn moatbetony_home_places_left(state: HomeValidator) -> PlainHome
 
 // The fields of a record that was read, as numbers; zeros where it does not read.
 #[repr(C)]
-#[derive(Drop)]
+#[derive(Clone, Copy)]
 pub struct PlainRecord {
     pub answer: PlainAnswer,
     pub kind: u8,
@@ -413,7 +415,7 @@ pub struct PlainRecord {
 
 // The 32 bytes of a record; zeros where they would not read.
 #[repr(C)]
-#[derive(Drop)]
+#[derive(Clone, Copy)]
 pub struct PlainEncoded {
     pub answer: PlainAnswer,
     pub bytes: [u8; 32],
@@ -487,7 +489,7 @@ pub extern "C" fn moatbetony_record_encode(
 
 // An answer, and the charge on an amount.
 #[repr(C)]
-#[derive(Drop)]
+#[derive(Clone, Copy)]
 pub struct PlainCharge {
     pub answer: PlainAnswer,
     pub charge: u64,
@@ -510,7 +512,7 @@ pub extern "C" fn moatbetony_charge(rate: u64, amount: u64) -> PlainCharge
 
 // Where a record stands in its block.
 #[repr(C)]
-#[derive(Drop)]
+#[derive(Clone, Copy)]
 pub struct PlainPart {
     pub answer: PlainAnswer,
     pub start: usize,
@@ -519,7 +521,7 @@ pub struct PlainPart {
 
 // The count of a block's items.
 #[repr(C)]
-#[derive(Drop)]
+#[derive(Clone, Copy)]
 pub struct PlainCount {
     pub answer: PlainAnswer,
     pub count: u64,
@@ -527,7 +529,7 @@ pub struct PlainCount {
 
 // The opening balances of a block, zeros after them, and beside those of block 0 the rate and the account of the charge.
 #[repr(C)]
-#[derive(Drop)]
+#[derive(Clone, Copy)]
 pub struct PlainBalances {
     pub answer: PlainAnswer,
     pub count: u64,
@@ -640,7 +642,7 @@ pub extern "C" fn moatbetony_block_write(
 
 // The 32 bytes of a digest.
 #[repr(C)]
-#[derive(Drop)]
+#[derive(Clone, Copy)]
 pub struct PlainDigest {
     pub bytes: [u8; 32],
 }

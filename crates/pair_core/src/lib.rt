@@ -1,5 +1,7 @@
 // The pair validator (document 01: pair book) over the words of its state, in place: whether a state is accepted, a record judged, a
 // passed record stored, the opening, and the calls with one record and with a list. Functions on one ledger take its byte as an index.
+#![tactic(auto)]
+
 ghost use Rattle.std.specs.Prelude.{ℕ, ◌+◌, ◌*◌, ◌<◌, true, ◌≡◌, length};
 ghost use Rattle.answers.specs.Answers.{unless_refused};
 ghost use Rattle.ledgers.specs.Ledgers.{ledger_byte, ledger_of};

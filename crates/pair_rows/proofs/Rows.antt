@@ -50,7 +50,7 @@ total_moves own other r (Receiving l) o h =
 
 -- ## The row
 
--- what working out the next row needs, and that it is this one
+-- what working out the next row rules, and that it is this one
 pub record RowMoves (supply : ℕ) (row : Row) (l : Ledger) (taken given : ℕ) (later : Row) : Type 0 where
   pub pays : taken ≤ total_in row l
   pub fits : row.home + row.far + given ≤ supply + taken

@@ -1,5 +1,7 @@
 // The rows of a run of the pair validator: the opening gives the first, each record the next. A row has the refusal, or 0, and the
 // figures after it, which are kept and not summed anew.
+#![tactic(auto)]
+
 ghost use Rattle.std.specs.Prelude.{◌+◌, ◌≤◌, ◌≡◌, replicate};
 ghost use Rattle.pair_core.specs.Layout.{pair_opened_words, pair_view_of, pair_words, pair_words_checker, pair_zero_words};
 ghost use Rattle.pair_rows.specs.Rows.{RowReady, moved_row, refused_row, row_of, total_in};
@@ -13,7 +15,7 @@ use records::{Reading, Record};
 use tariffs::Tariff;
 
 // A refusal, or 0, with the totals of both ledgers and what is in flight after it.
-#[derive(Drop)]
+#[derive(Clone, Copy)]
 pub struct Row {
     pub refusal: u32,
     pub home: u64,

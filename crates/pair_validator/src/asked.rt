@@ -19,7 +19,7 @@ fn accepted(words: &[u64]) -> bool
 }
 
 // The totals of both ledgers and what is in flight, beside the answer.
-#[derive(Drop)]
+#[derive(Clone, Copy)]
 pub struct PairFigures {
     pub answer: Answer,
     pub home: u64,
@@ -78,7 +78,7 @@ pub fn balance(state: PairValidator, ledger: u8, account: u16) -> Balance
 }
 
 // The places left on both ledgers, beside the answer.
-#[derive(Drop)]
+#[derive(Clone, Copy)]
 pub struct PairPlaces {
     pub answer: Answer,
     pub home: u64,

@@ -13,7 +13,7 @@ pub const HALF: u64 = 4294967296;
 const HALVES_OF_HIGH: u64 = 2147483648;
 
 // A sum that may pass 64 bits: high * 2^63 + low, with low below 2^63.
-#[derive(Drop)]
+#[derive(Clone, Copy)]
 pub struct Wide {
     pub high: u64,
     pub low: u64,
@@ -67,7 +67,7 @@ impl Wide {
 }
 
 // Two sums of the halves of numbers, by 2^32.
-#[derive(Drop)]
+#[derive(Clone, Copy)]
 pub struct Halved {
     pub high: u64,
     pub low: u64,
@@ -87,7 +87,7 @@ impl Halved {
 }
 
 // What was sent and what was received.
-#[derive(Drop)]
+#[derive(Clone, Copy)]
 pub struct Flows {
     pub sent: Halved,
     pub received: Halved,

@@ -1,5 +1,7 @@
 // Tests, sums and lists over the places of a table, balances from a place on, and the laws of both: what the crates of both validators
 // cite. Its functions stand in its modules.
+#![tactic(auto)]
+
 pub mod amounts; // amounts.rt: what a record of a kind takes and gives
 pub mod balances; // balances.rt: how many accounts a ledger may have, balances that no account has, and balances copied
 pub mod number_index; // number_index.rt: the chain of a number, and a place as an index keeps it

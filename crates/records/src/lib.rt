@@ -1,4 +1,6 @@
 // The record of 32 bytes (document 01, "The record"): reading and encoding.
+#![tactic(auto)]
+
 pub mod fields; // fields.rt: the 32 bytes with fields given as numbers
 
 ghost use Rattle.std.specs.Prelude.{◌≡◌, cond, length};
@@ -10,7 +12,7 @@ use ledgers::{Kind, Ledger};
 use wire::u64_at;
 
 // A record that was read.
-#[derive(Drop)]
+#[derive(Clone, Copy)]
 pub struct Record {
     pub kind: Kind,
     pub sender: u16,
@@ -23,7 +25,7 @@ pub struct Record {
 }
 
 // A record's 32 bytes as four words of eight bytes, highest byte first.
-#[derive(Drop)]
+#[derive(Clone, Copy)]
 pub struct Words {
     // Bytes 0-7: kind, ledger, sender, receiver and two zero bytes.
     pub head: u64,
@@ -34,7 +36,7 @@ pub struct Words {
 }
 
 // What words or bytes read as.
-#[derive(Drop)]
+#[derive(Clone, Copy)]
 pub enum Reading {
     Read(Record),
     Unreadable,

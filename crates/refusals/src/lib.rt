@@ -1,4 +1,6 @@
 // Refusals as functions, by balances lent as slices: of a record, and of an opening.
+#![tactic(auto)]
+
 pub mod record; // record.rt: 22, 51, 23 to 25
 pub mod opening; // opening.rt: 1, 2 and 52, or the supply
 

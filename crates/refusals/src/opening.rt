@@ -8,7 +8,7 @@ use places::{Wide, add_balances, is_count_allowed};
 use tariffs::Tariff;
 
 // The refusal of an opening, or 0 and the supply.
-#[derive(Drop)]
+#[derive(Clone, Copy)]
 pub struct Opening {
     pub refusal: u32,
     pub supply: u64,

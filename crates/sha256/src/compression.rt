@@ -8,7 +8,7 @@ use std::num::wrapping_add_u32;
 use wire::u32_at;
 
 // Sixteen words of the message schedule, or sixteen constants.
-#[derive(Drop)]
+#[derive(Clone, Copy)]
 pub struct SixteenWords {
     pub w0: u32,
     pub w1: u32,
@@ -29,7 +29,7 @@ pub struct SixteenWords {
 }
 
 // A hash value, or the working variables.
-#[derive(Drop)]
+#[derive(Clone, Copy)]
 pub struct Hash {
     pub a: u32,
     pub b: u32,

@@ -1,4 +1,6 @@
 // SHA-256 (FIPS 180-4) of a byte string of any length.
+#![tactic(auto)]
+
 pub mod compression; // compression.rt: the compression function
 
 ghost use Rattle.std.specs.Prelude.{◌≡◌, ◌+◌, ◌/◌, ◌%◌, ◌++◌, length, take};

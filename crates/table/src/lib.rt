@@ -1,4 +1,6 @@
 // A ledger's table: held records of four words each, from a word of the state on, and the index of their numbers.
+#![tactic(auto)]
+
 ghost use Rattle.std.specs.Prelude.{◌≡◌, ◌+◌, ◌-◌, ◌*◌, ◌/◌, ◌%◌, ◌^◌, ◌<◌, ◌≤◌, true, not, ◌&&◌, length, if◌then◌else◌, slice_index, slice_index_or};
 ghost use Rattle.ledgers.specs.Ledgers.{ledger_at};
 ghost use Rattle.ledgers.specs.Limits.{account_limit, capacity, max_amount};
@@ -513,7 +515,7 @@ fn add_flow(f: Flows, w: Words) -> Flows
 }
 
 // Whether each arrival among records has its sending, and where so, what they sent and what they received.
-#[derive(Drop)]
+#[derive(Clone, Copy)]
 pub struct Crossed {
     pub backed: bool,
     pub flows: Flows,

@@ -1,12 +1,14 @@
 // What home's network takes on each sending that leaves home (document 02, U3): the rate and the account that is paid, which of them an
 // opening may have, and the charge on an amount, exact and with no product beyond 64 bits.
+#![tactic(auto)]
+
 ghost use Rattle.std.specs.Prelude.{◌≤◌, ◌≡◌};
 ghost use Rattle.tariffs.specs.Tariffs.{charge, charge_told, parts, tariff_allowed};
 
 use answers::Answer;
 
 // The rate, in ten-thousandths of what is sent, and the home account that the charge is paid to.
-#[derive(Drop)]
+#[derive(Clone, Copy)]
 pub struct Tariff {
     pub rate: u64,
     pub account: u64,
@@ -38,7 +40,7 @@ pub fn charge(rate: u64, amount: u64) -> u64
 }
 
 // An answer, and the charge on an amount; 0 where it is refused.
-#[derive(Drop)]
+#[derive(Clone, Copy)]
 pub struct Charged {
     pub answer: Answer,
     pub charge: u64,

@@ -1,5 +1,7 @@
 // Runs document 01's cases 1 to 14 on the validators, and as case 0 charges, forged states and lists, and prints for each call the case,
 // the answer's number and the figures of the state that came back.
+#![tactic(auto)]
+
 use answers::Answer;
 use home_validator::{HomeOutcome, HomeValidator};
 use ledgers::{Kind, Ledger};

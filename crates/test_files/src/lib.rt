@@ -1,4 +1,6 @@
 // The files that a test program's arguments name.
+#![tactic(auto)]
+
 use libc::STDOUT_FILENO;
 
 // Prints the name of argument i on a line, and opens the file of that name for reading; where that fails it prints so, and the

@@ -1,5 +1,7 @@
 // Lists the journals that its arguments name, each after its name. The journals in data/ and the lines in stdout were made by the
 // second validator (validator/, `store`), which was written from documents 01 and 02 alone.
+#![tactic(auto)]
+
 use libc::STDOUT_FILENO;
 
 // The name of argument i, and the listing of its journal.

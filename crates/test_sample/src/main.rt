@@ -1,6 +1,8 @@
 // Reads the journals that its arguments name and lists their blocks: the number, the answer, and of a block that passes
 // the count and whether writing its items anew gives the same block. The journals in data/ and the lines in stdout were
 // made by another implementation of document 01.
+#![tactic(auto)]
+
 use answers::Answer;
 use libc::STDOUT_FILENO;
 

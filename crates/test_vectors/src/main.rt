@@ -1,4 +1,6 @@
 // Prints the SHA-256 digests of known messages, each on a line after its label.
+#![tactic(auto)]
+
 ghost use Rattle.std.specs.Prelude.{◌≤◌, ◌<◌, length};
 
 // A hexadecimal digit.

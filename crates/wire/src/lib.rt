@@ -1,5 +1,7 @@
 // Numbers of 2, 4 and 8 bytes in byte slices, highest byte first, runs of zero bytes, and where the parts of bytes stand: what records,
 // journal blocks, lists of records and SHA-256 share. The reading functions need their bytes within the slice.
+#![tactic(auto)]
+
 pub mod parts; // parts.rt: where a part of bytes ends
 
 ghost use Rattle.std.specs.Prelude.{◌≡◌, ◌+◌, ◌-◌, ◌≤◌, ◌<◌, length, take, drop};

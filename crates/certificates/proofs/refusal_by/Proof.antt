@@ -10,9 +10,9 @@ returns c =
     let keys = signers.before.before in
     let number = keys.before.before in
     let a = number.before.before.before.args in
-    committee_by_lem a.c a.x number.before.is-next.ensures number.refusal-if.ensures keys.before.is.ensures keys.refusal-if2.ensures
-    signers.before.are-enough.ensures signers.refusal-if3.ensures c.before.first-refusal.ensures c.first-refusal2.ensures
+    committee_by_lem a.c a.x number.before.is_next.ensures number.refusal_if-number.ensures keys.before.is.ensures keys.refusal_if-keys.ensures
+    signers.before.are_enough.ensures signers.refusal_if-signers.ensures c.before.first_refusal.ensures c.first_refusal-2.ensures
 
-pub refusal-by-spec : {M : Type 1} → statement M
-refusal-by-spec = tie.close (tie.spec (λ c κs. search rules) (λ c κs. search rules) (λ c κs. search rules) (λ c κs. search rules)
+pub refusal_by_spec : {M : Type 1} → statement M
+refusal_by_spec = tie.close (tie.spec (λ c κs. search rules) (λ c κs. search rules) (λ c κs. search rules) (λ c κs. search rules)
     (λ c κs. search rules) (λ c κs. search rules) (λ c κs. search rules) (λ c κs. search rules) returns)

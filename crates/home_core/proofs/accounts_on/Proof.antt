@@ -2,7 +2,7 @@
 use Rattle.home_core.proofs.Accept.{length_balances, sound_of}
 use Rattle.home_core.specs.Layout.{home_view_of}
 use Rattle.rules.specs.HomeValidator.{home_accounts}
-use Rattle.wire.proofs.Prelude.{◌∙◌, ap, arith, needs, sym}
+use Rattle.wire.proofs.Prelude.{◌∙◌, ap, arith, rules, sym}
 use Rattle.home_core.proofs.accounts_on.Statement.{statement}
 use Rattle.home_core.proofs.accounts_on.Tie as tie
 
@@ -16,7 +16,7 @@ returns c =
 returns-2 : tie.Need-returns-2
 returns-2 c = ap (home_accounts (home_view_of c.before.before.before.args.s.now)) (sym c.before.enum-told2.given.1)
 
-pub accounts-on-spec : {M : Type 1} → statement M
-accounts-on-spec = tie.close (tie.spec (λ c. search needs)
-    (λ c. let o = c.before.before.before in omega (arith, (sound_of o.args.s.now o.requires).long)) (λ c. search needs)
+pub accounts_on_spec : {M : Type 1} → statement M
+accounts_on_spec = tie.close (tie.spec (λ c. search rules)
+    (λ c. let o = c.before.before.before in omega (arith, (sound_of o.args.s.now o.requires).long)) (λ c. search rules)
     (λ c. let o = c.before.before.before in omega (arith, (sound_of o.args.s.now o.requires).long)) returns returns-2)

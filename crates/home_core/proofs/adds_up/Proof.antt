@@ -2,7 +2,7 @@
 use Rattle.home_core.proofs.Accept.{bounds_facts}
 use Rattle.places.proofs.ExactSums.{added_after, added_value}
 use Rattle.table.proofs.Sums.{high_passes, low_compares}
-use Rattle.wire.proofs.Prelude.{arith, needs}
+use Rattle.wire.proofs.Prelude.{arith, rules}
 use Rattle.home_core.proofs.adds_up.Statement.{statement}
 use Rattle.home_core.proofs.adds_up.Tie as tie
 
@@ -32,6 +32,6 @@ returns-2 c =
     let sum = added_after c4.before.before.add-balances.ensures c4.add.ensures in
     low_compares _ _ _ (added_value sum) c.before.before.if1.false
 
-pub adds-up-spec : {M : Type 1} → statement M
-adds-up-spec = tie.close (tie.spec (λ c. search needs) add-balances-requires (λ c. search needs) add-requires returns
-    (λ c. search needs) returns-2)
+pub adds_up_spec : {M : Type 1} → statement M
+adds_up_spec = tie.close (tie.spec (λ c. search rules) add-balances-requires (λ c. search rules) add-requires returns
+    (λ c. search rules) returns-2)

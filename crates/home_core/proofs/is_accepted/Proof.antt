@@ -2,7 +2,7 @@
 use Rattle.home_core.proofs.Accept.{HomeBounds, bounds_facts, tests_are, tests_refused, tests_home}
 use Rattle.home_core.specs.Layout.{accepts_home, home_bounds}
 use Rattle.wire.proofs.Lists.{every_not, every_one, every_skip}
-use Rattle.wire.proofs.Prelude.{◌∙◌, ◌≡◌, arith, eq-eqb, ne_eqb, needs, not-false, not-true, refl, sym, true}
+use Rattle.wire.proofs.Prelude.{◌∙◌, ◌≡◌, arith, eq-eqb, ne_eqb, rules, not-false, not-true, refl, sym, true}
 use Rattle.home_core.proofs.is_accepted.Statement.{statement}
 use Rattle.home_core.proofs.is_accepted.Tie as tie
 
@@ -98,7 +98,7 @@ returns-5 c =
       ),
     )
 
-pub is-accepted-spec : {M : Type 1} → statement M
-is-accepted-spec = tie.close (tie.spec returns (λ c κs. search needs) returns-2 (λ c. search needs) add-are-zero sub-are-zero are-zero-requires
-    returns-3 (λ c. search needs) (λ c. search needs) (λ c. search needs) hold-indexed-requires (λ c. search needs) returns-4
-    adds-up-requires (λ c. search needs) returns-5)
+pub is_accepted_spec : {M : Type 1} → statement M
+is_accepted_spec = tie.close (tie.spec returns (λ c κs. search rules) returns-2 (λ c. search rules) add-are-zero sub-are-zero are-zero-requires
+    returns-3 (λ c. search rules) (λ c. search rules) (λ c. search rules) hold-indexed-requires (λ c. search rules) returns-4
+    adds-up-requires (λ c. search rules) returns-5)

@@ -6,7 +6,7 @@ use Rattle.home_core.specs.Layout.{home_count_of, home_view_of}
 use Rattle.places.specs.OverPlaces.{any_at}
 use Rattle.rules.specs.HomeValidator.{home_accounts, is_far}
 use Rattle.table.specs.Table.{used_at}
-use Rattle.wire.proofs.Prelude.{Bool, ◌∙◌, ap, arith, needs}
+use Rattle.wire.proofs.Prelude.{Bool, ◌∙◌, ap, arith, rules}
 use Rattle.home_core.proofs.judge.Statement.{statement}
 use Rattle.home_core.proofs.judge.Tie as tie
 
@@ -40,10 +40,10 @@ returns c =
     c.before.first-refusals.ensures
     c.first-refusal2.ensures
 
-pub judge-spec : {M : Type 1} → statement M
-judge-spec = tie.close (tie.spec
+pub judge_spec : {M : Type 1} → statement M
+judge_spec = tie.close (tie.spec
     (λ c. let o = c.before.before.before in omega (arith, (sound_of o.args.s.now o.requires.accepted).long))
-    (λ c κs. search needs) (λ c κs. search needs) (λ c κs. search needs) (λ c κs. search needs) (λ c κs. search needs)
-    (λ c κs. search needs) (λ c κs. search needs) (λ c κs. search needs) (λ c κs. search needs) (λ c κs. search needs)
-    is-used-requires (λ c κs. search needs)
-    (λ c κs. search needs) (λ c κs. search needs) returns)
+    (λ c κs. search rules) (λ c κs. search rules) (λ c κs. search rules) (λ c κs. search rules) (λ c κs. search rules)
+    (λ c κs. search rules) (λ c κs. search rules) (λ c κs. search rules) (λ c κs. search rules) (λ c κs. search rules)
+    is-used-requires (λ c κs. search rules)
+    (λ c κs. search rules) (λ c κs. search rules) returns)

@@ -3,7 +3,7 @@ use Rattle.home_core.proofs.Accept.{HomeSound, sound_of}
 use Rattle.home_core.proofs.Judging.{last_paid, last_pooled}
 use Rattle.home_core.specs.Layout.{home_accounts_of, home_tariff_of}
 use Rattle.tariffs.proofs.Allowing.{allowed_rate}
-use Rattle.wire.proofs.Prelude.{◌∙◌, arith, needs, sym}
+use Rattle.wire.proofs.Prelude.{◌∙◌, arith, rules, sym}
 use Rattle.home_core.proofs.last_refusal.Statement.{statement}
 use Rattle.home_core.proofs.last_refusal.Tie as tie
 
@@ -30,8 +30,8 @@ returns-2 c =
     let a = d.before.before.before.args in
     c.funds-refusal.ensures ∙ last_paid a.s.now a.r (sym d.before.is-receiving.ensures ∙ d.if1.false)
 
-pub last-refusal-spec : {M : Type 1} → statement M
-last-refusal-spec = tie.close (tie.spec (λ c κs. search needs)
-    (λ c. omega (arith, (sound-at c.before.before.before.before).long)) (λ c κs. search needs) returns
+pub last_refusal_spec : {M : Type 1} → statement M
+last_refusal_spec = tie.close (tie.spec (λ c κs. search rules)
+    (λ c. omega (arith, (sound-at c.before.before.before.before).long)) (λ c κs. search rules) returns
     (λ c. omega (arith, (sound-at c.before.before.before.before).long))
     (λ c. omega (arith, (sound-at c.before.before.before.before.before).long)) funds-refusal-requires returns-2)

@@ -1,5 +1,5 @@
 -- `home_core::open` meets its contract. Assumes nothing.
-use Rattle.wire.proofs.Prelude.{◌∙◌, ◌≡◌, ◌≤◌, arith, length, needs, refl, sym}
+use Rattle.wire.proofs.Prelude.{◌∙◌, ◌≡◌, ◌≤◌, arith, length, rules, refl, sym}
 use Rattle.answers.proofs.Answers.{instead_refused}
 use Rattle.home_core.proofs.Opened.{opened_by_lem, opened_count}
 use Rattle.ledgers.specs.Limits.{account_limit}
@@ -38,5 +38,5 @@ returns-2 c =
     )
 
 pub open_spec : {M : Type 1} → statement M
-open_spec = tie.close (tie.spec (λ c κs. search needs) returns (λ c κs. omega (arith, count_at c.before)) (λ c. search needs)
-    (λ c. search needs) (λ c. search needs) (λ c. search needs) (λ c. search needs) (λ c. search needs) returns-2)
+open_spec = tie.close (tie.spec (λ c κs. search rules) returns (λ c κs. omega (arith, count_at c.before)) (λ c. search rules)
+    (λ c. search rules) (λ c. search rules) (λ c. search rules) (λ c. search rules) (λ c. search rules) returns-2)

@@ -1,5 +1,5 @@
 -- `home_core::pass` meets its contract. Assumes nothing.
-use Rattle.wire.proofs.Prelude.{List, ◌*◌, ◌+◌, ◌-◌, ◌∙◌, ◌≡◌, ap, ap₂, arith, get_or, needs, set, sym, ℕ}
+use Rattle.wire.proofs.Prelude.{List, ◌*◌, ◌+◌, ◌-◌, ◌∙◌, ◌≡◌, ap, ap₂, arith, get_or, rules, set, sym, ℕ}
 use Rattle.home_core.proofs.Accept.{HomeSound, sound_of}
 use Rattle.home_core.proofs.Passing.{HomePasses, paid_fits, passes_of, pool_moved}
 use Rattle.home_core.specs.Layout.{home_balances_word, home_count_of, home_count_word, home_with, pool_of, pool_word}
@@ -56,8 +56,8 @@ returns c =
     m
 
 pub pass_spec : {M : Type 1} → statement M
-pass_spec = tie.close (tie.spec (λ c. search needs) (λ c. search needs) (λ c κs. search needs)
-    (λ c. omega (arith, (passes_at (start_at c.before)).room)) store-requires (λ c κs. search needs)
-    (λ c. omega (arith, c.taken-by.ensures, (passes_at (start_at c.before.before.before)).pool_fits)) (λ c κs. search needs)
-    sub-state (λ c. search needs) (λ c. omega (arith, (passes_at (start_at c.before.before.before.before)).room))
-    (λ c. search needs) returns)
+pass_spec = tie.close (tie.spec (λ c. search rules) (λ c. search rules) (λ c κs. search rules)
+    (λ c. omega (arith, (passes_at (start_at c.before)).room)) store-requires (λ c κs. search rules)
+    (λ c. omega (arith, c.taken-by.ensures, (passes_at (start_at c.before.before.before)).pool_fits)) (λ c κs. search rules)
+    sub-state (λ c. search rules) (λ c. omega (arith, (passes_at (start_at c.before.before.before.before)).room))
+    (λ c. search rules) returns)

@@ -8,5 +8,5 @@ returns : tie.Need-returns
 unfolding pool_refusal
 returns c = search rules
 
-pub pool-refusal-spec : {M : Type 1} → statement M
-pool-refusal-spec = tie.close (tie.spec (λ c κs. search rules) returns)
+pub pool_refusal_spec : {M : Type 1} → statement M
+pool_refusal_spec = tie.close (tie.spec (λ c κs. search rules) returns)

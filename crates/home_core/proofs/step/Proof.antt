@@ -7,7 +7,7 @@ use Rattle.records.specs.Records.{reading}
 use Rattle.records.specs.declared.Reading.TheVariants.{Read}
 use Rattle.rules.proofs.Parts.{ReadsAs, formed_as, step_refused}
 use Rattle.rules.specs.HomeValidator.{home_judge}
-use Rattle.wire.proofs.Prelude.{◌∙◌, ◌≡◌, ap, arith, needs, sym}
+use Rattle.wire.proofs.Prelude.{◌∙◌, ◌≡◌, ap, arith, rules, sym}
 use Rattle.home_core.proofs.step.Statement.{statement}
 use Rattle.home_core.proofs.step.Tie as tie
 
@@ -61,6 +61,6 @@ returns-3 c =
     step_leaves (start_at d).requires (read_at_lem c.before.before.before) (passes_at d) c.before.before.pass.ensures c.add-number.ensures
 
 pub step_spec : {M : Type 1} → statement M
-step_spec = tie.close (tie.spec (λ c κs. search needs) (λ c. search needs) (λ c. search needs) returns (λ c κs. search needs) returns-2
-    (λ c. search needs) (λ c κs. (read_formed _ _ (reads_at (read_at c.before.before))).0) pass-requires add-number-requires
+step_spec = tie.close (tie.spec (λ c κs. search rules) (λ c. search rules) (λ c. search rules) returns (λ c κs. search rules) returns-2
+    (λ c. search rules) (λ c κs. (read_formed _ _ (reads_at (read_at c.before.before))).0) pass-requires add-number-requires
     returns-3)

@@ -3,7 +3,7 @@ use Rattle.home_core.specs.Layout.{home_words_checker}
 use Rattle.rules.proofs.Parts.{gives_one, gives_unaccepted}
 use Rattle.rules.specs.Calls.{one}
 use Rattle.table.proofs.Numbers.{empty_zeros}
-use Rattle.wire.proofs.Prelude.{needs, not-false, refl}
+use Rattle.wire.proofs.Prelude.{rules, not-false, refl}
 use Rattle.table.specs.Table.{index_length}
 use Rattle.home_core.proofs.take.Statement.{statement}
 use Rattle.home_core.proofs.take.Tie as tie
@@ -25,6 +25,6 @@ returns-2 c =
     e.1.0
 
 pub take_spec : {M : Type 1} → statement M
-take_spec = tie.close (tie.spec (λ c. search needs)
+take_spec = tie.close (tie.spec (λ c. search rules)
     (λ c κs. (refl, empty_zeros index_length 0)) returns step-requires
-    (λ c κs. search needs) returns-2)
+    (λ c κs. search rules) returns-2)

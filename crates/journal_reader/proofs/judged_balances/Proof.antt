@@ -1,22 +1,22 @@
 -- `journal_reader::judged_balances` meets its contract. Assumes nothing.
-use Rattle.wire.proofs.Prelude.{List, ◌++◌, ◌-◌, ◌∙◌, ◌≡◌, ◌≤◌, ap, arith, needs, refl, replicate, set, ℕ}
+use Rattle.wire.proofs.Prelude.{List, ◌++◌, ◌-◌, ◌∙◌, ◌≡◌, ◌≤◌, ap, arith, rules, refl, replicate, set, ℕ}
 use Rattle.journal_blocks.proofs.Items.{table_on}
 use Rattle.journal_blocks.specs.Blocks.{first_balances, stated_count}
 use Rattle.sha256.specs.Sha256.{block}
 use Rattle.journal_reader.proofs.judged_balances.Statement.{statement}
 use Rattle.journal_reader.proofs.judged_balances.Tie as tie
 
-pub judged-balances-spec : {M : Type 1} → statement M
+pub judged_balances_spec : {M : Type 1} → statement M
 unfolding first_balances
-judged-balances-spec = tie.close (tie.spec
+judged_balances_spec = tie.close (tie.spec
     (λ block n out₀ i₀ out i. (i ≤ n) × (n ≤ 56) × (out ≡ first_balances i block ++ replicate (56 - i) 0)) (λ block n out₀ i₀ out i. n - i)
-    (λ c κs. search needs) (λ c. (search needs, omega (arith, c.stated-count.ensures), refl)) (λ c. search needs) (λ c. search needs)
-    (λ c κs. search needs) (λ c. search needs) (λ c. search needs) (λ c. search needs) (λ c. search needs) (λ c.
+    (λ c κs. search rules) (λ c. (search rules, omega (arith, c.stated-count.ensures), refl)) (λ c. search rules) (λ c. search rules)
+    (λ c κs. search rules) (λ c. search rules) (λ c. search rules) (λ c. search rules) (λ c. search rules) (λ c.
     let c5 = c.before.before.before.before.before in
     let l = c.before.before.loop in
     let v = c.u64-at in
     let e = ap (λ (o : List ℕ). set o l.i v.result) l.invariant.2 in
-    (search needs, search needs, e ∙ table_on c5.args.block.now l.i v.result (omega arith) v.ensures))
+    (search rules, search rules, e ∙ table_on c5.args.block.now l.i v.result (omega arith) v.ensures))
     (λ c.
     let b = c.before.before.before.before.args.block.now in
     let l = c.before.loop in

@@ -1,5 +1,5 @@
 -- `journal_reader::opening_balances` meets its contract. Assumes nothing.
-use Rattle.wire.proofs.Prelude.{◌∙◌, ◌≡◌, ap, ap₂, needs, replicate, sym, ℕ}
+use Rattle.wire.proofs.Prelude.{◌∙◌, ◌≡◌, ap, ap₂, rules, replicate, sym, ℕ}
 use Rattle.answers.proofs.Answers.{instead_refused}
 use Rattle.answers.specs.Answers.{answer, or_else}
 use Rattle.answers.specs.declared.Answer.TheVariants.{Passed}
@@ -17,9 +17,9 @@ refusal-at : (c : tie.After-first-refusal) → let a = c.before.before.before.be
 unfolding balances_refusal
 refusal-at c = c.first-refusal.ensures ∙ ap₂ or_else c.before.before.block-refusal.ensures c.before.refusal-if.ensures
 
-pub opening-balances-spec : {M : Type 1} → statement M
+pub opening_balances_spec : {M : Type 1} → statement M
 unfolding opening_of
-opening-balances-spec = tie.close (tie.spec (λ c κs. search needs) (λ c κs. search needs) (λ c κs. search needs) (λ c κs. search needs)
+opening_balances_spec = tie.close (tie.spec (λ c κs. search rules) (λ c κs. search rules) (λ c κs. search rules) (λ c κs. search rules)
     (λ c.
     let a = c.before.before.before.before.before.before.args in
     let e = refusal-at c.before.before in
@@ -29,7 +29,7 @@ opening-balances-spec = tie.close (tie.spec (λ c κs. search needs) (λ c κs. 
     let tariff = instead_refused _ (tariff_in a.block.now) free r in
     let table = instead_refused _ (balance_table a.block.now) (replicate account_limit 0) r in
     λ i. record { answer = told i; count = count i; tariff = tariff i; balances = table i })
-    (λ c κs. search needs) (λ c κs. (balances_facts _ _ _ (sym (refusal-at c.before.before) ∙ c.before.if1.false)).0)
+    (λ c κs. search rules) (λ c κs. (balances_facts _ _ _ (sym (refusal-at c.before.before) ∙ c.before.if1.false)).0)
     (λ c κs. balances_facts _ _ _ (sym (refusal-at c.before.before.before) ∙ c.before.before.if1.false)) (λ c.
     let c2 = c.before.before in
     let count = c2.stated-count.ensures in

@@ -1,5 +1,5 @@
 -- `journal_reader::record_part` meets its contract. Assumes nothing.
-use Rattle.wire.proofs.Prelude.{[], ◌∙◌, ◌≡◌, arith, needs, sym, ℕ}
+use Rattle.wire.proofs.Prelude.{[], ◌∙◌, ◌≡◌, arith, rules, sym, ℕ}
 use Rattle.answers.proofs.Answers.{passed_zero, refused_instead}
 use Rattle.journal_blocks.specs.Blocks.{record_part}
 use Rattle.journal_reader.proofs.Judging.{place_facts}
@@ -13,10 +13,10 @@ none_refused : (c : tie.After-enum-told) → let a = c.before.before.before.befo
 none_refused c =
     passed_zero _ c.before.before.before.before.args.k (sym c.before.before.judge-record.ensures ∙ c.enum_told.given.1)
 
-pub record-part-spec : {M : Type 1} → statement M
+pub record_part_spec : {M : Type 1} → statement M
 unfolding part_of
-record-part-spec = tie.close (tie.spec (λ c κs. search needs) (λ c. search needs) (λ c. search needs) (λ c. search needs)
-    (λ c. search needs) (λ c. search needs) (λ c.
+record_part_spec = tie.close (tie.spec (λ c κs. search rules) (λ c. search rules) (λ c. search rules) (λ c. search rules)
+    (λ c. search rules) (λ c. search rules) (λ c.
     let c3 = c.before.before.before in
     let a = c3.before.before.args in
     let b = a.block.now in

@@ -1,15 +1,15 @@
 -- `journal_writer::header_of` meets its contract. Assumes nothing.
-use Rattle.wire.proofs.Prelude.{List, ◌++◌, ◌∙◌, ◌∷◌, ap, get_or, needs, replicate, ℕ}
+use Rattle.wire.proofs.Prelude.{List, ◌++◌, ◌∙◌, ◌∷◌, ap, get_or, rules, replicate, ℕ}
 use Rattle.journal_blocks.specs.Blocks.{kind_of_block}
 use Rattle.journal_writer.proofs.Laying.{tariff_then}
 use Rattle.wire.specs.BigEndian.{bytes_of}
 use Rattle.journal_writer.proofs.header_of.Statement.{statement}
 use Rattle.journal_writer.proofs.header_of.Tie as tie
 
-pub header-of-spec : {M : Type 1} → statement M
+pub header_of_spec : {M : Type 1} → statement M
 unfolding bytes_of
-header-of-spec = tie.close (tie.spec (λ c κs. search needs) (λ c κs. c.before.requires.1) (λ c. search needs) (λ c. search needs)
-    (λ c. search needs) (λ c. search needs) (λ c. search needs) (λ c. search needs) (λ c. search needs) (λ c. search needs) (λ c.
+header_of_spec = tie.close (tie.spec (λ c κs. search rules) (λ c κs. c.before.requires.1) (λ c. search rules) (λ c. search rules)
+    (λ c. search rules) (λ c. search rules) (λ c. search rules) (λ c. search rules) (λ c. search rules) (λ c. search rules) (λ c.
     let a = c.before.before.args in
     let n = c.before.u32-bytes.ensures in
     let t = c.tariff-bytes.ensures in

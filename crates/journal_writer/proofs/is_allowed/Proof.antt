@@ -1,5 +1,5 @@
 -- `journal_writer::is_allowed` meets its contract. Assumes nothing.
-use Rattle.wire.proofs.Prelude.{◌%◌, ◌/◌, ◌∙◌, ap, arith, needs, ℕ}
+use Rattle.wire.proofs.Prelude.{◌%◌, ◌/◌, ◌∙◌, ap, arith, rules, ℕ}
 use Rattle.journal_blocks.proofs.Sizes.{block_bounds}
 use Rattle.journal_writer.proofs.Allowing.{allowed_facts, facts_allowed}
 use Rattle.journal_writer.specs.Written.{tariff_fits}
@@ -7,15 +7,15 @@ use Rattle.wire.proofs.Lists.{not_held, same_tests}
 use Rattle.journal_writer.proofs.is_allowed.Statement.{statement}
 use Rattle.journal_writer.proofs.is_allowed.Tie as tie
 
-pub is-allowed-spec : {M : Type 1} → statement M
-is-allowed-spec = tie.close (tie.spec (λ c. not_held _ (λ h. omega (arith, allowed_facts _ _ _ _ _ h)))
-    (λ c. not_held _ (λ h. omega (arith, allowed_facts _ _ _ _ _ h))) (λ c κs. search needs)
-    (λ c. not_held _ (λ h. omega (arith, allowed_facts _ _ _ _ _ h))) (λ c κs. search needs)
+pub is_allowed_spec : {M : Type 1} → statement M
+is_allowed_spec = tie.close (tie.spec (λ c. not_held _ (λ h. omega (arith, allowed_facts _ _ _ _ _ h)))
+    (λ c. not_held _ (λ h. omega (arith, allowed_facts _ _ _ _ _ h))) (λ c κs. search rules)
+    (λ c. not_held _ (λ h. omega (arith, allowed_facts _ _ _ _ _ h))) (λ c κs. search rules)
     (λ c. omega (arith, block_bounds c.before.before.before.before.before.args.k, c.item-size.ensures))
     (λ c. not_held _ (λ h. omega (arith, allowed_facts _ _ _ _ _ h, rw c.before.item-size.ensures at c.if4.true)))
     (λ c. omega (arith, block_bounds c.before.before.before.before.before.before.args.k, c.before.item-size.ensures))
     (λ c. not_held _ (λ h. omega (arith, allowed_facts _ _ _ _ _ h, rw c.before.before.item-size.ensures at c.if5.true)))
-    (λ c κs. search needs) (λ c.
+    (λ c κs. search rules) (λ c.
     let c3 = c.before.before.before in
     omega (arith, block_bounds c3.before.before.before.before.before.args.k, c3.item-size.ensures))
     (λ c.
@@ -25,7 +25,7 @@ is-allowed-spec = tie.close (tie.spec (λ c. not_held _ (λ h. omega (arith, all
     (λ c.
     let c4 = c.before.before.before.before in
     omega (arith, block_bounds c4.before.before.before.before.before.args.k, c4.item-size.ensures))
-    (λ c κs. search needs) (λ c.
+    (λ c κs. search rules) (λ c.
     let c5 = c.before.before.before.before.before in
     let a = c5.before.before.before.before.before.args in
     let e = ap (λ (m : ℕ). a.n / m) c5.item-size.ensures in

@@ -4,8 +4,8 @@ use Rattle.journal_writer.proofs.Laying.{laid}
 use Rattle.journal_writer.proofs.lay.Statement.{statement}
 use Rattle.journal_writer.proofs.lay.Tie as tie
 
-pub lay-spec : {M : Type 1} → statement M
-lay-spec = tie.close (tie.spec (λ c. search rules) (λ c κs. search rules) (λ c. search rules) (λ c. search rules) (λ c. search rules)
+pub lay_spec : {M : Type 1} → statement M
+lay_spec = tie.close (tie.spec (λ c. search rules) (λ c κs. search rules) (λ c. search rules) (λ c. search rules) (λ c. search rules)
     (λ c κs. search rules) (λ c. search rules) (λ c. search rules) (λ c. search rules) (λ c. search rules) (λ c κs. search rules)
     (λ c. search rules) (λ c.
     let c6 = c.before.before.before.before.before.before in

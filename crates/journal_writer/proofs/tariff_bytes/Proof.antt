@@ -1,18 +1,18 @@
 -- `journal_writer::tariff_bytes` meets its contract. Assumes nothing.
-use Rattle.wire.proofs.Prelude.{[], ◌∷◌, arith, get_or, needs, sym}
+use Rattle.wire.proofs.Prelude.{[], ◌∷◌, arith, get_or, rules, sym}
 use Rattle.journal_writer.proofs.Laying.{bytes_later}
 use Rattle.wire.specs.BigEndian.{bytes_of}
 use Rattle.journal_writer.proofs.tariff_bytes.Statement.{statement}
 use Rattle.journal_writer.proofs.tariff_bytes.Tie as tie
 
-pub tariff-bytes-spec : {M : Type 1} → statement M
+pub tariff_bytes_spec : {M : Type 1} → statement M
 unfolding bytes_of
-tariff-bytes-spec = tie.close (tie.spec (λ c.
+tariff_bytes_spec = tie.close (tie.spec (λ c.
     let a = c.before.args in
     sym (bytes_later a.k a.tariff (omega arith)))
-    (λ c. omega (arith, (c.before.before.requires c.before.if1.false).0)) (λ c κs. search needs)
-    (λ c. omega (arith, (c.before.before.before.before.requires c.before.before.before.if1.false).1)) (λ c κs. search needs)
-    (λ c. search needs) (λ c. search needs) (λ c. search needs) (λ c. search needs) (λ c.
+    (λ c. omega (arith, (c.before.before.requires c.before.if1.false).0)) (λ c κs. search rules)
+    (λ c. omega (arith, (c.before.before.before.before.requires c.before.before.before.if1.false).1)) (λ c κs. search rules)
+    (λ c. search rules) (λ c. search rules) (λ c. search rules) (λ c. search rules) (λ c.
     let rate = c.before.before.u16-bytes.ensures in
     let account = c.u16-bytes2.ensures in
     rw c.before.before.before.before.if1.false

@@ -1,5 +1,5 @@
 -- `journal_writer::write` meets its contract. Assumes nothing.
-use Rattle.wire.proofs.Prelude.{List, ◌++◌, ◌-◌, ◌/◌, ◌∙◌, ◌≡◌, ap, arith, length, needs, replicate, sym, take, ℕ}
+use Rattle.wire.proofs.Prelude.{List, ◌++◌, ◌-◌, ◌/◌, ◌∙◌, ◌≡◌, ap, arith, length, rules, replicate, sym, take, ℕ}
 use Rattle.journal_blocks.proofs.Sizes.{block_bounds}
 use Rattle.journal_writer.proofs.Allowing.{allowed_answer, allowed_facts, allowed_room, allowed_tariff, refused_answer}
 use Rattle.journal_writer.specs.Written.{body, header, journal_block, written}
@@ -9,7 +9,7 @@ use Rattle.journal_writer.proofs.write.Tie as tie
 
 pub write_spec : {M : Type 1} → statement M
 unfolding written journal_block body
-write_spec = tie.close (tie.spec (λ c κs. search needs) (λ c κs. search needs)
+write_spec = tie.close (tie.spec (λ c κs. search rules) (λ c κs. search rules)
     (λ c. omega (arith, block_bounds c.before.before.before.before.before.args.k, c.item-size.ensures)) (λ c.
     let a = c.before.before.before.before.before.args in
     let f = allowed_facts _ _ _ _ _ (sym c.before.before.is-allowed.ensures ∙ c.before.if1.true) in
@@ -26,7 +26,7 @@ write_spec = tie.close (tie.spec (λ c κs. search needs) (λ c κs. search need
     let c3 = c.before.before.before in
     let t = c3.before.before.before.before in
     omega (arith, c3.lay.auto.0, (allowed_facts _ _ _ _ _ (sym t.before.is-allowed.ensures ∙ t.if1.true)).long))
-    (λ c. search needs) (λ c.
+    (λ c. search rules) (λ c.
     let c6 = c.before.before.before.before.before.before in
     let c9 = c6.before.before.before in
     let c11 = c9.before.before in

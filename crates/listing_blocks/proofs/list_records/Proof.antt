@@ -1,5 +1,5 @@
 -- `listing_blocks::list_records` meets its contract. Assumes nothing.
-use Rattle.wire.proofs.Prelude.{◌-◌, ◌≡◌, ◌≤◌, arith, length, length-take, needs, refl}
+use Rattle.wire.proofs.Prelude.{◌-◌, ◌≡◌, ◌≤◌, arith, length, length-take, rules, refl}
 use Rattle.listing_blocks.proofs.Listed.{Listed, listed_next, listed_start, part_long, records_done}
 use Rattle.listing_blocks.proofs.list_records.Statement.{statement}
 use Rattle.listing_blocks.proofs.list_records.Tie as tie
@@ -20,14 +20,14 @@ bytes-at : (c : tie.After-judged-part invariant-loop decreases-loop) → length 
 bytes-at c = let o = entry c.before in
     part_long o.args.block.now c.before.before.loop.i c.judged-part.ensures o.pre.2 (omega (arith, o.pre.3))
 
-pub list-records-spec : {M : Type 1} → statement M
-list-records-spec = tie.close (tie.spec invariant-loop decreases-loop (λ c. search needs) (λ c κs. search needs)
+pub list_records_spec : {M : Type 1} → statement M
+list_records_spec = tie.close (tie.spec invariant-loop decreases-loop (λ c. search rules) (λ c κs. search rules)
     (λ c. (omega arith, listed_start c.before.before.before.before.before.before.requires.5 c.before.put-figures.ensures refl))
     (λ c κs. omega (arith, (entry c).requires)) (λ c κs. c.before.before.before.before.loop.invariant.1.ready)
     (λ c. omega (arith, c.before.before.before.before.before.before.loop.invariant.1))
     (λ c κs. omega (arith, c.before.before.before.before.before.before.loop.invariant.1))
     (λ c. let l = c.before.before.before.before.before.before.before.before.before in
-    omega (arith, (entry l).requires, l.loop-test.true)) (λ c. search needs)
+    omega (arith, (entry l).requires, l.loop-test.true)) (λ c. search rules)
     (λ c. omega (arith, c.before.before.before.before.put-figures-if.ensures.1.1))
     (λ c. simp length-take (omega (arith, c.before.before.before.before.before.put-figures-if.ensures.1.1)))
     (λ c κs. let f = c.before.before.before.before.before in let j = f.before.before.before.before.before in let b = bytes-at j in

@@ -1,5 +1,5 @@
 -- `listing_journal::list` meets its contract. Assumes nothing.
-use Rattle.wire.proofs.Prelude.{◌∙◌, ◌≡◌, arith, length, length-replicate, length-take-le, lit≤, needs, not-false, not-true, refl, sym}
+use Rattle.wire.proofs.Prelude.{◌∙◌, ◌≡◌, arith, length, length-replicate, length-take-le, lit≤, rules, not-false, not-true, refl, sym}
 use Rattle.wire.proofs.Prelude.{take, ℕ}
 use Rattle.listing_journal.proofs.Begun.{Begun, listed_all, listed_alone, long_as, room_in, started}
 use Rattle.rules.proofs.Lists.{never_both_tests}
@@ -25,10 +25,10 @@ begun-at c =
       stops = r.ensures.1.1.0;
     }
 
-pub list-spec : {M : Type 1} → statement M
-list-spec = tie.close (tie.spec (λ c. sym (length-replicate {A = ℕ} 1024 0)) (λ c κs. search needs) (λ c. search needs) (λ c. search needs)
+pub list_spec : {M : Type 1} → statement M
+list_spec = tie.close (tie.spec (λ c. sym (length-replicate {A = ℕ} 1024 0)) (λ c κs. search rules) (λ c. search rules) (λ c. search rules)
     (λ c. sym (length-replicate {A = ℕ} 114688 0)) (λ c κs. (room_in 114688 256 (lit≤ tt), refl)) (λ c. (begun-at c.before).fits)
-    (λ c. sym (length-take-le _ _ (begun-at c.before.before).fits)) (λ c κs. search needs) (λ c κs. search needs)
+    (λ c. sym (length-take-le _ _ (begun-at c.before.before).fits)) (λ c κs. search rules) (λ c κs. search rules)
     (λ c. listed_alone (begun-at c.before.before.before.before.before) c.before.before.write-all.result
     c.before.opening-alone.ensures (λ w g. never_both_tests (sym w ∙ not-true _ c.if1.true)))
     (λ c. listed_alone (begun-at c.before.before.before.before.before.before) c.before.before.before.write-all.result

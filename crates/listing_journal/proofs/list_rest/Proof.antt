@@ -1,5 +1,5 @@
 -- `listing_journal::list_rest` meets its contract. Assumes nothing.
-use Rattle.wire.proofs.Prelude.{◌∙◌, arith, needs, not-false, not-true, sym}
+use Rattle.wire.proofs.Prelude.{◌∙◌, arith, rules, not-false, not-true, sym}
 use Rattle.listing.specs.Listing.{opened_progress}
 use Rattle.listing_journal.proofs.Turning.{Turns, ended_from, turns_end, turns_next, turns_start}
 use Rattle.listing_journal.proofs.list_rest.Statement.{statement}
@@ -12,8 +12,8 @@ invariant-loop source target input₀ out₀ state₀ index₀ last₀ turns₀ 
 abbrev decreases-loop : tie.decreases-loop
 decreases-loop source target input₀ out₀ state₀ index₀ last₀ turns₀ input out state index last turns = turns
 
-pub list-rest-spec : {M : Type 1} → statement M
-list-rest-spec = tie.close (tie.spec invariant-loop decreases-loop (λ c κs. search needs)
+pub list_rest_spec : {M : Type 1} → statement M
+list_rest_spec = tie.close (tie.spec invariant-loop decreases-loop (λ c κs. search rules)
     (λ c. let o = c.before.before.before.before.requires in turns_start c.no-turn.ensures o.0 o.1 o.2)
     (λ c. let l = c.before.before.before.before in l.loop.invariant.input_long ∙ sym l.before.before.before.before.before.requires.0)
     (λ c. let l = c.before.before.before.before in l.loop.invariant.out_long ∙ sym l.before.before.before.before.before.requires.1)

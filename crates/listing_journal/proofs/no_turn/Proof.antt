@@ -3,5 +3,5 @@ use borrow.Author.Rules.{rules}
 use Rattle.listing_journal.proofs.no_turn.Statement.{statement}
 use Rattle.listing_journal.proofs.no_turn.Tie as tie
 
-pub no-turn-spec : {M : Type 1} → statement M
-no-turn-spec = tie.close (tie.spec (λ c κs. search rules) (λ c. rw c.first-cursor.ensures))
+pub no_turn_spec : {M : Type 1} → statement M
+no_turn_spec = tie.close (tie.spec (λ c κs. search rules) (λ c. rw c.first-cursor.ensures))

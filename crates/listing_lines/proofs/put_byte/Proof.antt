@@ -4,5 +4,5 @@ use Rattle.listing_lines.proofs.Puts.{put_one}
 use Rattle.listing_lines.proofs.put_byte.Statement.{statement}
 use Rattle.listing_lines.proofs.put_byte.Tie as tie
 
-pub put-byte-spec : {M : Type 1} → statement M
-put-byte-spec = tie.close (tie.spec (λ c. search rules) (λ c. search rules) (λ c. search rules) (λ c. put_one _ _ _ (search rules)))
+pub put_byte_spec : {M : Type 1} → statement M
+put_byte_spec = tie.close (tie.spec (λ c. search rules) (λ c. search rules) (λ c. search rules) (λ c. put_one _ _ _ (search rules)))

@@ -1,5 +1,5 @@
 -- `listing_lines::put_bytes` meets its contract. Assumes nothing.
-use Rattle.wire.proofs.Prelude.{◌+◌, ◌-◌, ◌≤◌, add-zero, arith, length, needs, take, take_all}
+use Rattle.wire.proofs.Prelude.{◌+◌, ◌-◌, ◌≤◌, add-zero, arith, length, rules, take, take_all}
 use Rattle.listing_lines.proofs.Puts.{put_next, put_none}
 use Rattle.listing_lines.specs.Lines.{TextPut}
 use Rattle.listing_lines.proofs.put_bytes.Statement.{statement}
@@ -11,10 +11,10 @@ invariant-loop out₀ o text n i₀ out i = (i ≤ length text) × TextPut out�
 abbrev decreases-loop : tie.decreases-loop
 decreases-loop out₀ o text n i₀ out i = length text - i
 
-pub put-bytes-spec : {M : Type 1} → statement M
-put-bytes-spec = tie.close (tie.spec invariant-loop decreases-loop (λ c. (omega arith, rw add-zero (put_none _ _)))
-    (λ c. search needs) (λ c. search needs) (λ c. search needs) (λ c. search needs) (λ c. search needs)
+pub put_bytes_spec : {M : Type 1} → statement M
+put_bytes_spec = tie.close (tie.spec invariant-loop decreases-loop (λ c. (omega arith, rw add-zero (put_none _ _)))
+    (λ c. search rules) (λ c. search rules) (λ c. search rules) (λ c. search rules) (λ c. search rules)
     (λ c. let l = c.before.before.loop in
     let n = put_next c.before.before.before.args.text.now l.i (omega arith) (omega arith) l.invariant.1 in (omega arith, n))
-    (λ c. search needs) (λ c. search needs)
+    (λ c. search rules) (λ c. search rules)
     (λ c. rw (take_all c.before.loop.i c.before.before.args.text.now (omega arith)) at c.before.loop.invariant.1))

@@ -1,5 +1,5 @@
 -- `listing_lines::put_number` meets its contract. Assumes nothing.
-use Rattle.wire.proofs.Prelude.{◌∙◌, ◌≡◌, ap, arith, drop, needs, take, ℕ}
+use Rattle.wire.proofs.Prelude.{◌∙◌, ◌≡◌, ap, arith, drop, rules, take, ℕ}
 use Rattle.wire.proofs.Lists.{bytes_each}
 use Rattle.wire.proofs.Numbers.{bytes_field}
 use Rattle.wire.specs.BigEndian.{bytes_of}
@@ -18,6 +18,6 @@ returns c =
     d.digits.ensures ∙ ap (λ (x : ℕ). hexadecimal (bytes_of 8 x)) d.before.u64-at.ensures ∙ ap hexadecimal f in
     rw t at c.before.before.put-bytes.ensures
 
-pub put-number-spec : {M : Type 1} → statement M
-put-number-spec = tie.close (tie.spec (λ c κs. search needs) (λ c κs. search needs) (λ c. search needs)
-    (λ c κs. search needs) (λ c. search needs) returns)
+pub put_number_spec : {M : Type 1} → statement M
+put_number_spec = tie.close (tie.spec (λ c κs. search rules) (λ c κs. search rules) (λ c. search rules)
+    (λ c κs. search rules) (λ c. search rules) returns)

@@ -1,5 +1,5 @@
 -- `listing_opening::list_opening` meets its contract. Assumes nothing.
-use Rattle.wire.proofs.Prelude.{List, ◌+◌, ◌∙◌, ◌≡◌, ◌≤◌, ap, arith, length, length-take-le, needs, sym, ℕ}
+use Rattle.wire.proofs.Prelude.{List, ◌+◌, ◌∙◌, ◌≡◌, ◌≤◌, ap, arith, length, length-take-le, rules, sym, ℕ}
 use Rattle.journal_blocks.specs.Blocks.{balances_of, stated_count, tariff_in}
 use Rattle.journal_reader.specs.Judged.{opening_of}
 use Rattle.listing_lines.proofs.Puts.{header_short}
@@ -49,17 +49,17 @@ refusal-at c =
     c.first_row.ensures.0
     ∙ same_opening pair_opening_refusal a.tariff_is a.balances_are (far_at c.before.before.before.before.before.before.before).balances_are
 
-pub list-opening-spec : {M : Type 1} → statement M
-list-opening-spec = tie.close (tie.spec (λ c κs. search needs) (λ c κs. search needs) (λ c. search needs) (λ c. search needs)
-    (λ c κs. search needs) (λ c. search needs) (λ c κs. room_at c.before.before.before.before.before.before.before)
-    (λ c κs. search needs) (λ c. search needs)
+pub list_opening_spec : {M : Type 1} → statement M
+list_opening_spec = tie.close (tie.spec (λ c κs. search rules) (λ c κs. search rules) (λ c. search rules) (λ c. search rules)
+    (λ c κs. search rules) (λ c. search rules) (λ c κs. room_at c.before.before.before.before.before.before.before)
+    (λ c κs. search rules) (λ c. search rules)
     (λ c. let f = c.before.before.before in let n = f.before in let t = n.before.before in let b = t.before.before in
     let h = b.before.before.before in let r = refused (home_of h) 0 0 (omega arith) b.opening-balances.ensures
     t.enum-told2.given.1 n.number.ensures in let e = c.stopped.ensures in fault_leaves (home_of h) (far_of h) c.stopped.result
-    _ 0 (at_home (home_of h) (far_of h) r.0 r.1) h.put-header.ensures f.put-fault.ensures e.0 e.1) (λ c κs. search needs)
-    (λ c. search needs) (λ c. search needs) (λ c κs. search needs) (λ c. search needs)
-    (λ c κs. room_at c.before.before.before.before.before.before.before.before.before.before) (λ c κs. search needs)
-    (λ c. search needs)
+    _ 0 (at_home (home_of h) (far_of h) r.0 r.1) h.put-header.ensures f.put-fault.ensures e.0 e.1) (λ c κs. search rules)
+    (λ c. search rules) (λ c. search rules) (λ c κs. search rules) (λ c. search rules)
+    (λ c κs. room_at c.before.before.before.before.before.before.before.before.before.before) (λ c κs. search rules)
+    (λ c. search rules)
     (λ c. let f = c.before.before.before in let n = f.before in let t = n.before.before in let b = t.before.before in
     let h = home_at b.before in let o = b.before.before.before.before.before.before in let r = refused (far_of o) 1 _ (omega arith)
     (b.opening-balances2.ensures ∙ ap (opening_of (far_of o) 1) h.count_is) t.enum-told4.given.1 n.number2.ensures in
@@ -69,9 +69,9 @@ list-opening-spec = tie.close (tie.spec (λ c κs. search needs) (λ c κs. sear
     (λ c. sym (length-take-le _ _ (home_at c.before.before.before.before.before.before.before).fits))
     (λ c. (far_at c.before.before.before.before).fits) (λ c. sym (length-take-le _ _ (far_at c.before.before.before.before.before).fits))
     (λ c κs. let h = headed c.before.before.before.before.before.before in h.before.before.before.before.before.pre.1)
-    (λ c. search needs)
+    (λ c. search rules)
     (λ c κs. let h = headed c.before.before.before.before.before.before.before.before.before.before.before in room_at h)
-    (λ c κs. search needs)
+    (λ c κs. search rules)
     (λ c. let f = c.before.before.before in
     let h = headed f.before.before.before.before.before.before.before.before.before.before.before.before in
     f.put-fault3.ensures.size ∙ h.put-header.ensures.size)

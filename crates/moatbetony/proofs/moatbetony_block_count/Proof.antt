@@ -3,6 +3,6 @@ use borrow.Author.Rules.{rules}
 use Rattle.moatbetony.proofs.moatbetony_block_count.Statement.{statement}
 use Rattle.moatbetony.proofs.moatbetony_block_count.Tie as tie
 
-pub moatbetony-block-count-spec : {M : Type 1} → statement M
-moatbetony-block-count-spec = tie.close (tie.spec (λ c κs. search rules) (λ c κs. search rules)
+pub moatbetony_block_count_spec : {M : Type 1} → statement M
+moatbetony_block_count_spec = tie.close (tie.spec (λ c κs. search rules) (λ c κs. search rules)
     (λ c. rw (c.plain.ensures, c.before.item_count.ensures)))

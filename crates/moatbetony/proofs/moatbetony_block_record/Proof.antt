@@ -1,5 +1,5 @@
 -- `moatbetony::moatbetony_block_record` meets its contract. Assumes nothing.
-use Rattle.wire.proofs.Prelude.{◌∙◌, ◌≡◌, arith, needs, sym, ℕ}
+use Rattle.wire.proofs.Prelude.{◌∙◌, ◌≡◌, arith, rules, sym, ℕ}
 use Rattle.answers.proofs.Answers.{passed_zero}
 use Rattle.journal_reader.proofs.Judging.{place_facts}
 use Rattle.journal_reader.specs.Judged.{record_refusal}
@@ -15,9 +15,9 @@ refusal c = let a = c.before.before.args in record_refusal a.block.now a.number 
 none-at : (c : tie.After-enum-told) → refusal c.before.before ≡ 0
 none-at c = passed_zero (refusal c.before.before) _ (sym c.before.before.judge-record.ensures ∙ c.enum_told.given.1)
 
-pub moatbetony-block-record-spec : {M : Type 1} → statement M
-moatbetony-block-record-spec = tie.close (tie.spec (λ c κs. search needs) (λ c. search needs) (λ c. search needs) (λ c κs. search needs)
+pub moatbetony_block_record_spec : {M : Type 1} → statement M
+moatbetony_block_record_spec = tie.close (tie.spec (λ c κs. search rules) (λ c. search rules) (λ c. search rules) (λ c κs. search rules)
     (λ c. part_refused _ _ _ _ c.plain.ensures c.before.before.before.judge-record.ensures c.before.enum-told2.given.1)
-    (λ c κs. search needs) (λ c. omega (arith, (place_facts _ _ _ _ (none-at c.before)).low))
+    (λ c κs. search rules) (λ c. omega (arith, (place_facts _ _ _ _ (none-at c.before)).low))
     (λ c. omega (arith, (place_facts _ _ _ _ (none-at c.before)).low))
     (λ c. part_passed _ _ _ _ c.plain2.ensures c.before.before.before.judge-record.ensures (none-at c.before)))

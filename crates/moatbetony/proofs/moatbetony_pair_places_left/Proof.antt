@@ -3,6 +3,6 @@ use borrow.Author.Rules.{rules}
 use Rattle.moatbetony.proofs.moatbetony_pair_places_left.Statement.{statement}
 use Rattle.moatbetony.proofs.moatbetony_pair_places_left.Tie as tie
 
-pub moatbetony-pair-places-left-spec : {M : Type 1} → statement M
-moatbetony-pair-places-left-spec = tie.close (tie.spec (λ c κs. search rules) (λ c κs. search rules)
+pub moatbetony_pair_places_left_spec : {M : Type 1} → statement M
+moatbetony_pair_places_left_spec = tie.close (tie.spec (λ c κs. search rules) (λ c κs. search rules)
     (λ c. rw (c.plain.ensures, c.before.places-left.ensures)))

@@ -2,7 +2,7 @@
 use Rattle.pair_core.proofs.Accept.{sound_of}
 use Rattle.pair_core.proofs.Ledgers.{accounts_on_lem}
 use Rattle.pair_core.specs.Layout.{accounts_on}
-use Rattle.wire.proofs.Prelude.{◌∙◌, ap, arith, needs, sym}
+use Rattle.wire.proofs.Prelude.{◌∙◌, ap, arith, rules, sym}
 use Rattle.pair_core.proofs.accounts_on.Statement.{statement}
 use Rattle.pair_core.proofs.accounts_on.Tie as tie
 
@@ -18,5 +18,5 @@ returns c =
     let h = sound_of s o.requires in
     ap (accounts_on s) c.before.ledger-index.ensures.0 ∙ sym (accounts_on_lem s h.long h.bounds o.args.l)
 
-pub accounts-on-spec : {M : Type 1} → statement M
-accounts-on-spec = tie.close (tie.spec (λ c κs. search needs) (λ c. search needs) (λ c. search needs) shared-slice-read-result returns)
+pub accounts_on_spec : {M : Type 1} → statement M
+accounts_on_spec = tie.close (tie.spec (λ c κs. search rules) (λ c. search rules) (λ c. search rules) shared-slice-read-result returns)

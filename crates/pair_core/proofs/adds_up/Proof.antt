@@ -1,5 +1,5 @@
 -- `pair_core::adds_up` meets its contract. Assumes nothing.
-use Rattle.wire.proofs.Prelude.{◌*◌, ◌+◌, ◌<◌, ◌^◌, arith, needs}
+use Rattle.wire.proofs.Prelude.{◌*◌, ◌+◌, ◌<◌, ◌^◌, arith, rules}
 use Rattle.pair_core.proofs.Ledgers.{PairBounds, accounts_fit, bounds_of}
 use Rattle.pair_core.specs.Layout.{accounts_on, count_on, pair_supply_of}
 use Rattle.pair_core.specs.Testing.{balance_sum, flow_sum, sums_agree}
@@ -124,7 +124,7 @@ returns-2 c =
     let received = received_is d in
     low_compared _ _ _ _ sent.low_fits received.low_fits (added_value sent) (added_value received) c.before.before.if1.false
 
-pub adds-up-spec : {M : Type 1} → statement M
-adds-up-spec = tie.close (tie.spec (λ c. search needs) add-balances-requires (λ c. search needs) (λ c. search needs) (λ c. search needs)
-    (λ c. search needs) add-balances-requires-2 add-add-halves add-add-halves-2 add-halves-requires (λ c. search needs)
-    (λ c κs. search needs) add-add-halves-3 add-add-halves-4 add-halves-requires-2 returns returns-2)
+pub adds_up_spec : {M : Type 1} → statement M
+adds_up_spec = tie.close (tie.spec (λ c. search rules) add-balances-requires (λ c. search rules) (λ c. search rules) (λ c. search rules)
+    (λ c. search rules) add-balances-requires-2 add-add-halves add-add-halves-2 add-halves-requires (λ c. search rules)
+    (λ c κs. search rules) add-add-halves-3 add-add-halves-4 add-halves-requires-2 returns returns-2)

@@ -1,5 +1,5 @@
 -- `pair_core::crossings_on` meets its contract. Assumes nothing.
-use Rattle.wire.proofs.Prelude.{◌-◌, ◌<◌, arith, needs}
+use Rattle.wire.proofs.Prelude.{◌-◌, ◌<◌, arith, rules}
 use Rattle.pair_core.proofs.Ledgers.{bounds_of, index_within, records_within}
 use Rattle.pair_core.proofs.crossings_on.Statement.{statement}
 use Rattle.pair_core.proofs.crossings_on.Tie as tie
@@ -19,7 +19,7 @@ add-crossings-requires c κs =
       omega arith,
     )
 
-pub crossings-on-spec : {M : Type 1} → statement M
-crossings-on-spec = tie.close (tie.spec (λ c. search needs) (λ c. search needs) (λ c. search needs) (λ c. search needs)
-    (λ c. search needs) (λ c. search needs) (λ c. search needs) (λ c. search needs) (λ c. search needs) (λ c. search needs)
-    add-crossings-requires (λ c. search needs))
+pub crossings_on_spec : {M : Type 1} → statement M
+crossings_on_spec = tie.close (tie.spec (λ c. search rules) (λ c. search rules) (λ c. search rules) (λ c. search rules)
+    (λ c. search rules) (λ c. search rules) (λ c. search rules) (λ c. search rules) (λ c. search rules) (λ c. search rules)
+    add-crossings-requires (λ c. search rules))

@@ -1,5 +1,5 @@
 -- `pair_core::is_accepted` meets its contract. Assumes nothing.
-use Rattle.wire.proofs.Prelude.{◌<◌, ◌^◌, ◌∙◌, ◌≡◌, arith, eq-eqb, get_or, length, ne_eqb, needs, not-false, not-true, refl, sym, true, ℕ}
+use Rattle.wire.proofs.Prelude.{◌<◌, ◌^◌, ◌∙◌, ◌≡◌, arith, eq-eqb, get_or, length, ne_eqb, rules, not-false, not-true, refl, sym, true, ℕ}
 use Rattle.pair_core.proofs.Accept.{accepts_is, both_indexed, second_empty, tests_refused, tests_of}
 use Rattle.pair_core.proofs.Ledgers.{bounds_of}
 use Rattle.pair_core.specs.Layout.{accepts_pair, count_on, index_on, pair_bounds, records_start}
@@ -160,8 +160,8 @@ returns-9 c =
     ∙ accepts_is s (small_at d.before.before.before.before.before.before.before.before.before.before.before.before.before.before.before.before.before.before) in
     (e, (λ q. record { accepted = sym e ∙ q; index_long = long-at d ∙ o.pre.0; indexed = indexed-at d }, long-at d))
 
-pub is-accepted-spec : {M : Type 1} → statement M
-is-accepted-spec = tie.close (tie.spec returns (λ c κs. search needs) returns-2 is-zero-beyond-requires returns-3
-    is-zero-beyond-requires-2 returns-4 is-held-requires (λ c. search needs) returns-5 is-held-requires-2 (λ c. search needs) returns-6
-    crossings-on-requires (λ c. search needs) returns-7 crossings-on-requires-2 same-length-4 returns-8 adds-up-requires
+pub is_accepted_spec : {M : Type 1} → statement M
+is_accepted_spec = tie.close (tie.spec returns (λ c κs. search rules) returns-2 is-zero-beyond-requires returns-3
+    is-zero-beyond-requires-2 returns-4 is-held-requires (λ c. search rules) returns-5 is-held-requires-2 (λ c. search rules) returns-6
+    crossings-on-requires (λ c. search rules) returns-7 crossings-on-requires-2 same-length-4 returns-8 adds-up-requires
     same-length-5 returns-9)

@@ -4,7 +4,7 @@ use Rattle.rules.specs.PairValidator.{supply_allowed}
 use Rattle.rules.specs.Rules.{Tariff}
 use Rattle.tariffs.specs.Tariffs.{tariff_allowed}
 use Rattle.wire.proofs.Lists.{every_not, every_one, every_skip}
-use Rattle.wire.proofs.Prelude.{◌∙◌, ap, le-leb, lt-leb, needs, not-false, not-true, sym}
+use Rattle.wire.proofs.Prelude.{◌∙◌, ap, le-leb, lt-leb, rules, not-false, not-true, sym}
 use Rattle.pair_core.proofs.is_bounded.Statement.{statement}
 use Rattle.pair_core.proofs.is_bounded.Tie as tie
 
@@ -45,7 +45,7 @@ returns-6 c =
     ∙ every_one _
     ∙ ap (λ (t : Tariff). tariff_allowed t (accounts_on s 0)) (sym c.before.before.tariff-on.ensures))
 
-pub is-bounded-spec : {M : Type 1} → statement M
-is-bounded-spec = tie.close (tie.spec (λ c. search needs) (λ c κs. search needs) returns (λ c. search needs) (λ c. search needs)
-    (λ c. search needs) (λ c κs. search needs) returns-2 (λ c. search needs) returns-3 (λ c. search needs) (λ c. search needs)
-    (λ c. search needs) returns-4 (λ c. search needs) returns-5 (λ c κs. search needs) (λ c. search needs) (λ c κs. search needs) returns-6)
+pub is_bounded_spec : {M : Type 1} → statement M
+is_bounded_spec = tie.close (tie.spec (λ c. search rules) (λ c κs. search rules) returns (λ c. search rules) (λ c. search rules)
+    (λ c. search rules) (λ c κs. search rules) returns-2 (λ c. search rules) returns-3 (λ c. search rules) (λ c. search rules)
+    (λ c. search rules) returns-4 (λ c. search rules) returns-5 (λ c κs. search rules) (λ c. search rules) (λ c κs. search rules) returns-6)

@@ -1,5 +1,5 @@
 -- `pair_core::is_held` meets its contract. Assumes nothing.
-use Rattle.wire.proofs.Prelude.{◌+◌, ◌-◌, arith, needs}
+use Rattle.wire.proofs.Prelude.{◌+◌, ◌-◌, arith, rules}
 use Rattle.pair_core.proofs.Ledgers.{accounts_fit, bounds_of, index_within, records_within}
 use Rattle.pair_core.specs.Layout.{index_on}
 use Rattle.table.proofs.Growing.{kept_longer}
@@ -30,7 +30,7 @@ returns c =
     let m = (bounds_of o.args.s.now o.requires.1).room o.args.l o.requires.3 in
     (h.0, (h.1.0, kept_longer (index_on o.args.l + index_length) (omega (arith, m)) h.1.1))
 
-pub is-held-spec : {M : Type 1} → statement M
-is-held-spec = tie.close (tie.spec (λ c. search needs) (λ c. search needs) (λ c. search needs) (λ c. search needs) (λ c. search needs)
-    (λ c. search needs) (λ c. search needs) (λ c. search needs) (λ c. search needs) (λ c. search needs) (λ c. search needs)
-    (λ c. search needs) hold-indexed-requires (λ c. search needs) returns)
+pub is_held_spec : {M : Type 1} → statement M
+is_held_spec = tie.close (tie.spec (λ c. search rules) (λ c. search rules) (λ c. search rules) (λ c. search rules) (λ c. search rules)
+    (λ c. search rules) (λ c. search rules) (λ c. search rules) (λ c. search rules) (λ c. search rules) (λ c. search rules)
+    (λ c. search rules) hold-indexed-requires (λ c. search rules) returns)

@@ -1,5 +1,5 @@
 -- `pair_core::is_zero_beyond` meets its contract. Assumes nothing.
-use Rattle.wire.proofs.Prelude.{◌≤◌, arith, needs}
+use Rattle.wire.proofs.Prelude.{◌≤◌, arith, rules}
 use Rattle.ledgers.specs.Limits.{account_limit}
 use Rattle.pair_core.proofs.Ledgers.{accounts_fit, bounds_of}
 use Rattle.pair_core.specs.Layout.{accounts_on, zero_beyond}
@@ -14,7 +14,7 @@ returns : tie.Need-returns
 unfolding zero_beyond
 returns c = c.are-zero.ensures
 
-pub is-zero-beyond-spec : {M : Type 1} → statement M
-is-zero-beyond-spec = tie.close (tie.spec (λ c. search needs) (λ c. search needs) (λ c. search needs) (λ c. search needs)
-    (λ c. search needs) (λ c. omega (arith, fits-at c.before.before, c.before.before.requires.2)) (λ c. fits-at c.before.before)
+pub is_zero_beyond_spec : {M : Type 1} → statement M
+is_zero_beyond_spec = tie.close (tie.spec (λ c. search rules) (λ c. search rules) (λ c. search rules) (λ c. search rules)
+    (λ c. search rules) (λ c. omega (arith, fits-at c.before.before, c.before.before.requires.2)) (λ c. fits-at c.before.before)
     (λ c κs. omega (arith, fits-at c.before.before, c.before.before.requires.0, c.before.before.requires.2)) returns)

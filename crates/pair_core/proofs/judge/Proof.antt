@@ -7,7 +7,7 @@ use Rattle.pair_core.specs.Layout.{count_on, pair_view_of, records_start}
 use Rattle.places.specs.OverPlaces.{any_at}
 use Rattle.rules.specs.Rules.{accounts_of}
 use Rattle.table.specs.Table.{used_at}
-use Rattle.wire.proofs.Prelude.{Bool, ◌∙◌, ap, arith, needs}
+use Rattle.wire.proofs.Prelude.{Bool, ◌∙◌, ap, arith, rules}
 use Rattle.pair_core.proofs.judge.Statement.{statement}
 use Rattle.pair_core.proofs.judge.Tie as tie
 
@@ -54,9 +54,9 @@ returns c =
     c.before.before.before.is-receiving.ensures)
     c.first-refusals.ensures
 
-pub judge-spec : {M : Type 1} → statement M
-judge-spec = tie.close (tie.spec (λ c κs. search needs) (λ c κs. search needs) (λ c. search needs) (λ c. search needs)
-    shared-slice-read-count (λ c κs. search needs) (λ c κs. search needs) (λ c κs. search needs) (λ c κs. search needs)
-    (λ c κs. search needs) (λ c κs. search needs) (λ c κs. search needs) (λ c. search needs) (λ c. search needs)
-    is-used-requires (λ c κs. search needs)
-    (λ c κs. search needs) returns)
+pub judge_spec : {M : Type 1} → statement M
+judge_spec = tie.close (tie.spec (λ c κs. search rules) (λ c κs. search rules) (λ c. search rules) (λ c. search rules)
+    shared-slice-read-count (λ c κs. search rules) (λ c κs. search rules) (λ c κs. search rules) (λ c κs. search rules)
+    (λ c κs. search rules) (λ c κs. search rules) (λ c κs. search rules) (λ c. search rules) (λ c. search rules)
+    is-used-requires (λ c κs. search rules)
+    (λ c κs. search rules) returns)

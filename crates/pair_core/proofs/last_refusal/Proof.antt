@@ -1,5 +1,5 @@
 -- `pair_core::last_refusal` meets its contract. Assumes nothing.
-use Rattle.wire.proofs.Prelude.{Bool, ◌-◌, ◌<◌, ◌^◌, ◌∙◌, ◌≡◌, ap, arith, get_or, needs, not, refl, sym, ℕ}
+use Rattle.wire.proofs.Prelude.{Bool, ◌-◌, ◌<◌, ◌^◌, ◌∙◌, ◌≡◌, ap, arith, get_or, rules, not, refl, sym, ℕ}
 use Rattle.answers.specs.Answers.{refuse}
 use Rattle.ledgers.specs.Ledgers.{ledger_byte, ledger_of}
 use Rattle.pair_core.proofs.Accept.{PairSound, sound_of}
@@ -74,10 +74,10 @@ returns-2 c =
     ∙ ap (λ (m : ℕ). funds_at s (balances_start m) (accounts_on s m) (tariff_on s m).rate a.r) (ledger-at d.before)
     ∙ last_paid s a.r a.r.kind refl (sym d.is-receiving.ensures ∙ c.before.before.before.if1.false)
 
-pub last-refusal-spec : {M : Type 1} → statement M
-last-refusal-spec = tie.close (tie.spec (λ c κs. search needs) (λ c κs. search needs) (λ c κs. search needs) (λ c. search needs)
-    (λ c. search needs) (λ c. search needs)
-    (λ c. omega (arith, (sound-at c.before.before.before.before.before.before.before).long)) (λ c. search needs)
-    (λ c. search needs) is-backed-requires (λ c κs. search needs) returns
-    (λ c κs. (sound-at c.before.before.before.before.before.before).long) (λ c. search needs) (λ c. search needs) (λ c. search needs)
-    (λ c. search needs) shared-slice-read-funds-refusal funds-refusal-requires returns-2)
+pub last_refusal_spec : {M : Type 1} → statement M
+last_refusal_spec = tie.close (tie.spec (λ c κs. search rules) (λ c κs. search rules) (λ c κs. search rules) (λ c. search rules)
+    (λ c. search rules) (λ c. search rules)
+    (λ c. omega (arith, (sound-at c.before.before.before.before.before.before.before).long)) (λ c. search rules)
+    (λ c. search rules) is-backed-requires (λ c κs. search rules) returns
+    (λ c κs. (sound-at c.before.before.before.before.before.before).long) (λ c. search rules) (λ c. search rules) (λ c. search rules)
+    (λ c. search rules) shared-slice-read-funds-refusal funds-refusal-requires returns-2)

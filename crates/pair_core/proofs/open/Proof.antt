@@ -1,5 +1,5 @@
 -- `pair_core::open` meets its contract. Assumes nothing.
-use Rattle.wire.proofs.Prelude.{List, ◌∙◌, ◌≡◌, ◌≤◌, arith, length, needs, refl, sym, ℕ}
+use Rattle.wire.proofs.Prelude.{List, ◌∙◌, ◌≡◌, ◌≤◌, arith, length, rules, refl, sym, ℕ}
 use Rattle.answers.proofs.Answers.{instead_refused}
 use Rattle.ledgers.specs.Limits.{account_limit}
 use Rattle.pair_core.proofs.Opened.{opened_by_lem, opened_counts}
@@ -35,7 +35,7 @@ counts-at c = opened_counts (tariff_of c) (homes_at c) (fars_at c) (none-at c)
 
 copy-numbers-requires-2 : tie.Need-copy-numbers-requires-2
 copy-numbers-requires-2 c κs =
-    let n : length c.before.copy-numbers.new.1.1.0 ≡ pair_words = search needs in
+    let n : length c.before.copy-numbers.new.1.1.0 ≡ pair_words = search rules in
     omega (arith, counts-at c.before.before.before)
 
 returns-2 : tie.Need-returns-2
@@ -48,6 +48,6 @@ returns-2 c =
     )
 
 pub open_spec : {M : Type 1} → statement M
-open_spec = tie.close (tie.spec (λ c κs. search needs) returns (λ c κs. omega (arith, counts-at c.before)) (λ c. search needs)
-    copy-numbers-requires-2 (λ c. search needs) (λ c. search needs) (λ c. search needs) (λ c. search needs) (λ c. search needs) (λ c. search needs) (λ c. search needs)
+open_spec = tie.close (tie.spec (λ c κs. search rules) returns (λ c κs. omega (arith, counts-at c.before)) (λ c. search rules)
+    copy-numbers-requires-2 (λ c. search rules) (λ c. search rules) (λ c. search rules) (λ c. search rules) (λ c. search rules) (λ c. search rules) (λ c. search rules)
     returns-2)

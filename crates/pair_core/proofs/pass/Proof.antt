@@ -1,5 +1,5 @@
 -- `pair_core::pass` meets its contract. Assumes nothing.
-use Rattle.wire.proofs.Prelude.{List, ◌*◌, ◌+◌, ◌∙◌, ◌≡◌, ap, arith, needs, set, subst, sym, ℕ}
+use Rattle.wire.proofs.Prelude.{List, ◌*◌, ◌+◌, ◌∙◌, ◌≡◌, ap, arith, rules, set, subst, sym, ℕ}
 use Rattle.ledgers.specs.Ledgers.{ledger_byte, ledger_of}
 use Rattle.pair_core.proofs.Accept.{PairSound, sound_of}
 use Rattle.pair_core.proofs.Passing.{PairPasses, paid_fits, passes_of}
@@ -51,11 +51,11 @@ returns c =
     ∙ ap (pair_with s a.w a.r) (ledger-at d)
 
 pub pass_spec : {M : Type 1} → statement M
-pass_spec = tie.close (tie.spec (λ c κs. search needs) (λ c κs. search needs) (λ c. search needs) (λ c. search needs)
-    (λ c. search needs) (λ c κs. search needs) (λ c. search needs) (λ c. search needs) (λ c. search needs)
+pass_spec = tie.close (tie.spec (λ c κs. search rules) (λ c κs. search rules) (λ c. search rules) (λ c. search rules)
+    (λ c. search rules) (λ c κs. search rules) (λ c. search rules) (λ c. search rules) (λ c. search rules)
     (λ c. omega (arith, (passes_at c.before.before.before.before.before).room))
     (λ c.
     let d = c.before.before.before.before.before in
     omega (arith, (passes_at d).room, d.ledger-index.ensures.1))
-    store-requires (λ c. omega (arith, (passes_at c.before.before.before.before.before.before).room)) (λ c. search needs)
-    (λ c. search needs) (λ c. search needs) returns)
+    store-requires (λ c. omega (arith, (passes_at c.before.before.before.before.before.before).room)) (λ c. search rules)
+    (λ c. search rules) (λ c. search rules) returns)

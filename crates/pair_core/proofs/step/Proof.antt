@@ -8,7 +8,7 @@ use Rattle.records.specs.Records.{reading}
 use Rattle.records.specs.declared.Reading.TheVariants.{Read}
 use Rattle.rules.proofs.Parts.{ReadsAs, formed_as, step_refused}
 use Rattle.rules.specs.PairValidator.{pair_judge}
-use Rattle.wire.proofs.Prelude.{◌∙◌, ◌≡◌, ap, arith, needs, sym}
+use Rattle.wire.proofs.Prelude.{◌∙◌, ◌≡◌, ap, arith, rules, sym}
 use Rattle.pair_core.proofs.step.Statement.{statement}
 use Rattle.pair_core.proofs.step.Tie as tie
 
@@ -75,6 +75,6 @@ returns-3 c =
     step_leaves (start_at d).requires (read_at_lem (of_at d)) (passes_at d) (ledger-at l) c.before.before.pass.ensures c.add-number.ensures
 
 pub step_spec : {M : Type 1} → statement M
-step_spec = tie.close (tie.spec (λ c κs. search needs) (λ c. search needs) (λ c. search needs) returns
-    (λ c κs. (read_formed _ _ (reads_at c)).0) judge-requires returns-2 (λ c κs. search needs) (λ c κs. search needs) (λ c. search needs)
-    (λ c. search needs) (λ c. search needs) pass-requires (λ c. search needs) add-number-requires returns-3)
+step_spec = tie.close (tie.spec (λ c κs. search rules) (λ c. search rules) (λ c. search rules) returns
+    (λ c κs. (read_formed _ _ (reads_at c)).0) judge-requires returns-2 (λ c κs. search rules) (λ c κs. search rules) (λ c. search rules)
+    (λ c. search rules) (λ c. search rules) pass-requires (λ c. search rules) add-number-requires returns-3)

@@ -1,5 +1,5 @@
 -- `pair_core::take` meets its contract. Assumes nothing.
-use Rattle.wire.proofs.Prelude.{◌*◌, needs, not-false, refl}
+use Rattle.wire.proofs.Prelude.{◌*◌, rules, not-false, refl}
 use Rattle.pair_core.specs.Layout.{index_on, pair_words_checker}
 use Rattle.rules.proofs.Parts.{gives_one, gives_unaccepted}
 use Rattle.rules.specs.Calls.{one}
@@ -31,4 +31,4 @@ returns-2 c =
     e.1.0
 
 pub take_spec : {M : Type 1} → statement M
-take_spec = tie.close (tie.spec (λ c. search needs) is-accepted-requires returns step-requires (λ c κs. search needs) returns-2)
+take_spec = tie.close (tie.spec (λ c. search rules) is-accepted-requires returns step-requires (λ c κs. search rules) returns-2)

@@ -1,5 +1,5 @@
 -- `pair_core::take_list` meets its contract. Assumes nothing.
-use Rattle.wire.proofs.Prelude.{◌*◌, ◌-◌, arith, length, needs, refl}
+use Rattle.wire.proofs.Prelude.{◌*◌, ◌-◌, arith, length, rules, refl}
 use Rattle.pair_core.specs.Layout.{PairReady, index_on, pair_words_checker}
 use Rattle.rules.proofs.Parts.{Taking, gives_unaccepted, taking_end, taking_first, taking_next, taking_refused}
 use Rattle.rules.specs.Calls.{list}
@@ -53,7 +53,7 @@ loop-again c =
     taking_next g.before.before.loop.invariant g.part-end.ensures g.before.loop-test.true e.0 c.if2.false e.1.0
     e.1.1
 
-pub take-list-spec : {M : Type 1} → statement M
-take-list-spec = tie.close (tie.spec invariant-loop decreases-loop (λ c. search needs) is-accepted-requires returns loop-holds (λ c κs. search needs)
-    (λ c. search needs) (λ c. search needs) (λ c. search needs) (λ c κs. c.before.before.before.before.before.loop.invariant.ready)
-    returns-2 add-i (λ c. search needs) loop-again (λ c. taking_end c.before.loop.invariant (omega (arith, c.loop-test.false))))
+pub take_list_spec : {M : Type 1} → statement M
+take_list_spec = tie.close (tie.spec invariant-loop decreases-loop (λ c. search rules) is-accepted-requires returns loop-holds (λ c κs. search rules)
+    (λ c. search rules) (λ c. search rules) (λ c. search rules) (λ c κs. c.before.before.before.before.before.loop.invariant.ready)
+    returns-2 add-i (λ c. search rules) loop-again (λ c. taking_end c.before.loop.invariant (omega (arith, c.loop-test.false))))

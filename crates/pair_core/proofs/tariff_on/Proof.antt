@@ -1,5 +1,5 @@
 -- `pair_core::tariff_on` meets its contract. Assumes nothing.
-use Rattle.wire.proofs.Prelude.{List, ◌≡◌, ap, needs, refl, suc, sym, zero, ℕ}
+use Rattle.wire.proofs.Prelude.{List, ◌≡◌, ap, rules, refl, suc, sym, zero, ℕ}
 use Rattle.pair_core.specs.Layout.{tariff_on}
 use Rattle.tariffs.specs.Tariffs.{free}
 use Rattle.pair_core.proofs.tariff_on.Statement.{statement}
@@ -16,5 +16,5 @@ returns c = ap (tariff_on c.before.before.before.args.s.now) (sym c.before.befor
 returns-2 : tie.Need-returns-2
 returns-2 c = other-free c.before.args.s.now c.before.args.l c.if1.false
 
-pub tariff-on-spec : {M : Type 1} → statement M
-tariff-on-spec = tie.close (tie.spec (λ c. search needs) (λ c. search needs) returns returns-2)
+pub tariff_on_spec : {M : Type 1} → statement M
+tariff_on_spec = tie.close (tie.spec (λ c. search rules) (λ c. search rules) returns returns-2)

@@ -4,7 +4,7 @@ use Rattle.pair_core.proofs.Opened.{opened_counts}
 use Rattle.pair_core.specs.Layout.{pair_zero_words}
 use Rattle.pair_rows.proofs.Opened.{FirstRow, first_row}
 use Rattle.rules.specs.PairValidator.{pair_opening_refusal}
-use Rattle.wire.proofs.Prelude.{◌∙◌, ◌≡◌, arith, needs, refl, sym}
+use Rattle.wire.proofs.Prelude.{◌∙◌, ◌≡◌, arith, rules, refl, sym}
 use Rattle.pair_rows.proofs.first_row.Statement.{statement}
 use Rattle.pair_rows.proofs.first_row.Tie as tie
 
@@ -41,6 +41,6 @@ returns-2 c =
     let w = row_at c.before.before in
     (sym (none-at c.before.before.before), (λ e. (w.row, w.words), λ e. absurd (e refl)))
 
-pub first-row-spec : {M : Type 1} → statement M
-first-row-spec = tie.close (tie.spec open-requires returns
-    add-balances-requires (λ c. search needs) (λ c. (row_at c.before.before).fits) returns-2)
+pub first_row_spec : {M : Type 1} → statement M
+first_row_spec = tie.close (tie.spec open-requires returns
+    add-balances-requires (λ c. search rules) (λ c. (row_at c.before.before).fits) returns-2)

@@ -3,7 +3,7 @@ use Rattle.ledgers.specs.Ledgers.{ledger_of}
 use Rattle.pair_core.specs.Layout.{pair_supply_of, pair_words_checker}
 use Rattle.pair_rows.proofs.Rows.{RowMoves, read_or_refused, row_passed, row_refused, row_tells, row_after}
 use Rattle.places.specs.Amounts.{given_by, taken_by}
-use Rattle.wire.proofs.Prelude.{◌∙◌, ◌≡◌, needs, sym}
+use Rattle.wire.proofs.Prelude.{◌∙◌, ◌≡◌, rules, sym}
 use Rattle.pair_rows.proofs.next_row.Statement.{statement}
 use Rattle.pair_rows.proofs.next_row.Tie as tie
 
@@ -51,6 +51,6 @@ returns-3 c =
     ) (moves-at c.before.before.before.before).moves)
     e.1.0 e.1.1
 
-pub next-row-spec : {M : Type 1} → statement M
-next-row-spec = tie.close (tie.spec (λ c. search needs) (λ c κs. search needs) returns (λ c κs. search needs) (λ c. search needs)
-    (λ c. search needs) returns-2 (λ c κs. search needs) (λ c κs. search needs) (λ c κs. search needs) moved-row-requires returns-3)
+pub next_row_spec : {M : Type 1} → statement M
+next_row_spec = tie.close (tie.spec (λ c. search rules) (λ c κs. search rules) returns (λ c κs. search rules) (λ c. search rules)
+    (λ c. search rules) returns-2 (λ c κs. search rules) (λ c κs. search rules) (λ c κs. search rules) moved-row-requires returns-3)

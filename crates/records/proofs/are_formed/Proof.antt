@@ -5,8 +5,8 @@ use Rattle.wire.proofs.Lists.{not_held, same_tests}
 use Rattle.records.proofs.are_formed.Statement.{statement}
 use Rattle.records.proofs.are_formed.Tie as tie
 
-pub are-formed-spec : {M : Type 1} → statement M
-are-formed-spec = tie.close (tie.spec (λ c. not_held _ (λ h. omega (arith, formed_facts _ h)))
+pub are_formed_spec : {M : Type 1} → statement M
+are_formed_spec = tie.close (tie.spec (λ c. not_held _ (λ h. omega (arith, formed_facts _ h)))
     (λ c. not_held _ (λ h. omega (arith, formed_facts _ h))) (λ c. not_held _ (λ h. omega (arith, formed_facts _ h)))
     (λ c. not_held _ (λ h. omega (arith, formed_facts _ h))) (λ c. not_held _ (λ h. omega (arith, formed_facts _ h)))
     (λ c. not_held _ (λ h. omega (arith, formed_facts _ h))) (λ c. not_held _ (λ h. omega (arith, formed_facts _ h)))

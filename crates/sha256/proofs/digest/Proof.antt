@@ -1,5 +1,5 @@
 -- `sha256::digest` meets its contract. Assumes nothing.
-use Rattle.wire.proofs.Prelude.{List, ◌%◌, ◌*◌, ◌+◌, ◌/◌, ◌∙◌, ◌≡◌, ◌≤◌, ap, arith, drop, length, length-take-le, needs, sym, take, ℕ}
+use Rattle.wire.proofs.Prelude.{List, ◌%◌, ◌*◌, ◌+◌, ◌/◌, ◌∙◌, ◌≡◌, ◌≤◌, ap, arith, drop, length, length-take-le, rules, sym, take, ℕ}
 use Rattle.sha256.proofs.Padding.{block_count_lem, block_last, hashed_next}
 use Rattle.sha256.specs.Sha256.{block, hash_bytes, hashed, padded, sha256, zero_count}
 use Rattle.sha256.proofs.digest.Statement.{statement}
@@ -27,17 +27,17 @@ after_first c =
     let b = last_block c 0 (length m / 64) (omega arith) (omega arith) in
     hashed_next (padded m) (length m / 64) c.before.before.before.before.before.whole-blocks.ensures b c.compress.ensures
 
-pub digest-spec : {M : Type 1} → statement M
+pub digest_spec : {M : Type 1} → statement M
 unfolding sha256
-digest-spec = tie.close (tie.spec (λ c κs. search needs) (λ c κs. search needs) (λ c. search needs) (λ c. search needs) (λ c. search needs)
-    (λ c. search needs) (λ c κs. search needs) (λ c. search needs)
+digest_spec = tie.close (tie.spec (λ c κs. search rules) (λ c κs. search rules) (λ c. search rules) (λ c. search rules) (λ c. search rules)
+    (λ c. search rules) (λ c κs. search rules) (λ c. search rules)
     (λ c. sym (length-take-le 64 c.before.last-bytes.result (omega arith)))
-    (λ c κs. (length-take-le 64 c.before.before.last-bytes.result (omega arith), search needs)) (λ c κs. search needs) (λ c.
+    (λ c κs. (length-take-le 64 c.before.before.last-bytes.result (omega arith), search rules)) (λ c κs. search rules) (λ c.
     let p = c.before.before in
     let m = message p in
     let n : length m / 64 + 1 ≡ length (padded m) / 64 = omega (arith, block_count_lem m) in
     c.hash-bytes.ensures ∙ ap hash_bytes (after_first p ∙ ap (hashed (padded m)) n))
-    (λ c. search needs) (λ c. search needs) (λ c. search needs) (λ c κs. search needs) (λ c κs. search needs) (λ c.
+    (λ c. search rules) (λ c. search rules) (λ c. search rules) (λ c κs. search rules) (λ c κs. search rules) (λ c.
     let p = c.before.before.before.before.before.before in
     let m = message p in
     let n : length m / 64 + 1 + 1 ≡ length (padded m) / 64 = omega (arith, block_count_lem m) in

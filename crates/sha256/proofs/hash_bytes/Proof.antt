@@ -4,8 +4,8 @@ use Rattle.sha256.proofs.Padding.{bytes_of_words}
 use Rattle.sha256.proofs.hash_bytes.Statement.{statement}
 use Rattle.sha256.proofs.hash_bytes.Tie as tie
 
-pub hash-bytes-spec : {M : Type 1} → statement M
-hash-bytes-spec = tie.close (tie.spec (λ c κs. search rules) (λ c κs. search rules) (λ c κs. search rules) (λ c κs. search rules)
+pub hash_bytes_spec : {M : Type 1} → statement M
+hash_bytes_spec = tie.close (tie.spec (λ c κs. search rules) (λ c κs. search rules) (λ c κs. search rules) (λ c κs. search rules)
     (λ c κs. search rules) (λ c κs. search rules) (λ c κs. search rules) (λ c κs. search rules) (λ c. search rules) (λ c. search rules)
     (λ c. search rules) (λ c. search rules) (λ c. search rules) (λ c. search rules) (λ c. search rules) (λ c. search rules)
     (λ c. search rules) (λ c. search rules) (λ c. search rules) (λ c. search rules) (λ c. search rules) (λ c. search rules)

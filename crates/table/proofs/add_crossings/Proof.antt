@@ -1,5 +1,5 @@
 -- `table::add_crossings` meets its contract. Assumes nothing.
-use Rattle.wire.proofs.Prelude.{List, ◌%◌, ◌*◌, ◌+◌, ◌-◌, ◌/◌, ◌<◌, ◌^◌, ◌∙◌, ◌≡◌, ◌≤◌, ap, arith, eqb, needs, not-false, not-true, sym, ℕ}
+use Rattle.wire.proofs.Prelude.{List, ◌%◌, ◌*◌, ◌+◌, ◌-◌, ◌/◌, ◌<◌, ◌^◌, ◌∙◌, ◌≡◌, ◌≤◌, ap, arith, eqb, rules, not-false, not-true, sym, ℕ}
 use Rattle.wire.proofs.Prelude.{⊎_elim}
 use Rattle.places.proofs.ExactSums.{counted_most, halves_fit, halves_more, halves_none}
 use Rattle.places.proofs.OverPlaces.{all_end, all_here, all_on, sum_more, sum_none}
@@ -77,7 +77,7 @@ loop-again c =
     c.before.if1.branch
     in
     let b : amount_at a.words.now a.from l.i < 2 ^ 64 = omega (arith, g.shared-slice-known.given (a.from + 4 * l.i + 2)) in (
-      search needs,
+      search rules,
       l.invariant.1 ∙ all_on _ l.i a.m t.loop-test.true held,
       record {
         sent = flow-more 2 a.words.now a.from l.i _ _ _ _ w.result b w.ensures l.invariant.2.sent e.0;
@@ -92,6 +92,6 @@ returns-2 c =
     let z : l.i - 0 ≡ a.m = omega (arith, l.invariant.0, c.loop-test.false) in
     (sym (l.invariant.1 ∙ all_end _ l.i a.m (omega (arith, c.loop-test.false))), λ h. rw z at l.invariant.2)
 
-pub add-crossings-spec : {M : Type 1} → statement M
-add-crossings-spec = tie.close (tie.spec invariant-loop decreases-loop loop-holds (λ c κs. search needs) (λ c κs. search needs)
-    (λ c κs. search needs) (λ c κs. search needs) returns add-flow-requires (λ c. search needs) (λ c. search needs) loop-again returns-2)
+pub add_crossings_spec : {M : Type 1} → statement M
+add_crossings_spec = tie.close (tie.spec invariant-loop decreases-loop loop-holds (λ c κs. search rules) (λ c κs. search rules)
+    (λ c κs. search rules) (λ c κs. search rules) returns add-flow-requires (λ c. search rules) (λ c. search rules) loop-again returns-2)

@@ -1,5 +1,5 @@
 -- `table::add_flow` meets its contract. Assumes nothing.
-use Rattle.wire.proofs.Prelude.{◌%◌, ◌+◌, ◌/◌, ◌^◌, ◌∙◌, ◌≡◌, ap, arith, eq-eqb, ne_eqb, needs, ℕ}
+use Rattle.wire.proofs.Prelude.{◌%◌, ◌+◌, ◌/◌, ◌^◌, ◌∙◌, ◌≡◌, ap, arith, eq-eqb, ne_eqb, rules, ℕ}
 use Rattle.places.proofs.OverPlaces.{chosen, not_chosen}
 use Rattle.table.proofs.add_flow.Statement.{statement}
 use Rattle.table.proofs.add_flow.Tie as tie
@@ -36,5 +36,5 @@ returns-3 c = (
   same _ _ _ (not_chosen _ _ _ (ne_eqb _ _ c.if2.false)),
 )
 
-pub add-flow-spec : {M : Type 1} → statement M
-add-flow-spec = tie.close (tie.spec (λ c κs. search needs) returns (λ c κs. search needs) returns-2 returns-3)
+pub add_flow_spec : {M : Type 1} → statement M
+add_flow_spec = tie.close (tie.spec (λ c κs. search rules) returns (λ c κs. search rules) returns-2 returns-3)

@@ -1,5 +1,5 @@
 -- `table::add_if_unused` meets its contract. Assumes nothing.
-use Rattle.wire.proofs.Prelude.{◌∙◌, ap, needs, not, refl, sym}
+use Rattle.wire.proofs.Prelude.{◌∙◌, ap, rules, not, refl, sym}
 use Rattle.table.proofs.Growing.{grown_first}
 use Rattle.table.proofs.Walking.{used_numbered, walk_end, walk_first}
 use Rattle.table.specs.Table.{used_at}
@@ -30,7 +30,7 @@ returns-3 c =
     let u = c.before.before.before.before in
     (sym (ap not (sym u.before.walked.ensures ∙ u.if2.false)), c.before.before.add-number.ensures)
 
-pub add-if-unused-spec : {M : Type 1} → statement M
-add-if-unused-spec = tie.close (tie.spec (λ c κs. search needs) (λ c. search needs) (λ c. search needs) (λ c. search needs)
-    (λ c κs. search needs) (λ c. search needs) (λ c. search needs) (λ c. search needs) returns (λ c κs. search needs) (λ c. search needs)
-    returns-2 (λ c κs. search needs) (λ c. search needs) returns-3)
+pub add_if_unused_spec : {M : Type 1} → statement M
+add_if_unused_spec = tie.close (tie.spec (λ c κs. search rules) (λ c. search rules) (λ c. search rules) (λ c. search rules)
+    (λ c κs. search rules) (λ c. search rules) (λ c. search rules) (λ c. search rules) returns (λ c κs. search rules) (λ c. search rules)
+    returns-2 (λ c κs. search rules) (λ c. search rules) returns-3)

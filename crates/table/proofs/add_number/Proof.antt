@@ -1,5 +1,5 @@
 -- `table::add_number` meets its contract. Assumes nothing.
-use Rattle.wire.proofs.Prelude.{arith, length-set, needs}
+use Rattle.wire.proofs.Prelude.{arith, length-set, rules}
 use Rattle.table.proofs.add_number.Statement.{statement}
 use Rattle.table.proofs.add_number.Tie as tie
 
@@ -14,7 +14,7 @@ returns c =
     let low = c.before.before.low-bits in
     rw (low.ensures, c.next_place.ensures)
 
-pub add-number-spec : {M : Type 1} → statement M
-add-number-spec = tie.close (tie.spec (λ c κs. search needs) (λ c. search needs) (λ c. search needs) (λ c. search needs)
-    (λ c. search needs) (λ c. search needs) (λ c. search needs) (λ c. search needs) (λ c κs. search needs) (λ c. search needs)
-    slice-write-index-2 (λ c. search needs) returns)
+pub add_number_spec : {M : Type 1} → statement M
+add_number_spec = tie.close (tie.spec (λ c κs. search rules) (λ c. search rules) (λ c. search rules) (λ c. search rules)
+    (λ c. search rules) (λ c. search rules) (λ c. search rules) (λ c. search rules) (λ c κs. search rules) (λ c. search rules)
+    slice-write-index-2 (λ c. search rules) returns)

@@ -1,5 +1,5 @@
 -- `table::hold_indexed` meets its contract. Assumes nothing.
-use Rattle.wire.proofs.Prelude.{Bool, List, ◌*◌, ◌+◌, ◌-◌, ◌<◌, ◌∙◌, ◌≡◌, ◌≤◌, ap, ap₂, arith, cond, false, get_or, length, needs}
+use Rattle.wire.proofs.Prelude.{Bool, List, ◌*◌, ◌+◌, ◌-◌, ◌<◌, ◌∙◌, ◌≡◌, ◌≤◌, ap, ap₂, arith, cond, false, get_or, length, rules}
 use Rattle.wire.proofs.Prelude.{not-false, not-true, refl, sym, ℕ}
 use Rattle.ledgers.specs.Ledgers.{ledger_at}
 use Rattle.places.proofs.Apart.{Apart, apart_every, apart_more, place_fresh, place_twice}
@@ -49,7 +49,7 @@ loop-holds c =
     let a = o.args in (
       omega arith,
       ap (all_at _ 0) z,
-      search needs,
+      search rules,
       index_empty a.words.now a.from a.index.now a.base o.requires.3,
       λ j k p q. absurd (omega arith),
       λ k p q. let e : a.base + chain_count + k ≡ a.base + (chain_count + k) = omega arith in rw e (o.requires.3 (chain_count + k) (omega
@@ -183,8 +183,8 @@ returns-3 c =
     let b = apart_every (shared_at o.args.words.now o.args.from) o.args.n (rw z at i.loop.invariant.4) in
     (rw (a, b), (λ h. rw z at i.loop.invariant.3, i.loop.invariant.2))
 
-pub hold-indexed-spec : {M : Type 1} → statement M
-hold-indexed-spec = tie.close (tie.spec invariant-loop decreases-loop (λ c κs. search needs) (λ c κs. search needs) (λ c κs. search needs) loop-holds
-    words-at-requires may-hold-requires same_length returns (λ c κs. search needs) add-if-unused-requires same-length-2
-    returns-2 (λ c. search needs)
-    (λ c. search needs) loop-again same-length-3 returns-3)
+pub hold_indexed_spec : {M : Type 1} → statement M
+hold_indexed_spec = tie.close (tie.spec invariant-loop decreases-loop (λ c κs. search rules) (λ c κs. search rules) (λ c κs. search rules) loop-holds
+    words-at-requires may-hold-requires same_length returns (λ c κs. search rules) add-if-unused-requires same-length-2
+    returns-2 (λ c. search rules)
+    (λ c. search rules) loop-again same-length-3 returns-3)

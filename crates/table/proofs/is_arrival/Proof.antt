@@ -11,5 +11,5 @@ returns c = let head = c.before.args.head in first_local (within 0 1 head) (ledg
 returns-2 : tie.Need-returns-2
 returns-2 c = let head = c.before.args.head in first_not (within 0 1 head) (ledger_at (within 1 1 head)) c.if1.false
 
-pub is-arrival-spec : {M : Type 1} → statement M
-is-arrival-spec = tie.close (tie.spec returns returns-2)
+pub is_arrival_spec : {M : Type 1} → statement M
+is_arrival_spec = tie.close (tie.spec returns returns-2)

@@ -1,5 +1,5 @@
 -- `table::is_backed` meets its contract. Assumes nothing.
-use Rattle.wire.proofs.Prelude.{◌∙◌, ap, eq-eqb, ne_eqb, needs, sym, ℕ}
+use Rattle.wire.proofs.Prelude.{◌∙◌, ap, eq-eqb, ne_eqb, rules, sym, ℕ}
 use Rattle.places.proofs.Backing.{not_asked}
 use Rattle.places.specs.OverPlaces.{any_at}
 use Rattle.table.proofs.Crossings.{asked}
@@ -19,5 +19,5 @@ returns-2 c =
     ∙ ap (λ (h : ℕ). any_at (sent_at a.w.number h a.w.amount a.words.now a.others) 0 a.n) c.before.sending-head.ensures
     ∙ sym (asked _ _ (eq-eqb _ _ c.before.before.if1.false))
 
-pub is-backed-spec : {M : Type 1} → statement M
-is-backed-spec = tie.close (tie.spec returns (λ c κs. search needs) (λ c κs. search needs) returns-2)
+pub is_backed_spec : {M : Type 1} → statement M
+is_backed_spec = tie.close (tie.spec returns (λ c κs. search rules) (λ c κs. search rules) returns-2)

@@ -1,5 +1,5 @@
 -- `table::is_backed_first` meets its contract. Assumes nothing.
-use Rattle.wire.proofs.Prelude.{◌-◌, ◌∙◌, ◌≡◌, ap, arith, eq-eqb, ne_eqb, needs, sym, true, ℕ}
+use Rattle.wire.proofs.Prelude.{◌-◌, ◌∙◌, ◌≡◌, ap, arith, eq-eqb, ne_eqb, rules, sym, true, ℕ}
 use Rattle.places.proofs.Backing.{not_asked}
 use Rattle.rules.proofs.Lists.{never_both_tests}
 use Rattle.table.proofs.Crossings.{asked}
@@ -44,6 +44,6 @@ returns-3 c =
     (d.as-index.result - 1)) e)
     ∙ sym c.sent-at.ensures ∙ h)
 
-pub is-backed-first-spec : {M : Type 1} → statement M
-is-backed-first-spec = tie.close (tie.spec returns (λ c κs. search needs) (λ c. search needs) (λ c. search needs) (λ c. search needs)
-    (λ c κs. search needs) returns-2 (λ c κs. search needs) (λ c. search needs) sent-at-requires returns-3)
+pub is_backed_first_spec : {M : Type 1} → statement M
+is_backed_first_spec = tie.close (tie.spec returns (λ c κs. search rules) (λ c. search rules) (λ c. search rules) (λ c. search rules)
+    (λ c κs. search rules) returns-2 (λ c κs. search rules) (λ c. search rules) sent-at-requires returns-3)

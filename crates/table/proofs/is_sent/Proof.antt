@@ -1,7 +1,7 @@
 -- `table::is_sent` meets its contract. Assumes nothing.
 use Rattle.table.proofs.Walking.{WalkFor, sent_numbered, walk_end, walk_first, walk_found, walk_lower, walk_next}
 use Rattle.table.specs.Table.{sent_at}
-use Rattle.wire.proofs.Prelude.{◌∙◌, arith, needs, sym}
+use Rattle.wire.proofs.Prelude.{◌∙◌, arith, rules, sym}
 use Rattle.table.proofs.is_sent.Statement.{statement}
 use Rattle.table.proofs.is_sent.Tie as tie
 
@@ -50,8 +50,8 @@ returns-3 c =
     let l = c.before.loop in
     sym (walk_end a.words.now a.from a.index.now a.base a.n o.requires.2 _ a.number (sent_numbered a.number a.head a.amount a.words.now a.from) l.at l.invariant (omega arith))
 
-pub is-sent-spec : {M : Type 1} → statement M
-is-sent-spec = tie.close (tie.spec invariant-loop decreases-loop (λ c κs. search needs) (λ c. search needs) (λ c. search needs) (λ c. search needs)
-    (λ c κs. search needs) loop-holds (λ c. search needs) (λ c κs. search needs) returns (λ c κs. search needs) (λ c. search needs)
-    (λ c. search needs) (λ c. search needs) (λ c. search needs) (λ c. search needs) (λ c κs. search needs) (λ c. search needs) loop-less
+pub is_sent_spec : {M : Type 1} → statement M
+is_sent_spec = tie.close (tie.spec invariant-loop decreases-loop (λ c κs. search rules) (λ c. search rules) (λ c. search rules) (λ c. search rules)
+    (λ c κs. search rules) loop-holds (λ c. search rules) (λ c κs. search rules) returns (λ c κs. search rules) (λ c. search rules)
+    (λ c. search rules) (λ c. search rules) (λ c. search rules) (λ c. search rules) (λ c κs. search rules) (λ c. search rules) loop-less
     loop-again returns-3)

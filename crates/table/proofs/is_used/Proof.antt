@@ -1,5 +1,5 @@
 -- `table::is_used` meets its contract. Assumes nothing.
-use Rattle.wire.proofs.Prelude.{needs, refl, sym}
+use Rattle.wire.proofs.Prelude.{rules, refl, sym}
 use Rattle.table.proofs.Walking.{used_numbered, walk_end, walk_first}
 use Rattle.table.specs.Table.{used_at}
 use Rattle.table.proofs.is_used.Statement.{statement}
@@ -18,6 +18,6 @@ returns c =
     let w = walk_first s a.from i a.base a.n o.requires.2 test a.x has 0 low.result low.ensures (sym c.if1.true) in
     sym (walk_end s a.from i a.base a.n o.requires.2 test a.x has 0 w refl)
 
-pub is-used-spec : {M : Type 1} → statement M
-is-used-spec = tie.close (tie.spec (λ c κs. search needs) (λ c. search needs) (λ c. search needs) (λ c. search needs) returns
-    (λ c κs. search needs) (λ c. search needs))
+pub is_used_spec : {M : Type 1} → statement M
+is_used_spec = tie.close (tie.spec (λ c κs. search rules) (λ c. search rules) (λ c. search rules) (λ c. search rules) returns
+    (λ c κs. search rules) (λ c. search rules))

@@ -1,5 +1,5 @@
 -- `table::may_hold` meets its contract. Assumes nothing.
-use Rattle.wire.proofs.Prelude.{◌%◌, ◌*◌, ◌+◌, ◌/◌, ◌^◌, ◌∙◌, ◌≡◌, ap, arith, get_or, le-leb, le-ltb, lt-leb, lt-ltb, needs, sym, ℕ}
+use Rattle.wire.proofs.Prelude.{◌%◌, ◌*◌, ◌+◌, ◌/◌, ◌^◌, ◌∙◌, ◌≡◌, ap, arith, get_or, le-leb, le-ltb, lt-leb, lt-ltb, rules, sym, ℕ}
 use Rattle.ledgers.specs.Ledgers.{ledger_at}
 use Rattle.ledgers.specs.Limits.{max_amount}
 use Rattle.records.specs.Records.{reading_words}
@@ -25,7 +25,7 @@ tests_are c =
     let a = o.args in
     let p = o.requires in
     let e = ap (λ (n : ℕ). (c.wrapping-sub-u64.result + get_or a.bases.now n 0) % 2 ^ 64) (sym c.before.before.before.kind-in.ensures) ∙ c.wrapping-sub-u64.ensures in
-    below_at a.l a.own a.other a.bases.now a.senders.now a.receivers.now a.w c.wrapping-sub-u64.result p.0 p.1 p.2 p.3 p.4 p.5 p.6 p.7 (search needs) e
+    below_at a.l a.own a.other a.bases.now a.senders.now a.receivers.now a.w c.wrapping-sub-u64.result p.0 p.1 p.2 p.3 p.4 p.5 p.6 p.7 (search rules) e
 
 -- the sender's limit
 sender-at : (c : tie.After-wrapping-sub-u64) → get_or c.before.before.before.before.args.senders.now c.before.before.before.kind-in.result 0 ≡ get_or c.before.before.before.before.args.senders.now (kind_of c) 0
@@ -77,6 +77,6 @@ returns-5 c =
     ∙ every_one _) ∙ tests_are d
 
 pub may_hold_spec : {M : Type 1} → statement M
-may_hold_spec = tie.close (tie.spec (λ c κs. search needs) (λ c. search needs) (λ c. search needs) (λ c. search needs)
-    (λ c. search needs) (λ c κs. search needs) returns (λ c. search needs) (λ c. search needs) (λ c κs. search needs) returns-2
+may_hold_spec = tie.close (tie.spec (λ c κs. search rules) (λ c. search rules) (λ c. search rules) (λ c. search rules)
+    (λ c. search rules) (λ c κs. search rules) returns (λ c. search rules) (λ c. search rules) (λ c κs. search rules) returns-2
     returns-3 returns-4 returns-5)

@@ -12,7 +12,7 @@ returns : tie.Need-returns
 unfolding lowered raised
 returns c = search rules
 
-pub move-amounts-spec : {M : Type 1} → statement M
-move-amounts-spec = tie.close (tie.spec (λ c. search rules) (λ c. search rules) (λ c. search rules) (λ c. search rules)
+pub move_amounts_spec : {M : Type 1} → statement M
+move_amounts_spec = tie.close (tie.spec (λ c. search rules) (λ c. search rules) (λ c. search rules) (λ c. search rules)
     (λ c. search rules) (λ c. search rules) (λ c. search rules) add_words (λ c. search rules) (λ c. search rules) (λ c. search rules)
     returns)

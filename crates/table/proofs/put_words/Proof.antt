@@ -1,5 +1,5 @@
 -- `table::put_words` meets its contract. Assumes nothing.
-use Rattle.wire.proofs.Prelude.{arith, length-set, needs}
+use Rattle.wire.proofs.Prelude.{arith, length-set, rules}
 use Rattle.table.proofs.put_words.Statement.{statement}
 use Rattle.table.proofs.put_words.Tie as tie
 
@@ -12,7 +12,7 @@ slice-write-words-3 c = simp length-set (omega arith)
 slice-write-words-4 : tie.Need-slice-write-words-4
 slice-write-words-4 c = simp length-set (omega arith)
 
-pub put-words-spec : {M : Type 1} → statement M
-put-words-spec = tie.close (tie.spec (λ c. search needs) (λ c. search needs) (λ c. search needs) (λ c. search needs) slice-write-words-2
-    (λ c. search needs) (λ c. search needs) slice-write-words-3 (λ c. search needs) (λ c. search needs) slice-write-words-4
-    (λ c. search needs) (λ c. search needs))
+pub put_words_spec : {M : Type 1} → statement M
+put_words_spec = tie.close (tie.spec (λ c. search rules) (λ c. search rules) (λ c. search rules) (λ c. search rules) slice-write-words-2
+    (λ c. search rules) (λ c. search rules) slice-write-words-3 (λ c. search rules) (λ c. search rules) slice-write-words-4
+    (λ c. search rules) (λ c. search rules))

@@ -3,5 +3,5 @@ use Rattle.std.proofs.Common.{rules}
 use Rattle.table.proofs.receiver_limits.Statement.{statement}
 use Rattle.table.proofs.receiver_limits.Tie as tie
 
-pub receiver-limits-spec : {M : Type 1} → statement M
-receiver-limits-spec = tie.close (tie.spec (λ c. search rules))
+pub receiver_limits_spec : {M : Type 1} → statement M
+receiver_limits_spec = tie.close (tie.spec (λ c. search rules))

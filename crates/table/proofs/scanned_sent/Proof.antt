@@ -1,5 +1,5 @@
 -- `table::scanned_sent` meets its contract. Assumes nothing.
-use Rattle.wire.proofs.Prelude.{◌-◌, ◌∙◌, ◌≡◌, ◌≤◌, ap, arith, needs, sym}
+use Rattle.wire.proofs.Prelude.{◌-◌, ◌∙◌, ◌≡◌, ◌≤◌, ap, arith, rules, sym}
 use Rattle.places.specs.OverPlaces.{any_at}
 use Rattle.table.proofs.Scanning.{four_here, four_on}
 use Rattle.table.specs.Table.{sent_at}
@@ -35,6 +35,6 @@ loop-again c =
 returns-2 : tie.Need-returns-2 invariant-loop decreases-loop
 returns-2 c = c.scanned-sent-from.ensures ∙ sym c.before.before.loop.invariant.1
 
-pub scanned-sent-spec : {M : Type 1} → statement M
-scanned-sent-spec = tie.close (tie.spec invariant-loop decreases-loop loop-holds (λ c. search needs) (λ c κs. search needs) returns (λ c. search needs)
-    (λ c. search needs) loop-again (λ c κs. search needs) returns-2)
+pub scanned_sent_spec : {M : Type 1} → statement M
+scanned_sent_spec = tie.close (tie.spec invariant-loop decreases-loop loop-holds (λ c. search rules) (λ c κs. search rules) returns (λ c. search rules)
+    (λ c. search rules) loop-again (λ c κs. search rules) returns-2)

@@ -1,5 +1,5 @@
 -- `table::scanned_sent_from` meets its contract. Assumes nothing.
-use Rattle.wire.proofs.Prelude.{◌-◌, ◌∙◌, ◌≡◌, ◌≤◌, arith, needs, refl, sym}
+use Rattle.wire.proofs.Prelude.{◌-◌, ◌∙◌, ◌≡◌, ◌≤◌, arith, rules, refl, sym}
 use Rattle.places.proofs.OverPlaces.{any_end, any_here, any_on}
 use Rattle.places.specs.OverPlaces.{any_at}
 use Rattle.table.specs.Table.{sent_at}
@@ -20,14 +20,14 @@ returns : tie.Need-returns invariant-loop decreases-loop
 returns c =
     let l = c.before.before.before.loop in
     let a = c.before.before.before.before.before.args in
-    sym (l.invariant.1 ∙ any_here _ l.i a.n (search needs) (sym c.before.sent-at.ensures ∙ c.if1.true))
+    sym (l.invariant.1 ∙ any_here _ l.i a.n (search rules) (sym c.before.sent-at.ensures ∙ c.if1.true))
 
 loop-again : tie.Need-loop-preserved invariant-loop decreases-loop
 loop-again c =
     let l = c.before.before.before.loop in
     let a = c.before.before.before.before.before.args in
     let e = sym c.before.sent-at.ensures ∙ c.if1.false in
-    (search needs, l.invariant.1 ∙ any_on _ l.i a.n (search needs) e)
+    (search rules, l.invariant.1 ∙ any_on _ l.i a.n (search rules) e)
 
 returns-2 : tie.Need-returns-2 invariant-loop decreases-loop
 returns-2 c =
@@ -35,6 +35,6 @@ returns-2 c =
     let a = c.before.before.before.args in
     sym (l.invariant.1 ∙ any_end _ l.i a.n (omega arith))
 
-pub scanned-sent-from-spec : {M : Type 1} → statement M
-scanned-sent-from-spec = tie.close (tie.spec invariant-loop decreases-loop loop-holds (λ c κs. search needs) returns (λ c. search needs)
-    (λ c. search needs) loop-again returns-2)
+pub scanned_sent_from_spec : {M : Type 1} → statement M
+scanned_sent_from_spec = tie.close (tie.spec invariant-loop decreases-loop loop-holds (λ c κs. search rules) returns (λ c. search rules)
+    (λ c. search rules) loop-again returns-2)

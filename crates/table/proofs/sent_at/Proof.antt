@@ -1,7 +1,7 @@
 -- `table::sent_at` meets its contract. Assumes nothing.
 use Rattle.table.specs.Table.{sent_at}
 use Rattle.wire.proofs.Lists.{every_not, every_one, every_skip}
-use Rattle.wire.proofs.Prelude.{◌∙◌, eq-eqb, ne_eqb, needs, sym}
+use Rattle.wire.proofs.Prelude.{◌∙◌, eq-eqb, ne_eqb, rules, sym}
 use Rattle.table.proofs.sent_at.Statement.{statement}
 use Rattle.table.proofs.sent_at.Tie as tie
 
@@ -21,6 +21,6 @@ returns-3 c =
     ∙ every_skip _ _ (eq-eqb _ _ c.before.if2.false)
     ∙ every_one _)
 
-pub sent-at-spec : {M : Type 1} → statement M
-sent-at-spec = tie.close (tie.spec (λ c. search needs) (λ c. search needs) (λ c. search needs) (λ c. search needs) (λ c. search needs)
-    returns (λ c. search needs) (λ c. search needs) returns-2 (λ c. search needs) (λ c. search needs) (λ c. search needs) returns-3)
+pub sent_at_spec : {M : Type 1} → statement M
+sent_at_spec = tie.close (tie.spec (λ c. search rules) (λ c. search rules) (λ c. search rules) (λ c. search rules) (λ c. search rules)
+    returns (λ c. search rules) (λ c. search rules) returns-2 (λ c. search rules) (λ c. search rules) (λ c. search rules) returns-3)

@@ -1,5 +1,5 @@
 -- `table::sent_in_four` meets its contract. Assumes nothing.
-use Rattle.wire.proofs.Prelude.{◌∙◌, needs, not-true, sym}
+use Rattle.wire.proofs.Prelude.{◌∙◌, rules, not-true, sym}
 use Rattle.table.proofs.Scanning.{four_are, unnumbered, unsent}
 use Rattle.table.specs.Table.{sent_at}
 use Rattle.table.proofs.sent_in_four.Statement.{statement}
@@ -50,7 +50,7 @@ returns-5 c =
       sym c1.before.sent-at3.ensures ∙ c1.if4.false,
     ))
 
-pub sent-in-four-spec : {M : Type 1} → statement M
-sent-in-four-spec = tie.close (tie.spec (λ c κs. search needs) returns (λ c κs. search needs) returns-2 (λ c. search needs)
-    (λ c κs. search needs) returns-3 (λ c. search needs) (λ c κs. search needs) returns-4 (λ c. search needs) (λ c κs. search needs)
+pub sent_in_four_spec : {M : Type 1} → statement M
+sent_in_four_spec = tie.close (tie.spec (λ c κs. search rules) returns (λ c κs. search rules) returns-2 (λ c. search rules)
+    (λ c κs. search rules) returns-3 (λ c. search rules) (λ c κs. search rules) returns-4 (λ c. search rules) (λ c κs. search rules)
     returns-5)

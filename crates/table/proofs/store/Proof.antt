@@ -1,5 +1,5 @@
 -- `table::store` meets its contract. Assumes nothing.
-use Rattle.wire.proofs.Prelude.{List, ◌∙◌, ap, arith, needs, ℕ}
+use Rattle.wire.proofs.Prelude.{List, ◌∙◌, ap, arith, rules, ℕ}
 use Rattle.places.proofs.PassedRecord.{debit_most, taken_given}
 use Rattle.table.specs.Table.{stored, with_words}
 use Rattle.table.proofs.store.Statement.{statement}
@@ -46,6 +46,6 @@ returns c =
     ∙ ap (λ (x : List ℕ). with_words x a.at a.w) (e ∙ taken_given a.tariff a.words.now a.balances a.r)
 
 pub store_spec : {M : Type 1} → statement M
-store_spec = tie.close (tie.spec (λ c κs. search needs) (λ c κs. search needs) (λ c. search needs) (λ c κs. search needs) (λ c. search needs)
-    (λ c κs. search needs) add-taken (λ c κs. search needs) (λ c. search needs) move-amounts-requires (λ c κs. search needs)
-    (λ c. search needs) returns)
+store_spec = tie.close (tie.spec (λ c κs. search rules) (λ c κs. search rules) (λ c. search rules) (λ c κs. search rules) (λ c. search rules)
+    (λ c κs. search rules) add-taken (λ c κs. search rules) (λ c. search rules) move-amounts-requires (λ c κs. search rules)
+    (λ c. search rules) returns)

@@ -1,5 +1,5 @@
 -- `table::used_at` meets its contract. Assumes nothing.
-use Rattle.wire.proofs.Prelude.{eq-eqb, ne_eqb, needs}
+use Rattle.wire.proofs.Prelude.{eq-eqb, ne_eqb, rules}
 use Rattle.table.proofs.Arriving.{other_number, same_class}
 use Rattle.table.specs.Table.{arrival_in, head_at}
 use Rattle.table.proofs.used_at.Statement.{statement}
@@ -15,6 +15,6 @@ returns-2 c =
     same_class c.before.before.before.before.before.args.arrival _ _ _ c.is-arrival.ensures
     (eq-eqb _ _ c.before.before.if1.false)
 
-pub used-at-spec : {M : Type 1} → statement M
-used-at-spec = tie.close (tie.spec (λ c. search needs) (λ c. search needs) (λ c. search needs) (λ c. search needs) (λ c. search needs)
-    returns (λ c. search needs) (λ c. search needs) (λ c κs. search needs) returns-2)
+pub used_at_spec : {M : Type 1} → statement M
+used_at_spec = tie.close (tie.spec (λ c. search rules) (λ c. search rules) (λ c. search rules) (λ c. search rules) (λ c. search rules)
+    returns (λ c. search rules) (λ c. search rules) (λ c κs. search rules) returns-2)

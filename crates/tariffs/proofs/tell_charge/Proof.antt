@@ -1,5 +1,5 @@
 -- `tariffs::tell_charge` meets its contract. Assumes nothing.
-use Rattle.wire.proofs.Prelude.{◌<◌, ◌≡◌, ◌≤◌, arith, le-ltb, lt-ltb, needs, ℕ}
+use Rattle.wire.proofs.Prelude.{◌<◌, ◌≡◌, ◌≤◌, arith, le-ltb, lt-ltb, rules, ℕ}
 use Rattle.answers.specs.declared.Answer.TheVariants.{Passed, Refused}
 use Rattle.tariffs.specs.Tariffs.{Charged, charge, charge_told, parts, rate_refusal}
 use Rattle.tariffs.proofs.tell_charge.Statement.{statement}
@@ -16,6 +16,6 @@ within : (rate amount n : ℕ) → rate ≤ parts → n ≡ charge rate amount
 unfolding charge_told rate_refusal
 within rate amount n h q = rw (le-ltb parts rate h, q)
 
-pub tell-charge-spec : {M : Type 1} → statement M
-tell-charge-spec = tie.close (tie.spec (λ c. above c.before.args.rate c.before.args.amount (omega arith)) (λ c κs. search needs)
+pub tell_charge_spec : {M : Type 1} → statement M
+tell_charge_spec = tie.close (tie.spec (λ c. above c.before.args.rate c.before.args.amount (omega arith)) (λ c κs. search rules)
     (λ c. within c.before.before.args.rate c.before.before.args.amount _ (omega arith) c.charge.ensures))

@@ -10,8 +10,8 @@ invariant-loop s₀ h₀ number₀ s h number = number ≤ 511
 abbrev decreases-loop : tie.decreases-loop
 decreases-loop s₀ h₀ number₀ s h number = 511 - number
 
-pub full-table-spec : {M : Type 1} → statement M
-full-table-spec = tie.close (tie.spec invariant-loop decreases-loop (λ c κs. search rules) (λ c κs. search rules) (λ c. search rules)
+pub full_table_spec : {M : Type 1} → statement M
+full_table_spec = tie.close (tie.spec invariant-loop decreases-loop (λ c κs. search rules) (λ c κs. search rules) (λ c. search rules)
     (λ c. search rules) (λ c. search rules) (λ c κs. search rules) (λ c. search rules) (λ c κs. search rules) (λ c. search rules)
     (λ c κs. search rules) (λ c. search rules) (λ c. search rules) (λ c. search rules) (λ c κs. search rules) (λ c κs. search rules)
     (λ c κs. search rules) (λ c κs. search rules) (λ c κs. search rules) (λ c κs. search rules) (λ c κs. search rules)

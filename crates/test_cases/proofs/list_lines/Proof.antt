@@ -8,8 +8,8 @@ part-check-record-end c =
     let c16 = c.before.before.before.before.before.before.before.before.before.before.before.before.before.before.before.before in
     c16.if1.left
 
-pub list-lines-spec : {M : Type 1} → statement M
-list-lines-spec = tie.close (tie.spec (λ c. search rules) (λ c κs. search rules) (λ c κs. search rules) (λ c κs. search rules)
+pub list_lines_spec : {M : Type 1} → statement M
+list_lines_spec = tie.close (tie.spec (λ c. search rules) (λ c κs. search rules) (λ c κs. search rules) (λ c κs. search rules)
     (λ c κs. search rules) (λ c κs. search rules) (λ c. search rules) (λ c κs. search rules) (λ c κs. search rules) (λ c. search rules)
     (λ c. search rules) (λ c. search rules) (λ c κs. search rules) (λ c κs. search rules) (λ c κs. search rules) (λ c. search rules)
     (λ c. search rules) (λ c. search rules) (λ c κs. search rules) (λ c κs. search rules) (λ c κs. search rules) (λ c. search rules)

@@ -1,5 +1,5 @@
 -- `test_sample::list` is safe and ends. Assumes nothing.
-use Rattle.wire.proofs.Prelude.{◌-◌, ◌≡◌, ◌≤◌, length, needs}
+use Rattle.wire.proofs.Prelude.{◌-◌, ◌≡◌, ◌≤◌, length, rules}
 use Rattle.test_sample.proofs.list.Statement.{statement}
 use Rattle.test_sample.proofs.list.Tie as tie
 
@@ -9,7 +9,7 @@ invariant-loop fd block₀ before₀ k₀ block before k = (length block ≡ 512
 abbrev decreases-loop : tie.decreases-loop
 decreases-loop fd block₀ before₀ k₀ block before k = 65537 - k
 
-pub list-spec : {M : Type 1} → statement M
-list-spec = tie.close (tie.spec invariant-loop decreases-loop (λ c. search needs) (λ c. search needs) (λ c κs. search needs) (λ c. search needs)
-    (λ c. search needs) (λ c. search needs) (λ c κs. search needs) (λ c. search needs) (λ c. search needs) (λ c. search needs)
-    (λ c κs. search needs) (λ c. search needs) (λ c. search needs) (λ c. search needs) (λ c. search needs))
+pub list_spec : {M : Type 1} → statement M
+list_spec = tie.close (tie.spec invariant-loop decreases-loop (λ c. search rules) (λ c. search rules) (λ c κs. search rules) (λ c. search rules)
+    (λ c. search rules) (λ c. search rules) (λ c κs. search rules) (λ c. search rules) (λ c. search rules) (λ c. search rules)
+    (λ c κs. search rules) (λ c. search rules) (λ c. search rules) (λ c. search rules) (λ c. search rules))

@@ -1,5 +1,5 @@
 -- `test_sample::main` is safe and ends. Assumes nothing.
-use Rattle.wire.proofs.Prelude.{◌-◌, ◌≤◌, needs}
+use Rattle.wire.proofs.Prelude.{◌-◌, ◌≤◌, rules}
 use Rattle.test_sample.proofs.main.Statement.{statement}
 use Rattle.test_sample.proofs.main.Tie as tie
 
@@ -10,5 +10,5 @@ abbrev decreases-loop : tie.decreases-loop
 decreases-loop i₀ i = 1000 - i
 
 pub main_spec : {M : Type 1} → statement M
-main_spec = tie.close (tie.spec invariant-loop decreases-loop (λ c. search needs) (λ c κs. search needs) (λ c κs. search needs) (λ c. search needs)
-    (λ c. search needs) (λ c. search needs) (λ c. search needs) (λ c. search needs))
+main_spec = tie.close (tie.spec invariant-loop decreases-loop (λ c. search rules) (λ c κs. search rules) (λ c κs. search rules) (λ c. search rules)
+    (λ c. search rules) (λ c. search rules) (λ c. search rules) (λ c. search rules))

@@ -12,7 +12,7 @@ invariant-loop d t₀ i₀ t i = (length t ≡ 64) × (i ≤ 32)
 abbrev decreases-loop : tie.decreases-loop
 decreases-loop d t₀ i₀ t i = 32 - i
 
-pub hex-spec : {M : Type 1} → statement M
-hex-spec = tie.close (tie.spec invariant-loop decreases-loop (λ c. search rules) (λ c. search rules) (λ c κs. search rules) (λ c. search rules)
+pub hex_spec : {M : Type 1} → statement M
+hex_spec = tie.close (tie.spec invariant-loop decreases-loop (λ c. search rules) (λ c. search rules) (λ c κs. search rules) (λ c. search rules)
     (λ c. search rules) (λ c. search rules) (λ c κs. search rules) (λ c. search rules) (λ c. search rules) (λ c. search rules)
     (λ c. search rules) (λ c. search rules) (λ c. search rules) (λ c. search rules))

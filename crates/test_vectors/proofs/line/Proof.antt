@@ -26,8 +26,8 @@ array-share-prefix-out c =
     let q = c.before.copy2 in
     simp length-set (omega (arith, out-length p.result p.new.1.0 q.new.1.0 p.auto.1.0 q.auto.1.0))
 
-pub line-spec : {M : Type 1} → statement M
-line-spec = tie.close (tie.spec (λ c. search rules) (λ c κs. search rules) (λ c. search rules) (λ c. search rules) (λ c κs. search rules)
+pub line_spec : {M : Type 1} → statement M
+line_spec = tie.close (tie.spec (λ c. search rules) (λ c κs. search rules) (λ c. search rules) (λ c. search rules) (λ c κs. search rules)
     (λ c κs. search rules) (λ c. search rules) (λ c. search rules) (λ c. search rules)
     (λ c. simp length-set (omega (arith, c.before.before.before.before.copy.auto.1.0))) (λ c κs. search rules) (λ c. search rules)
     (λ c. search rules) (λ c. search rules) array-share-prefix-out (λ c. sym (length-take-le _ _ (array-share-prefix-out c.before)))

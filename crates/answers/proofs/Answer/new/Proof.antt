@@ -5,4 +5,4 @@ use Rattle.answers.proofs.Answer.new.Statement.{statement}
 use Rattle.answers.proofs.Answer.new.Tie as tie
 
 pub new_spec : {M : Type 1} → statement M
-new_spec = tie.close (tie.spec (λ c. search rules) (λ c. answer_refused _ _ c.if1.false))
+new_spec = tie.close (tie.spec (λ c. search rules) (λ c. answer_refused _ _ c.if-number-eq0.false))

@@ -8,7 +8,7 @@ returns : tie.Need-returns
 returns c =
     let d = c.before.before in
     let a = d.before.before.args in
-    judged_by a.far a.self d.before.are-leaves.ensures d.refusal-if.ensures c.before.committee-refusal.ensures c.first-refusal.ensures
+    judged_by a.far a.self d.before.are_leaves.ensures d.refusal_if-form.ensures c.before.committee_refusal.ensures c.first_refusal.ensures
 
-pub refusal-spec : {M : Type 1} → statement M
-refusal-spec = tie.close (tie.spec (λ c κs. search rules) (λ c κs. search rules) (λ c κs. search rules) (λ c κs. search rules) returns)
+pub refusal_spec : {M : Type 1} → statement M
+refusal_spec = tie.close (tie.spec (λ c κs. search rules) (λ c κs. search rules) (λ c κs. search rules) (λ c κs. search rules) returns)

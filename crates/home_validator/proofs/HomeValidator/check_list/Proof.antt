@@ -11,5 +11,5 @@ returns c =
     let e = c.take-list.ensures in
     state_called a.t1 (list a.bytes.now) c.take-list.result _ e.0 e.1
 
-pub check-list-spec : {M : Type 1} → statement M
-check-list-spec = tie.close (tie.spec (λ c κs. search rules) returns)
+pub check_list_spec : {M : Type 1} → statement M
+check_list_spec = tie.close (tie.spec (λ c κs. search rules) returns)

@@ -11,5 +11,5 @@ returns c =
     let e = c.take.ensures in
     state_called a.t1 (one a.bytes.now) c.take.result _ e.0 e.1
 
-pub check-record-spec : {M : Type 1} → statement M
-check-record-spec = tie.close (tie.spec (λ c κs. search rules) returns)
+pub check_record_spec : {M : Type 1} → statement M
+check_record_spec = tie.close (tie.spec (λ c κs. search rules) returns)

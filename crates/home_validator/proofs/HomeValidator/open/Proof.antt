@@ -1,5 +1,5 @@
 -- `home_validator::HomeValidator::open` meets its contract. Assumes nothing.
-use Rattle.wire.proofs.Prelude.{List, ◌∙◌, ap, needs, refl, ℕ}
+use Rattle.wire.proofs.Prelude.{List, ◌∙◌, ap, rules, refl, ℕ}
 use Rattle.answers.specs.Answers.{answer}
 use Rattle.home_core.specs.Layout.{home_opened_words, home_zero_words}
 use Rattle.home_validator.specs.declared.HomeValidator.{HomeValidator}
@@ -24,4 +24,4 @@ returns c =
     )
 
 pub open_spec : {M : Type 1} → statement M
-open_spec = tie.close (tie.spec open-requires (λ c κs. search needs) returns)
+open_spec = tie.close (tie.spec open-requires (λ c κs. search rules) returns)

@@ -1,7 +1,7 @@
 -- `home_validator::asked::places_left` meets its contract. Assumes nothing.
 use Rattle.home_core.specs.Layout.{accepts_home}
 use Rattle.home_validator.proofs.HomeTotals.{home_held_fits, home_places_passed, home_places_refused}
-use Rattle.wire.proofs.Prelude.{◌∙◌, ◌≡◌, arith, needs, not-false, not-true, sym, true}
+use Rattle.wire.proofs.Prelude.{◌∙◌, ◌≡◌, arith, rules, not-false, not-true, sym, true}
 use Rattle.home_validator.proofs.asked.places_left.Statement.{statement}
 use Rattle.home_validator.proofs.asked.places_left.Tie as tie
 
@@ -12,6 +12,6 @@ returns c = home_places_refused _ (sym c.before.before.accepted.ensures ∙ not-
 accepted-at : (c : tie.Else1) → accepts_home c.before.before.before.before.before.args.t1.words ≡ true
 accepted-at c = sym c.before.accepted.ensures ∙ not-false _ c.if1.false
 
-pub places-left-spec : {M : Type 1} → statement M
-places-left-spec = tie.close (tie.spec (λ c κs. search needs) (λ c κs. search needs) returns (λ c. search needs)
+pub places_left_spec : {M : Type 1} → statement M
+places_left_spec = tie.close (tie.spec (λ c κs. search rules) (λ c κs. search rules) returns (λ c. search rules)
     (λ c. omega (arith, home_held_fits _ (accepted-at c.before))) (λ c. home_places_passed _ (accepted-at c.before)))

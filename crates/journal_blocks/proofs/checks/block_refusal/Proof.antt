@@ -1,5 +1,5 @@
 -- `journal_blocks::checks::block_refusal` meets its contract. Assumes nothing.
-use Rattle.wire.proofs.Prelude.{Bool, ◌∙◌, ap, ap₂, eq-eqb, eqb, ltb, ne_eqb, needs, not, ℕ}
+use Rattle.wire.proofs.Prelude.{Bool, ◌∙◌, ap, ap₂, eq-eqb, eqb, ltb, ne_eqb, rules, not, ℕ}
 use Rattle.answers.specs.Answers.{or_else, refuse}
 use Rattle.journal_blocks.proofs.Checking.{in_order}
 use Rattle.journal_blocks.specs.Blocks.{block_formed, block_number, max_block}
@@ -7,11 +7,11 @@ use Rattle.journal_blocks.specs.Checked.{block_refusal, checked, tariff_refusal}
 use Rattle.journal_blocks.proofs.checks.block_refusal.Statement.{statement}
 use Rattle.journal_blocks.proofs.checks.block_refusal.Tie as tie
 
-pub block-refusal-spec : {M : Type 1} → statement M
+pub block_refusal_spec : {M : Type 1} → statement M
 unfolding block_refusal
-block-refusal-spec = tie.close (tie.spec (λ c. rw (ne_eqb _ _ c.if1.true)) (λ c κs. search needs) (λ c κs. search needs)
-    (λ c κs. search needs) (λ c κs. search needs) (λ c. search needs) (λ c κs. search needs) (λ c κs. search needs) (λ c κs. search needs)
-    (λ c κs. search needs) (λ c κs. search needs) (λ c κs. search needs) (λ c κs. search needs) (λ c κs. search needs) (λ c.
+block_refusal_spec = tie.close (tie.spec (λ c. rw (ne_eqb _ _ c.if1.true)) (λ c κs. search rules) (λ c κs. search rules)
+    (λ c κs. search rules) (λ c κs. search rules) (λ c. search rules) (λ c κs. search rules) (λ c κs. search rules) (λ c κs. search rules)
+    (λ c κs. search rules) (λ c κs. search rules) (λ c κs. search rules) (λ c κs. search rules) (λ c κs. search rules) (λ c.
     let c4 = c.before.before.before.before in
     let c5 = c4.before in
     let c7 = c5.before.before in

@@ -3,5 +3,5 @@ use borrow.Author.Tests.{le-leb, lt-leb}
 use Rattle.journal_blocks.proofs.format.follows.Statement.{statement}
 use Rattle.journal_blocks.proofs.format.follows.Tie as tie
 
-pub follows-spec : {M : Type 1} → statement M
-follows-spec = tie.close (tie.spec (λ c. rw (le-leb _ _ c.if1.true)) (λ c. rw (lt-leb _ _ c.if1.false)))
+pub follows_spec : {M : Type 1} → statement M
+follows_spec = tie.close (tie.spec (λ c. rw (le-leb _ _ c.if1.true)) (λ c. rw (lt-leb _ _ c.if1.false)))

@@ -1,35 +1,35 @@
 -- `journal_blocks::format::is_block_formed` meets its contract. Assumes nothing.
-use Rattle.wire.proofs.Prelude.{◌∙◌, arith, false≢true, needs, not-false, not-true, sym}
+use Rattle.wire.proofs.Prelude.{◌∙◌, arith, false≢true, rules, not-false, not-true, sym}
 use Rattle.journal_blocks.proofs.Forming.{facts_formed_block, formed_block_facts, head_is, tail_is}
 use Rattle.wire.proofs.Lists.{not_held, same_tests}
 use Rattle.wire.proofs.Numbers.{field_one}
 use Rattle.journal_blocks.proofs.format.is_block_formed.Statement.{statement}
 use Rattle.journal_blocks.proofs.format.is_block_formed.Tie as tie
 
-pub is-block-formed-spec : {M : Type 1} → statement M
-is-block-formed-spec = tie.close (tie.spec (λ c. search needs) (λ c κs. search needs) (λ c.
+pub is_block_formed_spec : {M : Type 1} → statement M
+is_block_formed_spec = tie.close (tie.spec (λ c. search rules) (λ c κs. search rules) (λ c.
     let b = c.before.before.before.before.args.block.now in
     not_held _ (λ h. omega (arith, (formed_block_facts _ _ _ h).kind, field_one 4 b (omega arith), c.before.kind-of-block.ensures)))
-    (λ c. search needs) (λ c κs. search needs) (λ c.
+    (λ c. search rules) (λ c κs. search rules) (λ c.
     let b = c.before.before.before.before.before.before.before.args.block.now in
     not_held _ (λ h. omega (arith, (formed_block_facts _ _ _ h).some, field_one 5 b (omega arith))))
-    (λ c κs. search needs) (λ c.
+    (λ c κs. search rules) (λ c.
     let c3 = c.before.before.before in
     let b = c3.before.before.before.before.before.before.args.block.now in
     let n = c3.byte-as-number.ensures.0 ∙ sym (field_one 5 b (omega arith)) in
     not_held _ (λ h. omega (arith, (formed_block_facts _ _ _ h).fits, n, c.before.item-limit.ensures)))
-    (λ c κs. search needs) (λ c κs. search needs) (λ c.
+    (λ c κs. search rules) (λ c κs. search rules) (λ c.
     let a = c.before.before.before.before.before.before.before.before.before.before.before.before.args in
     let z = c.before.all-zero.ensures ∙ head_is a.block.now a.k _ c.before.before.head-end.ensures.0 in
     not_held _ (λ h. false≢true (sym (not-true _ c.if4.true) ∙ z ∙ (formed_block_facts _ _ _ h).head)))
-    (λ c κs. search needs) (λ c κs. search needs) (λ c.
+    (λ c κs. search rules) (λ c κs. search rules) (λ c.
     let c9 = c.before.before.before.before.before.before.before.before.before in
     let a = c9.before.before.before.before.before.before.args in
     let b = a.block.now in
     let n = c9.byte-as-number.ensures.0 ∙ sym (field_one 5 b (omega arith)) in
     let z = c.before.all-zero2.ensures ∙ tail_is b a.k _ _ n c.before.before.items-end.ensures.0 in
     not_held _ (λ h. false≢true (sym (not-true _ c.if5.true) ∙ z ∙ (formed_block_facts _ _ _ h).tail)))
-    (λ c κs. search needs) (λ c.
+    (λ c κs. search rules) (λ c.
     let c3 = c.before.before.before in
     let c4 = c3.before in
     let c10 = c4.before.before.before.before.before.before in

@@ -1,10 +1,10 @@
 -- `journal_blocks::format::stated_count` meets its contract. Assumes nothing.
-use Rattle.wire.proofs.Prelude.{◌∙◌, arith, needs, sym}
+use Rattle.wire.proofs.Prelude.{◌∙◌, arith, rules, sym}
 use Rattle.wire.proofs.Numbers.{field_none, field_one}
 use Rattle.journal_blocks.proofs.format.stated_count.Statement.{statement}
 use Rattle.journal_blocks.proofs.format.stated_count.Tie as tie
 
-pub stated-count-spec : {M : Type 1} → statement M
-stated-count-spec = tie.close (tie.spec (λ c. sym (field_none 5 1 c.before.before.args.block.now c.if1.true))
-    (λ c. search needs) (λ c κs. search needs)
+pub stated_count_spec : {M : Type 1} → statement M
+stated_count_spec = tie.close (tie.spec (λ c. sym (field_none 5 1 c.before.before.args.block.now c.if1.true))
+    (λ c. search rules) (λ c κs. search rules)
     (λ c. c.byte-as-number.ensures.0 ∙ sym (field_one 5 c.before.before.before.before.args.block.now (omega arith))))

@@ -3,6 +3,6 @@ use borrow.Author.Rules.{rules}
 use Rattle.journal_blocks.proofs.format.tariff_in.Statement.{statement}
 use Rattle.journal_blocks.proofs.format.tariff_in.Tie as tie
 
-pub tariff-in-spec : {M : Type 1} → statement M
-tariff-in-spec = tie.close (tie.spec (λ c κs. search rules) (λ c. search rules) (λ c κs. search rules) (λ c. search rules)
+pub tariff_in_spec : {M : Type 1} → statement M
+tariff_in_spec = tie.close (tie.spec (λ c κs. search rules) (λ c. search rules) (λ c κs. search rules) (λ c. search rules)
     (λ c i. record { rate = c.before.u16-at.ensures i; account = c.u16-at2.ensures i }))

@@ -1,5 +1,5 @@
 -- `listing_lines::hex::digits` meets its contract. Assumes nothing.
-use Rattle.wire.proofs.Prelude.{◌∙◌, needs, refl}
+use Rattle.wire.proofs.Prelude.{◌∙◌, rules, refl}
 use Rattle.wire.specs.BigEndian.{bytes_of}
 use Rattle.listing_lines.specs.Lines.{hexadecimal}
 use Rattle.listing_lines.proofs.hex.digits.Statement.{statement}
@@ -12,8 +12,8 @@ returns c =
     let h = c.before.before in
     rw (h.u64-bytes.ensures ∙ h.before.high_digits.ensures, c.u64-bytes2.ensures ∙ c.before.low_digits.ensures) refl
 
-pub digits-spec : {M : Type 1} → statement M
-digits-spec = tie.close (tie.spec (λ c κs. search needs) (λ c κs. search needs) (λ c κs. search needs) (λ c κs. search needs)
-    (λ c. search needs) (λ c. search needs) (λ c. search needs) (λ c. search needs) (λ c. search needs) (λ c. search needs)
-    (λ c. search needs) (λ c. search needs) (λ c. search needs) (λ c. search needs) (λ c. search needs) (λ c. search needs)
-    (λ c. search needs) (λ c. search needs) (λ c. search needs) (λ c. search needs) returns)
+pub digits_spec : {M : Type 1} → statement M
+digits_spec = tie.close (tie.spec (λ c κs. search rules) (λ c κs. search rules) (λ c κs. search rules) (λ c κs. search rules)
+    (λ c. search rules) (λ c. search rules) (λ c. search rules) (λ c. search rules) (λ c. search rules) (λ c. search rules)
+    (λ c. search rules) (λ c. search rules) (λ c. search rules) (λ c. search rules) (λ c. search rules) (λ c. search rules)
+    (λ c. search rules) (λ c. search rules) (λ c. search rules) (λ c. search rules) returns)

@@ -4,5 +4,5 @@ use Rattle.listing_lines.proofs.hex.masked.Statement.{statement}
 use Rattle.listing_lines.proofs.hex.masked.Tie as tie
 use lib.Bits.{and_le_r}
 
-pub masked-spec : {M : Type 1} → statement M
-masked-spec = tie.close (tie.spec (λ c. (refl, and_le_r c.args.x c.args.mask)))
+pub masked_spec : {M : Type 1} → statement M
+masked_spec = tie.close (tie.spec (λ c. (refl, and_le_r c.args.x c.args.mask)))

@@ -1,5 +1,5 @@
 -- `pair_validator::PairValidator::open` meets its contract. Assumes nothing.
-use Rattle.wire.proofs.Prelude.{List, ◌∙◌, ap, needs, refl, ℕ}
+use Rattle.wire.proofs.Prelude.{List, ◌∙◌, ap, rules, refl, ℕ}
 use Rattle.answers.specs.Answers.{answer}
 use Rattle.pair_core.specs.Layout.{pair_opened_words, pair_zero_words}
 use Rattle.pair_validator.specs.declared.PairValidator.{PairValidator}
@@ -23,4 +23,4 @@ returns c =
     )
 
 pub open_spec : {M : Type 1} → statement M
-open_spec = tie.close (tie.spec open-requires (λ c κs. search needs) returns)
+open_spec = tie.close (tie.spec open-requires (λ c κs. search rules) returns)

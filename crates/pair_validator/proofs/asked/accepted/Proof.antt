@@ -1,5 +1,5 @@
 -- `pair_validator::asked::accepted` meets its contract. Assumes nothing.
-use Rattle.wire.proofs.Prelude.{◌*◌, needs, refl}
+use Rattle.wire.proofs.Prelude.{◌*◌, rules, refl}
 use Rattle.pair_core.specs.Layout.{index_on}
 use Rattle.table.proofs.Numbers.{empty_zeros}
 use Rattle.table.specs.Table.{index_length}
@@ -12,5 +12,5 @@ is-accepted-requires c κs = (
   λ l q. empty_zeros (2 * index_length) (index_on l),
 )
 
-pub accepted-spec : {M : Type 1} → statement M
-accepted-spec = tie.close (tie.spec (λ c. search needs) is-accepted-requires (λ c. search needs))
+pub accepted_spec : {M : Type 1} → statement M
+accepted_spec = tie.close (tie.spec (λ c. search rules) is-accepted-requires (λ c. search rules))

@@ -1,7 +1,7 @@
 -- `pair_validator::asked::balance` meets its contract. Assumes nothing.
 use Rattle.pair_core.specs.Layout.{accepts_pair}
 use Rattle.pair_validator.proofs.PairTotals.{no_such_ledger, pair_balance_passed, pair_on_ledger}
-use Rattle.wire.proofs.Prelude.{◌∙◌, ◌≡◌, arith, needs, not-false, not-true, sym, true}
+use Rattle.wire.proofs.Prelude.{◌∙◌, ◌≡◌, arith, rules, not-false, not-true, sym, true}
 use Rattle.pair_validator.proofs.asked.balance.Statement.{statement}
 use Rattle.pair_validator.proofs.asked.balance.Tie as tie
 
@@ -21,7 +21,7 @@ returns-3 : tie.Need-returns-3
 returns-3 c = c.balance-among.ensures ∙ pair_balance_passed _ (accepted-at c.before.before.before.before.before.before) _ _
     (omega arith)
 
-pub balance-spec : {M : Type 1} → statement M
-balance-spec = tie.close (tie.spec (λ c κs. search needs) (λ c κs. search needs) returns (λ c κs. search needs)
-    (λ c. c.balance-refused2.ensures ∙ no_such_ledger _ (accepted-at c.before.before) _ _ (omega arith)) (λ c. search needs)
-    (λ c. search needs) (λ c. search needs) (λ c. search needs) (λ c. search needs) balance-among-requires returns-3)
+pub balance_spec : {M : Type 1} → statement M
+balance_spec = tie.close (tie.spec (λ c κs. search rules) (λ c κs. search rules) returns (λ c κs. search rules)
+    (λ c. c.balance-refused2.ensures ∙ no_such_ledger _ (accepted-at c.before.before) _ _ (omega arith)) (λ c. search rules)
+    (λ c. search rules) (λ c. search rules) (λ c. search rules) (λ c. search rules) balance-among-requires returns-3)

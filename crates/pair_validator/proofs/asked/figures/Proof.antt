@@ -1,5 +1,5 @@
 -- `pair_validator::asked::figures` meets its contract. Assumes nothing.
-use Rattle.wire.proofs.Prelude.{List, ◌∙◌, ◌≡◌, arith, needs, not-false, not-true, sym, true, ℕ}
+use Rattle.wire.proofs.Prelude.{List, ◌∙◌, ◌≡◌, arith, rules, not-false, not-true, sym, true, ℕ}
 use Rattle.pair_core.specs.Layout.{accepts_pair, ledger_on}
 use Rattle.pair_validator.proofs.PairTotals.{pair_figures_passed, pair_on_ledger, pair_supply_shared, pair_total}
 use Rattle.rules.specs.Lists.{total}
@@ -46,10 +46,10 @@ returns-2 c =
     let h = past_far c.before.before in
     pair_figures_passed _ (accepted-at (past_home h)) _ _ (home_at h) (far_at c.before.before)
 
-pub figures-spec : {M : Type 1} → statement M
-figures-spec = tie.close (tie.spec (λ c κs. search needs) (λ c. rw (sym c.before.accepted.ensures ∙ not-true _ c.if1.true))
-    (λ c. search needs) (λ c. search needs) (λ c. search needs) (λ c. search needs) (λ c. search needs)
+pub figures_spec : {M : Type 1} → statement M
+figures_spec = tie.close (tie.spec (λ c κs. search rules) (λ c. rw (sym c.before.accepted.ensures ∙ not-true _ c.if1.true))
+    (λ c. search rules) (λ c. search rules) (λ c. search rules) (λ c. search rules) (λ c. search rules)
     (λ c κs. omega (arith, pair_on_ledger _ (accepted-at c.before.before.before.before.before.before) 0 (omega arith)))
-    (λ c. search needs)
+    (λ c. search rules)
     (λ c κs. omega (arith, pair_on_ledger _ (accepted-at (past_home c.before.before.before)) 1 (omega arith)))
     sub-t16 sub-t28 returns-2)

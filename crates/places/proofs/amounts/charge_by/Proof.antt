@@ -1,5 +1,5 @@
 -- `places::amounts::charge_by` meets its contract. Assumes nothing.
-use Rattle.wire.proofs.Prelude.{◌∙◌, ◌≡◌, ap, needs, refl, sym, ℕ}
+use Rattle.wire.proofs.Prelude.{◌∙◌, ◌≡◌, ap, rules, refl, sym, ℕ}
 use Rattle.ledgers.specs.declared.Kind.{Kind}
 use Rattle.ledgers.specs.declared.Kind.TheVariants.{Local, Receiving, Sending}
 use Rattle.places.specs.Amounts.{charge_by}
@@ -23,6 +23,6 @@ returns-3 c =
     let a = c.before.before.before.before.args in
     c.charge.ensures ∙ ap (λ (k : Kind). charge_by a.rate k a.amount) (sym c.before.enum-told2.given.1)
 
-pub charge-by-spec : {M : Type 1} → statement M
-charge-by-spec = tie.close (tie.spec returns (λ c. search needs) (λ c. search needs) (λ c κs. search needs) (λ c. search needs)
-    (λ c. search needs) returns-3 (λ c. search needs))
+pub charge_by_spec : {M : Type 1} → statement M
+charge_by_spec = tie.close (tie.spec returns (λ c. search rules) (λ c. search rules) (λ c κs. search rules) (λ c. search rules)
+    (λ c. search rules) returns-3 (λ c. search rules))

@@ -3,6 +3,6 @@ use borrow.Author.Rules.{rules}
 use Rattle.places.proofs.amounts.given_by.Statement.{statement}
 use Rattle.places.proofs.amounts.given_by.Tie as tie
 
-pub given-by-spec : {M : Type 1} → statement M
-given-by-spec = tie.close (tie.spec (λ c. search rules) (λ c. search rules) (λ c. search rules) (λ c. search rules) (λ c. search rules)
+pub given_by_spec : {M : Type 1} → statement M
+given_by_spec = tie.close (tie.spec (λ c. search rules) (λ c. search rules) (λ c. search rules) (λ c. search rules) (λ c. search rules)
     (λ c. search rules))

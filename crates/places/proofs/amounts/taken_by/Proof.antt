@@ -3,6 +3,6 @@ use borrow.Author.Rules.{rules}
 use Rattle.places.proofs.amounts.taken_by.Statement.{statement}
 use Rattle.places.proofs.amounts.taken_by.Tie as tie
 
-pub taken-by-spec : {M : Type 1} → statement M
-taken-by-spec = tie.close (tie.spec (λ c. search rules) (λ c. search rules) (λ c. search rules) (λ c. search rules) (λ c. search rules)
+pub taken_by_spec : {M : Type 1} → statement M
+taken_by_spec = tie.close (tie.spec (λ c. search rules) (λ c. search rules) (λ c. search rules) (λ c. search rules) (λ c. search rules)
     (λ c. search rules))

@@ -1,5 +1,5 @@
 -- `places::balances::are_zero` meets its contract. Assumes nothing.
-use Rattle.wire.proofs.Prelude.{◌+◌, ◌-◌, ◌∙◌, ◌≡◌, ◌≤◌, arith, eq-eqb, eqb, get_or, ne_eqb, needs, sym, ℕ}
+use Rattle.wire.proofs.Prelude.{◌+◌, ◌-◌, ◌∙◌, ◌≡◌, ◌≤◌, arith, eq-eqb, eqb, get_or, ne_eqb, rules, sym, ℕ}
 use Rattle.places.proofs.OverPlaces.{all_end, all_here, all_on, from_start}
 use Rattle.places.specs.LedgerBalances.{zeros_at}
 use Rattle.places.specs.OverPlaces.{all_at}
@@ -16,7 +16,7 @@ abbrev decreases-loop : tie.decreases-loop
 decreases-loop balances from n end i₀ i = end - i
 
 loop-holds : tie.Need-loop-init invariant-loop decreases-loop
-loop-holds c = (search needs, search needs, from_start (all_at _) _ _)
+loop-holds c = (search rules, search rules, from_start (all_at _) _ _)
 
 returns : tie.Need-returns invariant-loop decreases-loop
 unfolding zeros_at
@@ -24,14 +24,14 @@ returns c =
     let c4 = c.before.before.before.before in
     let a = c4.args in
     let l = c.before.before.before.loop in
-    sym (l.invariant.2 ∙ all_here _ l.i (a.from + a.n) (search needs) (ne_eqb _ _ c.if1.true))
+    sym (l.invariant.2 ∙ all_here _ l.i (a.from + a.n) (search rules) (ne_eqb _ _ c.if1.true))
 
 loop-again : tie.Need-loop-preserved invariant-loop decreases-loop
 loop-again c =
     let c4 = c.before.before.before.before in
     let a = c4.args in
     let l = c.before.before.before.loop in
-    (search needs, search needs, l.invariant.2 ∙ all_on _ l.i (a.from + a.n) (search needs) (eq-eqb _ _ c.if1.false))
+    (search rules, search rules, l.invariant.2 ∙ all_on _ l.i (a.from + a.n) (search rules) (eq-eqb _ _ c.if1.false))
 
 returns-2 : tie.Need-returns-2 invariant-loop decreases-loop
 unfolding zeros_at
@@ -40,6 +40,6 @@ returns-2 c =
     let l = c.before.loop in
     sym (l.invariant.2 ∙ all_end _ l.i (a.from + a.n) (omega arith))
 
-pub are-zero-spec : {M : Type 1} → statement M
-are-zero-spec = tie.close (tie.spec invariant-loop decreases-loop (λ c. search needs) loop-holds (λ c. search needs) (λ c. search needs) returns
-    (λ c. search needs) (λ c. search needs) loop-again returns-2)
+pub are_zero_spec : {M : Type 1} → statement M
+are_zero_spec = tie.close (tie.spec invariant-loop decreases-loop (λ c. search rules) loop-holds (λ c. search rules) (λ c. search rules) returns
+    (λ c. search rules) (λ c. search rules) loop-again returns-2)

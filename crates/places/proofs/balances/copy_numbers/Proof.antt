@@ -1,6 +1,6 @@
 -- `places::balances::copy_numbers` meets its contract. Assumes nothing.
 use Rattle.wire.proofs.Prelude.{List, ◌++◌, ◌+◌, ◌-◌, ◌∙◌, ◌≡◌, ◌≤◌, add-one, ap, append_assoc, arith, drop, get_or, length, length-set}
-use Rattle.wire.proofs.Prelude.{needs, paste, paste-suc, paste-zero, refl, set, take, take-length, ℕ}
+use Rattle.wire.proofs.Prelude.{rules, paste, paste-suc, paste-zero, refl, set, take, take-length, ℕ}
 use Rattle.places.proofs.balances.copy_numbers.Statement.{statement}
 use Rattle.places.proofs.balances.copy_numbers.Tie as tie
 
@@ -22,16 +22,16 @@ returns c =
     ∙ append_assoc (take a.at d) (take (length s) s) (drop (a.at + length s) d)
     ∙ ap (λ (o : List ℕ). take a.at d ++ (o ++ drop (a.at + length s) d)) (take-length s)
 
-pub copy-numbers-spec : {M : Type 1} → statement M
-copy-numbers-spec = tie.close (tie.spec invariant-loop decreases-loop (λ c.
+pub copy_numbers_spec : {M : Type 1} → statement M
+copy_numbers_spec = tie.close (tie.spec invariant-loop decreases-loop (λ c.
     let a = c.args in
-    (search needs, refl, paste-zero a.out.now a.at a.xs.now))
-    (λ c. search needs) (λ c. search needs) (λ c. search needs) (λ c. search needs) (λ c. search needs) (λ c. search needs)
-    (λ c. search needs) (λ c.
+    (search rules, refl, paste-zero a.out.now a.at a.xs.now))
+    (λ c. search rules) (λ c. search rules) (λ c. search rules) (λ c. search rules) (λ c. search rules) (λ c. search rules)
+    (λ c. search rules) (λ c.
     let a = c.before.before.before.args in
     let l = c.before.before.loop in
     let x = get_or a.xs.now l.i 0 in
     let e = ap (λ (o : List ℕ). set o (a.at + l.i) x) l.invariant.2 in
     let f = paste-suc a.out.now a.at a.xs.now l.i 0 (omega arith) (omega arith) in
     (omega arith, length-set l.out (a.at + l.i) x ∙ l.invariant.1, e ∙ rw add-one f))
-    (λ c. search needs) returns)
+    (λ c. search rules) returns)

@@ -5,7 +5,7 @@ use Rattle.wire.proofs.Lists.{every_not, every_one, every_skip}
 use Rattle.places.proofs.balances.is_count_allowed.Statement.{statement}
 use Rattle.places.proofs.balances.is_count_allowed.Tie as tie
 
-pub is-count-allowed-spec : {M : Type 1} → statement M
+pub is_count_allowed_spec : {M : Type 1} → statement M
 unfolding count_allowed
-is-count-allowed-spec = tie.close (tie.spec (λ c. sym (every_not 0 _ (le-ltb 0 c.before.args.n (omega arith))))
+is_count_allowed_spec = tie.close (tie.spec (λ c. sym (every_not 0 _ (le-ltb 0 c.before.args.n (omega arith))))
     (λ c. sym (every_skip _ _ (lt-ltb 0 c.before.args.n (omega arith)) ∙ every_one _)))

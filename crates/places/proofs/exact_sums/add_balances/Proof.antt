@@ -1,5 +1,5 @@
 -- `places::exact_sums::add_balances` meets its contract. Assumes nothing.
-use Rattle.wire.proofs.Prelude.{◌+◌, ◌-◌, ◌<◌, ◌^◌, ◌≡◌, ◌≤◌, arith, get_or, needs, ℕ}
+use Rattle.wire.proofs.Prelude.{◌+◌, ◌-◌, ◌<◌, ◌^◌, ◌≡◌, ◌≤◌, arith, get_or, rules, ℕ}
 use Rattle.places.proofs.ExactSums.{all_places, half_fits, half_low, halves_added, halves_fit, halves_more, halves_none}
 use Rattle.places.proofs.OverPlaces.{sum_more, sum_none}
 use Rattle.places.specs.ExactSums.{Halves}
@@ -17,7 +17,7 @@ decreases-loop balances from n start high₀ low₀ end i₀ high low i = end - 
 loop-holds : tie.Need-loop-init invariant-loop decreases-loop
 loop-holds c =
     let a = c.before.args in
-    (search needs, search needs, halves_none _ _ (sum_none (λ (j : ℕ). get_or a.balances.now j 0) a.from))
+    (search rules, search rules, halves_none _ _ (sum_none (λ (j : ℕ). get_or a.balances.now j 0) a.from))
 
 add-high : tie.Need-overflow-add-high invariant-loop decreases-loop
 add-high c =
@@ -51,8 +51,8 @@ loop-again c =
     let f : ℕ → ℕ = λ (j : ℕ). get_or a.balances.now j 0 in
     let m : f l.i < 2 ^ 64 = omega (arith, c.shared-slice-known2.given l.i) in
     let k : l.i + 1 - a.from ≡ l.i - a.from + 1 = omega arith in (
-      search needs,
-      search needs,
+      search rules,
+      search rules,
       halves_more _ _ l.high l.low (f l.i) _ _ l.invariant.2 m (sum_more f a.from l.i l.invariant.0) k,
     )
 
@@ -76,6 +76,6 @@ returns c =
     let e = c.add-halves.ensures in
     halves_added a.start _ (rw z at l.invariant.2) c4.requires.1 e.0 e.1
 
-pub add-balances-spec : {M : Type 1} → statement M
-add-balances-spec = tie.close (tie.spec invariant-loop decreases-loop (λ c. search needs) loop-holds (λ c. search needs) (λ c. search needs) add-high
-    add_low (λ c. search needs) (λ c. search needs) loop-again add-halves-requires returns)
+pub add_balances_spec : {M : Type 1} → statement M
+add_balances_spec = tie.close (tie.spec invariant-loop decreases-loop (λ c. search rules) loop-holds (λ c. search rules) (λ c. search rules) add-high
+    add_low (λ c. search rules) (λ c. search rules) loop-again add-halves-requires returns)

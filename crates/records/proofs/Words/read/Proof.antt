@@ -7,5 +7,5 @@ use Rattle.records.proofs.Words.read.Tie as tie
 pub read_spec : {M : Type 1} → statement M
 unfolding reading_words
 read_spec = tie.close (tie.spec (λ c κs. search rules) (λ c κs. search rules)
-    (λ c. rw (← c.before.before.are-formed.ensures, c.before.if1.true, c.record-in.ensures))
-    (λ c. rw (← c.before.are-formed.ensures, c.if1.false)))
+    (λ c. rw (← c.before.before.are_formed.ensures, c.before.if-are_formed.true, c.record_in.ensures))
+    (λ c. rw (← c.before.are_formed.ensures, c.if-are_formed.false)))

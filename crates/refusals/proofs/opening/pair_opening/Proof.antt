@@ -1,5 +1,5 @@
 -- `refusals::opening::pair_opening` meets its contract. Assumes nothing.
-use Rattle.wire.proofs.Prelude.{◌+◌, ◌<◌, ◌∙◌, ◌≡◌, ◌≤◌, arith, length, needs, not-false, not-true, sym, true}
+use Rattle.wire.proofs.Prelude.{◌+◌, ◌<◌, ◌∙◌, ◌≡◌, ◌≤◌, arith, length, rules, not-false, not-true, sym, true}
 use Rattle.ledgers.specs.Limits.{max_amount}
 use Rattle.places.proofs.ExactSums.{added_after, added_value, wide_fits, wide_passes}
 use Rattle.places.proofs.Openings.{count_facts, far_refused, home_refused, low_is_wide, none_refused, supply_refused, tariff_refused}
@@ -52,11 +52,11 @@ returns-5 c =
       λ z. omega (arith, e, low_is_wide w.result m, x, y),
     )
 
-pub pair-opening-spec : {M : Type 1} → statement M
-pair-opening-spec = tie.close (tie.spec (λ c κs. search needs) (λ c.
+pub pair_opening_spec : {M : Type 1} → statement M
+pair_opening_spec = tie.close (tie.spec (λ c κs. search rules) (λ c.
     let n = sym c.before.is-count-allowed.ensures ∙ not-true _ c.if1.true in
     (home_refused _ _ _ _ n, λ z. absurd (omega arith)))
-    (λ c κs. search needs) (λ c.
+    (λ c κs. search rules) (λ c.
     let n = sym c.before.is-count-allowed2.ensures ∙ not-true _ c.if2.true in
     (far_refused _ _ _ _ n, λ z. absurd (omega arith)))
     (λ c κs. (omega arith, omega arith, omega (arith, (count_facts _ (home-allowed c.before.before)).1))) (λ c κs.
@@ -73,4 +73,4 @@ pair-opening-spec = tie.close (tie.spec (λ c κs. search needs) (λ c.
     let s : max_amount < total a.homes.now + total a.fars.now =
     omega (arith, e, wide_passes w.result c.if3.true, total_sum a.homes.now, total_sum a.fars.now) in
     (supply_refused _ _ _ _ (home-allowed c4.before.before) (far-allowed c4) s, λ z. absurd (omega arith)))
-    (λ c κs. search needs) returns-4 returns-5)
+    (λ c κs. search rules) returns-4 returns-5)

@@ -1,5 +1,5 @@
 -- `refusals::record::first_refusals` meets its contract. Assumes nothing.
-use Rattle.wire.proofs.Prelude.{◌∙◌, ap, ap₂, arith, leb, needs, not, ℕ}
+use Rattle.wire.proofs.Prelude.{◌∙◌, ap, ap₂, arith, leb, rules, not, ℕ}
 use Rattle.answers.proofs.Answers.{refuse_else}
 use Rattle.answers.specs.Answers.{or_else, refuse}
 use Rattle.places.specs.LedgerBalances.{first_by}
@@ -33,7 +33,7 @@ returns c =
     let e51 = c.before.first-refusal3.ensures ∙ ap₂ or_else receiver e23 ∙ refuse_else no_receiver 51 from23 (omega arith) in
     c.first-refusal4.ensures ∙ ap₂ or_else sender e51 ∙ refuse_else no_sender 22 (refuse no_receiver 51 from23) (omega arith)
 
-pub first-refusals-spec : {M : Type 1} → statement M
-first-refusals-spec = tie.close (tie.spec (λ c κs. search needs) (λ c κs. search needs) (λ c κs. search needs) (λ c κs. search needs)
-    (λ c κs. search needs) (λ c κs. search needs) (λ c κs. search needs) (λ c κs. search needs) (λ c κs. search needs)
-    (λ c κs. search needs) returns)
+pub first_refusals_spec : {M : Type 1} → statement M
+first_refusals_spec = tie.close (tie.spec (λ c κs. search rules) (λ c κs. search rules) (λ c κs. search rules) (λ c κs. search rules)
+    (λ c κs. search rules) (λ c κs. search rules) (λ c κs. search rules) (λ c κs. search rules) (λ c κs. search rules)
+    (λ c κs. search rules) returns)

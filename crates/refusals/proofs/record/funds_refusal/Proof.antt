@@ -1,5 +1,5 @@
 -- `refusals::record::funds_refusal` meets its contract. Assumes nothing.
-use Rattle.wire.proofs.Prelude.{Bool, ◌+◌, ◌-◌, ◌<◌, ◌∙◌, ◌≡◌, ◌≤◌, ap, arith, false, le-ltb, lt-ltb, ltb, ltb-false, ltb-true, needs, refl}
+use Rattle.wire.proofs.Prelude.{Bool, ◌+◌, ◌-◌, ◌<◌, ◌∙◌, ◌≡◌, ◌≤◌, ap, arith, false, le-ltb, lt-ltb, ltb, ltb-false, ltb-true, rules, refl}
 use Rattle.wire.proofs.Prelude.{true, ℕ}
 use Rattle.answers.specs.Answers.{refuse}
 use Rattle.places.specs.LedgerBalances.{funds_at}
@@ -39,6 +39,6 @@ returns-2 c =
     ∙ short-second d.result e.result g.result (omega arith)
     ∙ same-funds d.ensures e.ensures g.ensures
 
-pub funds-refusal-spec : {M : Type 1} → statement M
-funds-refusal-spec = tie.close (tie.spec (λ c κs. search needs) (λ c κs. search needs) returns (λ c κs. search needs) (λ c κs. search needs)
+pub funds_refusal_spec : {M : Type 1} → statement M
+funds_refusal_spec = tie.close (tie.spec (λ c κs. search rules) (λ c κs. search rules) returns (λ c κs. search rules) (λ c κs. search rules)
     returns-2)

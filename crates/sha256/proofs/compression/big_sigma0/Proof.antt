@@ -4,6 +4,6 @@ use Rattle.sha256.specs.Sha256.{Σ₀}
 use Rattle.sha256.proofs.compression.big_sigma0.Statement.{statement}
 use Rattle.sha256.proofs.compression.big_sigma0.Tie as tie
 
-pub big-sigma0-spec : {M : Type 1} → statement M
+pub big_sigma0_spec : {M : Type 1} → statement M
 unfolding Σ₀
-big-sigma0-spec = tie.close (tie.spec (λ c. refl))
+big_sigma0_spec = tie.close (tie.spec (λ c. refl))

@@ -4,6 +4,6 @@ use Rattle.sha256.specs.Sha256.{Σ₁}
 use Rattle.sha256.proofs.compression.big_sigma1.Statement.{statement}
 use Rattle.sha256.proofs.compression.big_sigma1.Tie as tie
 
-pub big-sigma1-spec : {M : Type 1} → statement M
+pub big_sigma1_spec : {M : Type 1} → statement M
 unfolding Σ₁
-big-sigma1-spec = tie.close (tie.spec (λ c. refl))
+big_sigma1_spec = tie.close (tie.spec (λ c. refl))

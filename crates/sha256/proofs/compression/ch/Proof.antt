@@ -4,6 +4,6 @@ use Rattle.sha256.specs.Sha256.{Ch}
 use Rattle.sha256.proofs.compression.ch.Statement.{statement}
 use Rattle.sha256.proofs.compression.ch.Tie as tie
 
-pub ch-spec : {M : Type 1} → statement M
+pub ch_spec : {M : Type 1} → statement M
 unfolding Ch
-ch-spec = tie.close (tie.spec (λ c. refl))
+ch_spec = tie.close (tie.spec (λ c. refl))

@@ -1,13 +1,13 @@
 -- `sha256::compression::compress` meets its contract. Assumes nothing.
-use Rattle.wire.proofs.Prelude.{◌∙◌, needs}
+use Rattle.wire.proofs.Prelude.{◌∙◌, rules}
 use Rattle.sha256.proofs.Rounds.{compressed_by_sixteen}
 use Rattle.sha256.proofs.compression.compress.Statement.{statement}
 use Rattle.sha256.proofs.compression.compress.Tie as tie
 
-pub compress-spec : {M : Type 1} → statement M
-compress-spec = tie.close (tie.spec (λ c κs. search needs) (λ c κs. search needs) (λ c κs. search needs) (λ c κs. search needs)
-    (λ c κs. search needs) (λ c κs. search needs) (λ c κs. search needs) (λ c κs. search needs) (λ c κs. search needs)
-    (λ c κs. search needs) (λ c κs. search needs) (λ c κs. search needs) (λ c κs. search needs) (λ c.
+pub compress_spec : {M : Type 1} → statement M
+compress_spec = tie.close (tie.spec (λ c κs. search rules) (λ c κs. search rules) (λ c κs. search rules) (λ c κs. search rules)
+    (λ c κs. search rules) (λ c κs. search rules) (λ c κs. search rules) (λ c κs. search rules) (λ c κs. search rules)
+    (λ c κs. search rules) (λ c κs. search rules) (λ c κs. search rules) (λ c κs. search rules) (λ c.
     let r4 = c.before in
     let r3 = r4.before.before.before in
     let r2 = r3.before.before.before in

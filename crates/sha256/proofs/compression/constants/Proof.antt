@@ -4,6 +4,6 @@ use Rattle.sha256.specs.Sha256.{K}
 use Rattle.sha256.proofs.compression.constants.Statement.{statement}
 use Rattle.sha256.proofs.compression.constants.Tie as tie
 
-pub constants-spec : {M : Type 1} → statement M
+pub constants_spec : {M : Type 1} → statement M
 unfolding K
-constants-spec = tie.close (tie.spec (λ c. refl))
+constants_spec = tie.close (tie.spec (λ c. refl))

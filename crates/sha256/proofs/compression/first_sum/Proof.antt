@@ -4,7 +4,7 @@ use Rattle.sha256.specs.Sha256.{T₁}
 use Rattle.sha256.proofs.compression.first_sum.Statement.{statement}
 use Rattle.sha256.proofs.compression.first_sum.Tie as tie
 
-pub first-sum-spec : {M : Type 1} → statement M
+pub first_sum_spec : {M : Type 1} → statement M
 unfolding T₁
-first-sum-spec = tie.close (tie.spec (λ c κs. search rules) (λ c κs. search rules) (λ c κs. search rules) (λ c κs. search rules)
+first_sum_spec = tie.close (tie.spec (λ c κs. search rules) (λ c κs. search rules) (λ c κs. search rules) (λ c κs. search rules)
     (λ c κs. search rules) (λ c κs. search rules) (λ c. cc))

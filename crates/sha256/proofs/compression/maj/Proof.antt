@@ -4,6 +4,6 @@ use Rattle.sha256.specs.Sha256.{Maj}
 use Rattle.sha256.proofs.compression.maj.Statement.{statement}
 use Rattle.sha256.proofs.compression.maj.Tie as tie
 
-pub maj-spec : {M : Type 1} → statement M
+pub maj_spec : {M : Type 1} → statement M
 unfolding Maj
-maj-spec = tie.close (tie.spec (λ c. refl))
+maj_spec = tie.close (tie.spec (λ c. refl))

@@ -3,8 +3,8 @@ use Rattle.std.proofs.Common.{rules}
 use Rattle.sha256.proofs.compression.next_words.Statement.{statement}
 use Rattle.sha256.proofs.compression.next_words.Tie as tie
 
-pub next-words-spec : {M : Type 1} → statement M
-next-words-spec = tie.close (tie.spec (λ c κs. search rules) (λ c κs. search rules) (λ c κs. search rules) (λ c κs. search rules)
+pub next_words_spec : {M : Type 1} → statement M
+next_words_spec = tie.close (tie.spec (λ c κs. search rules) (λ c κs. search rules) (λ c κs. search rules) (λ c κs. search rules)
     (λ c κs. search rules) (λ c κs. search rules) (λ c κs. search rules) (λ c κs. search rules) (λ c κs. search rules)
     (λ c κs. search rules) (λ c κs. search rules) (λ c κs. search rules) (λ c κs. search rules) (λ c κs. search rules)
     (λ c κs. search rules) (λ c κs. search rules) (λ c.

@@ -4,6 +4,6 @@ use Rattle.sha256.specs.Sha256.{round}
 use Rattle.sha256.proofs.compression.one_round.Statement.{statement}
 use Rattle.sha256.proofs.compression.one_round.Tie as tie
 
-pub one-round-spec : {M : Type 1} → statement M
+pub one_round_spec : {M : Type 1} → statement M
 unfolding round
-one-round-spec = tie.close (tie.spec (λ c κs. search rules) (λ c κs. search rules) (λ c κs. search rules) (λ c κs. search rules) (λ c. cc))
+one_round_spec = tie.close (tie.spec (λ c κs. search rules) (λ c κs. search rules) (λ c κs. search rules) (λ c κs. search rules) (λ c. cc))

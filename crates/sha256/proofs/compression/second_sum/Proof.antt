@@ -4,6 +4,6 @@ use Rattle.sha256.specs.Sha256.{T₂}
 use Rattle.sha256.proofs.compression.second_sum.Statement.{statement}
 use Rattle.sha256.proofs.compression.second_sum.Tie as tie
 
-pub second-sum-spec : {M : Type 1} → statement M
+pub second_sum_spec : {M : Type 1} → statement M
 unfolding T₂
-second-sum-spec = tie.close (tie.spec (λ c κs. search rules) (λ c κs. search rules) (λ c κs. search rules) (λ c. search rules))
+second_sum_spec = tie.close (tie.spec (λ c κs. search rules) (λ c κs. search rules) (λ c κs. search rules) (λ c. search rules))

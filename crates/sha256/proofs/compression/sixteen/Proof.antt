@@ -4,8 +4,8 @@ use Rattle.sha256.proofs.Rounds.{sixteen_by_one}
 use Rattle.sha256.proofs.compression.sixteen.Statement.{statement}
 use Rattle.sha256.proofs.compression.sixteen.Tie as tie
 
-pub sixteen-spec : {M : Type 1} → statement M
-sixteen-spec = tie.close (tie.spec (λ c κs. search rules) (λ c κs. search rules) (λ c κs. search rules) (λ c κs. search rules)
+pub sixteen_spec : {M : Type 1} → statement M
+sixteen_spec = tie.close (tie.spec (λ c κs. search rules) (λ c κs. search rules) (λ c κs. search rules) (λ c κs. search rules)
     (λ c κs. search rules) (λ c κs. search rules) (λ c κs. search rules) (λ c κs. search rules) (λ c κs. search rules)
     (λ c κs. search rules) (λ c κs. search rules) (λ c κs. search rules) (λ c κs. search rules) (λ c κs. search rules)
     (λ c κs. search rules) (λ c κs. search rules) (λ c.

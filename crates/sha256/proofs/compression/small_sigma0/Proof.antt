@@ -4,6 +4,6 @@ use Rattle.sha256.specs.Sha256.{σ₀}
 use Rattle.sha256.proofs.compression.small_sigma0.Statement.{statement}
 use Rattle.sha256.proofs.compression.small_sigma0.Tie as tie
 
-pub small-sigma0-spec : {M : Type 1} → statement M
+pub small_sigma0_spec : {M : Type 1} → statement M
 unfolding σ₀
-small-sigma0-spec = tie.close (tie.spec (λ c. refl))
+small_sigma0_spec = tie.close (tie.spec (λ c. refl))

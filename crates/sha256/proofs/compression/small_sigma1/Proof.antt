@@ -4,6 +4,6 @@ use Rattle.sha256.specs.Sha256.{σ₁}
 use Rattle.sha256.proofs.compression.small_sigma1.Statement.{statement}
 use Rattle.sha256.proofs.compression.small_sigma1.Tie as tie
 
-pub small-sigma1-spec : {M : Type 1} → statement M
+pub small_sigma1_spec : {M : Type 1} → statement M
 unfolding σ₁
-small-sigma1-spec = tie.close (tie.spec (λ c. refl))
+small_sigma1_spec = tie.close (tie.spec (λ c. refl))

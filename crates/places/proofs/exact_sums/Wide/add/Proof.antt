@@ -1,5 +1,5 @@
 -- `places::exact_sums::Wide::add` meets its contract. Assumes nothing.
-use Rattle.wire.proofs.Prelude.{arith, needs}
+use Rattle.wire.proofs.Prelude.{arith, rules}
 use Rattle.places.proofs.ExactSums.{wide_up}
 use Rattle.wire.specs.BigEndian.{value}
 use Rattle.places.proofs.exact_sums.Wide.add.Statement.{statement}
@@ -16,5 +16,5 @@ returns c =
     }
 
 pub add_spec : {M : Type 1} → statement M
-add_spec = tie.close (tie.spec (λ c. search needs) (λ c. search needs) (λ c. search needs) (λ c κs. search needs) returns
-    (λ c κs. search needs) (λ c. search needs))
+add_spec = tie.close (tie.spec (λ c. search rules) (λ c. search rules) (λ c. search rules) (λ c κs. search rules) returns
+    (λ c κs. search rules) (λ c. search rules))

@@ -1,5 +1,5 @@
 -- `places::exact_sums::Wide::add_halves` meets its contract. Assumes nothing.
-use Rattle.wire.proofs.Prelude.{arith, needs}
+use Rattle.wire.proofs.Prelude.{arith, rules}
 use Rattle.places.proofs.ExactSums.{high_added}
 use Rattle.places.proofs.exact_sums.Wide.add_halves.Statement.{statement}
 use Rattle.places.proofs.exact_sums.Wide.add_halves.Tie as tie
@@ -11,5 +11,5 @@ returns c =
     let f = c.add-half2.ensures in
     (omega (arith, high_added a.self.high a.self.low a.high, e.value, f.value), f.low_fits)
 
-pub add-halves-spec : {M : Type 1} → statement M
-add-halves-spec = tie.close (tie.spec (λ c. search needs) (λ c. search needs) (λ c κs. search needs) (λ c κs. search needs) returns)
+pub add_halves_spec : {M : Type 1} → statement M
+add_halves_spec = tie.close (tie.spec (λ c. search rules) (λ c. search rules) (λ c κs. search rules) (λ c κs. search rules) returns)
