@@ -235,7 +235,8 @@ pair_accounts_add_up capacity tariff homes fars h ds l =
     let v₀ = pair_opened tariff homes fars in
     let start = state_of l (opened tariff homes fars) in
     let o = allowed_open _ _ ((accepts_facts capacity v₀ (pair_opened_accepted capacity tariff homes fars h)).ledgers l).tariff_allowed_lem in
-    let first = balanced_opened start (elim l [ Home ↦ refl | Far ↦ refl ]) o in
+    let none : start.passed ≡ [] = elim l as (λ k. (state_of k (opened tariff homes fars)).passed ≡ []) [ Home ↦ refl | Far ↦ refl ] in
+    let first = balanced_opened start none o in
     adds_up start _ _ ((conserved capacity tariff homes fars h ds).tables l)
     (keep_run c (λ v done. Balanced start (state_of l v.pair)) (pair_balanced capacity start l) ds v₀ [] first)
 
