@@ -6,38 +6,38 @@ use Rattle.places.specs.OverPlaces.{all_at}
 use Rattle.places.proofs.balances.are_zero.Statement.{statement}
 use Rattle.places.proofs.balances.are_zero.Tie as tie
 
-abbrev invariant-loop : tie.invariant-loop
+abbrev invariant-loop : tie.invariant-loop-i
 invariant-loop balances from n end i₀ i =
     (from ≤ i)
     × (i ≤ end)
     × (all_at (λ (j : ℕ). eqb (get_or balances j 0) 0) from n ≡ all_at (λ (j : ℕ). eqb (get_or balances j 0) 0) i (from + n - i))
 
-abbrev decreases-loop : tie.decreases-loop
+abbrev decreases-loop : tie.decreases-loop-i
 decreases-loop balances from n end i₀ i = end - i
 
-loop-holds : tie.Need-loop-init invariant-loop decreases-loop
+loop-holds : tie.Need-loop-i-init invariant-loop decreases-loop
 loop-holds c = (search rules, search rules, from_start (all_at _) _ _)
 
-returns : tie.Need-returns invariant-loop decreases-loop
+returns : tie.Need-returns-then-balances-i-ne0 invariant-loop decreases-loop
 unfolding zeros_at
 returns c =
     let c4 = c.before.before.before.before in
     let a = c4.args in
-    let l = c.before.before.before.loop in
-    sym (l.invariant.2 ∙ all_here _ l.i (a.from + a.n) (search rules) (ne_eqb _ _ c.if1.true))
+    let l = c.before.before.before.loop-i in
+    sym (l.invariant.2 ∙ all_here _ l.i (a.from + a.n) (search rules) (ne_eqb _ _ c.if-balances-i-ne0.true))
 
-loop-again : tie.Need-loop-preserved invariant-loop decreases-loop
+loop-again : tie.Need-loop-i-preserved invariant-loop decreases-loop
 loop-again c =
     let c4 = c.before.before.before.before in
     let a = c4.args in
-    let l = c.before.before.before.loop in
-    (search rules, search rules, l.invariant.2 ∙ all_on _ l.i (a.from + a.n) (search rules) (eq-eqb _ _ c.if1.false))
+    let l = c.before.before.before.loop-i in
+    (search rules, search rules, l.invariant.2 ∙ all_on _ l.i (a.from + a.n) (search rules) (eq-eqb _ _ c.if-balances-i-ne0.false))
 
-returns-2 : tie.Need-returns-2 invariant-loop decreases-loop
+returns-2 : tie.Need-returns invariant-loop decreases-loop
 unfolding zeros_at
 returns-2 c =
     let a = c.before.before.args in
-    let l = c.before.loop in
+    let l = c.before.loop-i in
     sym (l.invariant.2 ∙ all_end _ l.i (a.from + a.n) (omega arith))
 
 pub are_zero_spec : {M : Type 1} → statement M

@@ -4,16 +4,16 @@ use Rattle.wire.proofs.Prelude.{rules, paste, paste-suc, paste-zero, refl, set, 
 use Rattle.places.proofs.balances.copy_numbers.Statement.{statement}
 use Rattle.places.proofs.balances.copy_numbers.Tie as tie
 
-abbrev invariant-loop : tie.invariant-loop
+abbrev invariant-loop : tie.invariant-loop-i
 invariant-loop xs at out₀ n i₀ out i = (i ≤ length xs) × (length out ≡ length out₀) × (out ≡ paste out₀ at xs i)
 
-abbrev decreases-loop : tie.decreases-loop
+abbrev decreases-loop : tie.decreases-loop-i
 decreases-loop xs at out₀ n i₀ out i = length xs - i
 
 returns : tie.Need-returns invariant-loop decreases-loop
 returns c =
     let a = c.before.before.args in
-    let l = c.before.loop in
+    let l = c.before.loop-i in
     let d = a.out.now in
     let s = a.xs.now in
     let z : l.i ≡ length s = omega arith in
@@ -29,7 +29,7 @@ copy_numbers_spec = tie.close (tie.spec invariant-loop decreases-loop (λ c.
     (λ c. search rules) (λ c. search rules) (λ c. search rules) (λ c. search rules) (λ c. search rules) (λ c. search rules)
     (λ c. search rules) (λ c.
     let a = c.before.before.before.args in
-    let l = c.before.before.loop in
+    let l = c.before.before.loop-i in
     let x = get_or a.xs.now l.i 0 in
     let e = ap (λ (o : List ℕ). set o (a.at + l.i) x) l.invariant.2 in
     let f = paste-suc a.out.now a.at a.xs.now l.i 0 (omega arith) (omega arith) in

@@ -5,7 +5,7 @@ use Rattle.wire.specs.BigEndian.{value}
 use Rattle.places.proofs.exact_sums.Wide.add.Statement.{statement}
 use Rattle.places.proofs.exact_sums.Wide.add.Tie as tie
 
-returns : tie.Need-returns
+returns : tie.Need-returns-then-x-gt-MAX_AMOUNT
 returns c =
     let a = c.before.before.before.args in
     let e = c.add_half.ensures in

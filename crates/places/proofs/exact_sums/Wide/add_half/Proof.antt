@@ -5,12 +5,12 @@ use Rattle.wire.specs.BigEndian.{value}
 use Rattle.places.proofs.exact_sums.Wide.add_half.Statement.{statement}
 use Rattle.places.proofs.exact_sums.Wide.add_half.Tie as tie
 
-returns : tie.Need-returns
+returns : tie.Need-returns-then-sum-gt-MAX_AMOUNT
 returns c =
     let a = c.before.before.before.args in
     record { value = wide_carry a.self.high a.self.low a.x (search rules); low_fits = omega arith; high_most = omega arith }
 
-returns-2 : tie.Need-returns-2
+returns-2 : tie.Need-returns
 returns-2 c =
     let a = c.before.before.args in
     record { value = wide_low a.self.high a.self.low a.x; low_fits = omega arith; high_most = omega arith }

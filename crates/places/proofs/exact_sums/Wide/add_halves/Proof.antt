@@ -7,8 +7,8 @@ use Rattle.places.proofs.exact_sums.Wide.add_halves.Tie as tie
 returns : tie.Need-returns
 returns c =
     let a = c.before.before.before.args in
-    let e = c.before.add_half.ensures in
-    let f = c.add-half2.ensures in
+    let e = c.before.add_half-v.ensures in
+    let f = c.add_half.ensures in
     (omega (arith, high_added a.self.high a.self.low a.high, e.value, f.value), f.low_fits)
 
 pub add_halves_spec : {M : Type 1} → statement M
