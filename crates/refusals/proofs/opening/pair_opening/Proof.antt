@@ -10,57 +10,57 @@ use Rattle.refusals.proofs.opening.pair_opening.Statement.{statement}
 use Rattle.refusals.proofs.opening.pair_opening.Tie as tie
 
 -- home has a number of accounts that is allowed
-home-allowed : (c : tie.Else1) → count_allowed (length c.before.before.before.before.args.homes.now) ≡ true
-home-allowed c = sym c.before.is-count-allowed.ensures ∙ not-false _ c.if1.false
+home-allowed : (c : tie.Else-not-is_count_allowed) → count_allowed (length c.before.before.before.before.args.homes.now) ≡ true
+home-allowed c = sym c.before.is_count_allowed.ensures ∙ c.if-not-is_count_allowed.false
 
 -- and so has far
-far-allowed : (c : tie.Else2) → count_allowed (length c.before.before.before.before.before.before.args.fars.now) ≡ true
-far-allowed c = sym c.before.is-count-allowed2.ensures ∙ not-false _ c.if2.false
+far-allowed : (c : tie.Else-not-is_count_allowed-2) → count_allowed (length c.before.before.before.before.before.before.args.fars.now) ≡ true
+far-allowed c = sym c.before.is_count_allowed-2.ensures ∙ c.if-not-is_count_allowed-2.false
 
 -- the total of the balances where it is an amount
-fits : (c : tie.Else3) → total c.before.before.before.before.before.before.before.before.before.before.args.homes.now + total c.before.before.before.before.before.before.before.before.before.before.args.fars.now ≤ max_amount
+fits : (c : tie.Else-supply-ne0) → total c.before.before.before.before.before.before.before.before.before.before.args.homes.now + total c.before.before.before.before.before.before.before.before.before.before.args.fars.now ≤ max_amount
 fits c =
     let c2 = c.before.before in
     let a = c2.before.before.before.before.before.before.before.before.args in
-    let w = c2.add-balances2 in
-    let e = added_value (added_after c2.before.add-balances.ensures w.ensures) in
-    let m = wide_fits w.result w.ensures.low_fits c.if3.false in
+    let w = c2.add_balances-supply in
+    let e = added_value (added_after c2.before.add_balances.ensures w.ensures) in
+    let m = wide_fits w.result w.ensures.low_fits c.if-supply-ne0.false in
     let x = total_sum a.homes.now in
     let y = total_sum a.fars.now in
     omega (arith, e, m, x, y)
 
-returns-4 : tie.Need-returns-4
+returns-4 : tie.Need-returns-then-not-is_allowed
 returns-4 c =
     let d = c.before.before in
     let c4 = d.before.before.before.before in
-    let n = sym c.before.is-allowed.ensures ∙ not-true _ c.if4.true in
+    let n = sym c.before.is_allowed.ensures ∙ c.if-not-is_allowed.true in
     (tariff_refused _ _ _ _ (home-allowed c4.before.before) (far-allowed c4) (fits d) n, λ z. absurd (omega arith))
 
-returns-5 : tie.Need-returns-5
+returns-5 : tie.Need-returns
 returns-5 c =
     let d = c.before.before in
     let c2 = d.before.before in
     let c4 = c2.before.before in
     let a = c4.before.before.before.before.before.before.args in
-    let w = c2.add-balances2 in
-    let e = added_value (added_after c2.before.add-balances.ensures w.ensures) in
-    let m = wide_fits w.result w.ensures.low_fits d.if3.false in
+    let w = c2.add_balances-supply in
+    let e = added_value (added_after c2.before.add_balances.ensures w.ensures) in
+    let m = wide_fits w.result w.ensures.low_fits d.if-supply-ne0.false in
     let x = total_sum a.homes.now in
     let y = total_sum a.fars.now in
-    let n = sym c.before.is-allowed.ensures ∙ not-false _ c.if4.false in (
+    let n = sym c.before.is_allowed.ensures ∙ c.if-not-is_allowed.false in (
       none_refused _ _ _ _ (home-allowed c4.before.before) (far-allowed c4) (fits d) n,
       λ z. omega (arith, e, low_is_wide w.result m, x, y),
     )
 
 pub pair_opening_spec : {M : Type 1} → statement M
 pair_opening_spec = tie.close (tie.spec (λ c κs. search rules) (λ c.
-    let n = sym c.before.is-count-allowed.ensures ∙ not-true _ c.if1.true in
+    let n = sym c.before.is_count_allowed.ensures ∙ c.if-not-is_count_allowed.true in
     (home_refused _ _ _ _ n, λ z. absurd (omega arith)))
     (λ c κs. search rules) (λ c.
-    let n = sym c.before.is-count-allowed2.ensures ∙ not-true _ c.if2.true in
+    let n = sym c.before.is_count_allowed-2.ensures ∙ c.if-not-is_count_allowed-2.true in
     (far_refused _ _ _ _ n, λ z. absurd (omega arith)))
     (λ c κs. (omega arith, omega arith, omega (arith, (count_facts _ (home-allowed c.before.before)).1))) (λ c κs.
-    let e = c.add-balances.ensures in
+    let e = c.add_balances.ensures in
     let h = count_facts _ (home-allowed c.before.before.before) in
     let f = count_facts _ (far-allowed c.before) in
     (omega arith, e.low_fits, omega (arith, h.1, f.1, e.high_most)))
@@ -68,9 +68,9 @@ pair_opening_spec = tie.close (tie.spec (λ c κs. search rules) (λ c.
     let c2 = c.before.before in
     let c4 = c2.before.before in
     let a = c4.before.before.before.before.before.before.args in
-    let w = c2.add-balances2 in
-    let e = added_value (added_after c2.before.add-balances.ensures w.ensures) in
+    let w = c2.add_balances-supply in
+    let e = added_value (added_after c2.before.add_balances.ensures w.ensures) in
     let s : max_amount < total a.homes.now + total a.fars.now =
-    omega (arith, e, wide_passes w.result c.if3.true, total_sum a.homes.now, total_sum a.fars.now) in
+    omega (arith, e, wide_passes w.result c.if-supply-ne0.true, total_sum a.homes.now, total_sum a.fars.now) in
     (supply_refused _ _ _ _ (home-allowed c4.before.before) (far-allowed c4) s, λ z. absurd (omega arith)))
     (λ c κs. search rules) returns-4 returns-5)

@@ -22,20 +22,20 @@ short-second b t c h = ap (λ (x : Bool). refuse x 25 0) (go (ltb b (t + c)) ref
 same-funds : {b x t y c z : ℕ} → b ≡ x → t ≡ y → c ≡ z → refuse (ltb b (t + c)) 25 0 ≡ refuse (ltb x (y + z)) 25 0
 same-funds p q r = λ i. refuse (ltb (p i) (q i + r i)) 25 0
 
-returns : tie.Need-returns
+returns : tie.Need-returns-then-balance-taken
 unfolding funds_at
 returns c =
-    let d = c.before.before.balance-at in
-    let e = c.before.taken-by in
+    let d = c.before.before.balance_at-balance in
+    let e = c.before.taken_by-taken in
     short-first d.result e.result _ (omega arith) ∙ same-funds d.ensures e.ensures refl
 
-returns-2 : tie.Need-returns-2
+returns-2 : tie.Need-returns
 unfolding funds_at
 returns-2 c =
-    let d = c.before.before.before.before.balance-at in
-    let e = c.before.before.before.taken-by in
-    let g = c.before.charge-by in
-    c.refusal-if.ensures
+    let d = c.before.before.before.before.balance_at-balance in
+    let e = c.before.before.before.taken_by-taken in
+    let g = c.before.charge_by in
+    c.refusal_if.ensures
     ∙ short-second d.result e.result g.result (omega arith)
     ∙ same-funds d.ensures e.ensures g.ensures
 
