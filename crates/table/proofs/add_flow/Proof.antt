@@ -16,24 +16,24 @@ same a b x q = (omega (arith, q), omega (arith, q))
 sending : (k : ℕ) → k ≡ 2 → k ≡ 3 → ⊥
 sending k p q = omega (arith, p, q)
 
-returns : tie.Need-returns
+returns : tie.Need-returns-then-kind-eq2
 returns c =
-    let t = c.before.if1.true in (
+    let t = c.before.if-kind-eq2.true in (
       more _ _ _ _ _ _ c.add.ensures (chosen _ _ _ (eq-eqb _ _ t)),
       same _ _ _ (not_chosen _ _ _ (ne_eqb _ _ (sending _ t))),
     )
 
-returns-2 : tie.Need-returns-2
+returns-2 : tie.Need-returns-then-kind-eq3
 returns-2 c =
-    let t = c.before.if2.true in (
-      same _ _ _ (not_chosen _ _ _ (ne_eqb _ _ c.before.before.if1.false)),
-      more _ _ _ _ _ _ c.add2.ensures (chosen _ _ _ (eq-eqb _ _ t)),
+    let t = c.before.if-kind-eq3.true in (
+      same _ _ _ (not_chosen _ _ _ (ne_eqb _ _ c.before.before.if-kind-eq2.false)),
+      more _ _ _ _ _ _ c.add-then-kind-eq3.ensures (chosen _ _ _ (eq-eqb _ _ t)),
     )
 
-returns-3 : tie.Need-returns-3
+returns-3 : tie.Need-returns
 returns-3 c = (
-  same _ _ _ (not_chosen _ _ _ (ne_eqb _ _ c.before.if1.false)),
-  same _ _ _ (not_chosen _ _ _ (ne_eqb _ _ c.if2.false)),
+  same _ _ _ (not_chosen _ _ _ (ne_eqb _ _ c.before.if-kind-eq2.false)),
+  same _ _ _ (not_chosen _ _ _ (ne_eqb _ _ c.if-kind-eq3.false)),
 )
 
 pub add_flow_spec : {M : Type 1} → statement M

@@ -5,49 +5,49 @@ use Rattle.wire.proofs.Prelude.{◌∙◌, arith, rules, sym}
 use Rattle.table.proofs.is_sent.Statement.{statement}
 use Rattle.table.proofs.is_sent.Tie as tie
 
-abbrev invariant-loop : tie.invariant-loop
+abbrev invariant-loop : tie.invariant-loop-at
 invariant-loop words index from base n number head amount at₀ steps₀ at steps =
     WalkFor words from n (sent_at number head amount words from) number at
 
-abbrev decreases-loop : tie.decreases-loop
+abbrev decreases-loop : tie.decreases-loop-at
 decreases-loop words index from base n number head amount at₀ steps₀ at steps = at
 
-loop-holds : tie.Need-loop-init invariant-loop decreases-loop
+loop-holds : tie.Need-loop-at-init invariant-loop decreases-loop
 loop-holds c =
     let o = c.before.before.before.before.before in
     let a = o.args in
-    let low = c.before.before.low-bits in
-    walk_first a.words.now a.from a.index.now a.base a.n o.requires.2 _ a.number (sent_numbered a.number a.head a.amount a.words.now a.from) _ low.result low.ensures c.as-index.ensures
+    let low = c.before.before.low_bits in
+    walk_first a.words.now a.from a.index.now a.base a.n o.requires.2 _ a.number (sent_numbered a.number a.head a.amount a.words.now a.from) _ low.result low.ensures c.as_index-at.ensures
 
-returns : tie.Need-returns invariant-loop decreases-loop
+returns : tie.Need-returns-then-sent_at invariant-loop decreases-loop
 returns c =
     let o = c.before.before.before.before.before.before.before.before.before in
     let a = o.args in
-    let l = c.before.before.before.loop in
-    sym (walk_found a.words.now a.from a.index.now a.base a.n o.requires.2 _ a.number (sent_numbered a.number a.head a.amount a.words.now a.from) l.at l.invariant c.before.before.loop-test.true (sym c.before.sent-at.ensures ∙ c.if1.true))
+    let l = c.before.before.before.loop-at in
+    sym (walk_found a.words.now a.from a.index.now a.base a.n o.requires.2 _ a.number (sent_numbered a.number a.head a.amount a.words.now a.from) l.at l.invariant c.before.before.loop-at-test.true (sym c.before.sent_at.ensures ∙ c.if-sent_at.true))
 
-loop-less : tie.Need-loop-smaller invariant-loop decreases-loop
+loop-less : tie.Need-loop-at-smaller invariant-loop decreases-loop
 loop-less c =
     let t = c.before.before.before.before.before in
-    let l = t.before.loop in
+    let l = t.before.loop-at in
     let o = t.before.before.before.before.before.before.before in
     let a = o.args in
-    walk_lower a.words.now a.from a.index.now a.base a.n o.requires.2 _ a.number (sent_numbered a.number a.head a.amount a.words.now a.from) l.at l.invariant _ t.loop-test.true c.as-index2.ensures
+    walk_lower a.words.now a.from a.index.now a.base a.n o.requires.2 _ a.number (sent_numbered a.number a.head a.amount a.words.now a.from) l.at l.invariant _ t.loop-at-test.true c.as_index-at-in-loop-at.ensures
 
-loop-again : tie.Need-loop-preserved invariant-loop decreases-loop
+loop-again : tie.Need-loop-at-preserved invariant-loop decreases-loop
 loop-again c =
     let t = c.before.before.before.before.before in
-    let l = t.before.loop in
+    let l = t.before.loop-at in
     let o = t.before.before.before.before.before.before.before in
     let a = o.args in
     walk_next a.words.now a.from a.index.now a.base a.n o.requires.2 _ a.number (sent_numbered a.number a.head
-    a.amount a.words.now a.from) l.at l.invariant _ t.loop-test.true (sym c.before.before.before.before.sent-at.ensures ∙ c.before.before.before.if1.false) c.as-index2.ensures
+    a.amount a.words.now a.from) l.at l.invariant _ t.loop-at-test.true (sym c.before.before.before.before.sent_at.ensures ∙ c.before.before.before.if-sent_at.false) c.as_index-at-in-loop-at.ensures
 
-returns-3 : tie.Need-returns-3 invariant-loop decreases-loop
+returns-3 : tie.Need-returns invariant-loop decreases-loop
 returns-3 c =
     let o = c.before.before.before.before.before.before.before in
     let a = o.args in
-    let l = c.before.loop in
+    let l = c.before.loop-at in
     sym (walk_end a.words.now a.from a.index.now a.base a.n o.requires.2 _ a.number (sent_numbered a.number a.head a.amount a.words.now a.from) l.at l.invariant (omega arith))
 
 pub is_sent_spec : {M : Type 1} → statement M

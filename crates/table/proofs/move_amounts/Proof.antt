@@ -4,7 +4,7 @@ use Rattle.std.proofs.Common.{rules}
 use Rattle.table.proofs.move_amounts.Statement.{statement}
 use Rattle.table.proofs.move_amounts.Tie as tie
 
-add_words : tie.Need-overflow-add-words
+add_words : tie.Need-overflow_add-words
 unfolding lowered
 add_words c = search rules
 

@@ -3,13 +3,13 @@ use Rattle.wire.proofs.Prelude.{arith, length-set, rules}
 use Rattle.table.proofs.put_words.Statement.{statement}
 use Rattle.table.proofs.put_words.Tie as tie
 
-slice-write-words-2 : tie.Need-slice-write-words-2
+slice-write-words-2 : tie.Need-bounds-words-at-2
 slice-write-words-2 c = simp length-set (omega arith)
 
-slice-write-words-3 : tie.Need-slice-write-words-3
+slice-write-words-3 : tie.Need-bounds-words-at-3
 slice-write-words-3 c = simp length-set (omega arith)
 
-slice-write-words-4 : tie.Need-slice-write-words-4
+slice-write-words-4 : tie.Need-bounds-words-at-4
 slice-write-words-4 c = simp length-set (omega arith)
 
 pub put_words_spec : {M : Type 1} → statement M

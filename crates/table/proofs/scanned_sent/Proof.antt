@@ -6,34 +6,34 @@ use Rattle.table.specs.Table.{sent_at}
 use Rattle.table.proofs.scanned_sent.Statement.{statement}
 use Rattle.table.proofs.scanned_sent.Tie as tie
 
-abbrev invariant-loop : tie.invariant-loop
+abbrev invariant-loop : tie.invariant-loop-i
 invariant-loop words from n number head amount i₀ i = let p = sent_at number head amount words from in (i ≤ n) × (any_at p 0 n ≡ any_at p i (n - i))
 
-abbrev decreases-loop : tie.decreases-loop
+abbrev decreases-loop : tie.decreases-loop-i
 decreases-loop words from n number head amount i₀ i = n - i
 
-loop-holds : tie.Need-loop-init invariant-loop decreases-loop
+loop-holds : tie.Need-loop-i-init invariant-loop decreases-loop
 loop-holds c =
     let a = c.before.args in
     let z : a.n ≡ a.n - 0 = omega arith in
     (omega arith, ap (any_at _ 0) z)
 
-returns : tie.Need-returns invariant-loop decreases-loop
+returns : tie.Need-returns-then-sent_in_four invariant-loop decreases-loop
 returns c =
-    let l = c.before.before.before.loop in
+    let l = c.before.before.before.loop-i in
     let a = c.before.before.before.before.before.args in
     sym (l.invariant.1
-    ∙ four_here _ l.i a.n c.before.before.loop-test.true (sym c.before.sent-in-four.ensures ∙ c.if1.true))
+    ∙ four_here _ l.i a.n c.before.before.loop-i-test.true (sym c.before.sent_in_four.ensures ∙ c.if-sent_in_four.true))
 
-loop-again : tie.Need-loop-preserved invariant-loop decreases-loop
+loop-again : tie.Need-loop-i-preserved invariant-loop decreases-loop
 loop-again c =
-    let l = c.before.before.before.loop in
+    let l = c.before.before.before.loop-i in
     let a = c.before.before.before.before.before.args in
-    let t = c.before.before.loop-test.true in
-    (omega (arith, t), l.invariant.1 ∙ four_on _ l.i a.n t (sym c.before.sent-in-four.ensures ∙ c.if1.false))
+    let t = c.before.before.loop-i-test.true in
+    (omega (arith, t), l.invariant.1 ∙ four_on _ l.i a.n t (sym c.before.sent_in_four.ensures ∙ c.if-sent_in_four.false))
 
-returns-2 : tie.Need-returns-2 invariant-loop decreases-loop
-returns-2 c = c.scanned-sent-from.ensures ∙ sym c.before.before.loop.invariant.1
+returns-2 : tie.Need-returns invariant-loop decreases-loop
+returns-2 c = c.scanned_sent_from.ensures ∙ sym c.before.before.loop-i.invariant.1
 
 pub scanned_sent_spec : {M : Type 1} → statement M
 scanned_sent_spec = tie.close (tie.spec invariant-loop decreases-loop loop-holds (λ c. search rules) (λ c κs. search rules) returns (λ c. search rules)

@@ -6,32 +6,32 @@ use Rattle.table.specs.Table.{sent_at}
 use Rattle.table.proofs.scanned_sent_from.Statement.{statement}
 use Rattle.table.proofs.scanned_sent_from.Tie as tie
 
-abbrev invariant-loop : tie.invariant-loop
+abbrev invariant-loop : tie.invariant-loop-i
 invariant-loop words from k n number head amount i₀ i =
     let p = sent_at number head amount words from in (i ≤ n) × (any_at p k (n - k) ≡ any_at p i (n - i))
 
-abbrev decreases-loop : tie.decreases-loop
+abbrev decreases-loop : tie.decreases-loop-i
 decreases-loop words from k n number head amount i₀ i = n - i
 
-loop-holds : tie.Need-loop-init invariant-loop decreases-loop
+loop-holds : tie.Need-loop-i-init invariant-loop decreases-loop
 loop-holds c = (c.before.requires.1, refl)
 
-returns : tie.Need-returns invariant-loop decreases-loop
+returns : tie.Need-returns-then-sent_at invariant-loop decreases-loop
 returns c =
-    let l = c.before.before.before.loop in
+    let l = c.before.before.before.loop-i in
     let a = c.before.before.before.before.before.args in
-    sym (l.invariant.1 ∙ any_here _ l.i a.n (search rules) (sym c.before.sent-at.ensures ∙ c.if1.true))
+    sym (l.invariant.1 ∙ any_here _ l.i a.n (search rules) (sym c.before.sent_at.ensures ∙ c.if-sent_at.true))
 
-loop-again : tie.Need-loop-preserved invariant-loop decreases-loop
+loop-again : tie.Need-loop-i-preserved invariant-loop decreases-loop
 loop-again c =
-    let l = c.before.before.before.loop in
+    let l = c.before.before.before.loop-i in
     let a = c.before.before.before.before.before.args in
-    let e = sym c.before.sent-at.ensures ∙ c.if1.false in
+    let e = sym c.before.sent_at.ensures ∙ c.if-sent_at.false in
     (search rules, l.invariant.1 ∙ any_on _ l.i a.n (search rules) e)
 
-returns-2 : tie.Need-returns-2 invariant-loop decreases-loop
+returns-2 : tie.Need-returns invariant-loop decreases-loop
 returns-2 c =
-    let l = c.before.loop in
+    let l = c.before.loop-i in
     let a = c.before.before.before.args in
     sym (l.invariant.1 ∙ any_end _ l.i a.n (omega arith))
 

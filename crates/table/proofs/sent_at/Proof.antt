@@ -5,20 +5,20 @@ use Rattle.wire.proofs.Prelude.{◌∙◌, eq-eqb, ne_eqb, rules, sym}
 use Rattle.table.proofs.sent_at.Statement.{statement}
 use Rattle.table.proofs.sent_at.Tie as tie
 
-returns : tie.Need-returns
+returns : tie.Need-returns-then-number-words
 unfolding sent_at
-returns c = sym (every_not 0 _ (ne_eqb _ _ c.if1.true))
+returns c = sym (every_not 0 _ (ne_eqb _ _ c.if-number-words.true))
 
-returns-2 : tie.Need-returns-2
+returns-2 : tie.Need-returns-then-head-words
 unfolding sent_at
-returns-2 c = sym (every_not 1 _ (ne_eqb _ _ c.if2.true))
+returns-2 c = sym (every_not 1 _ (ne_eqb _ _ c.if-head-words.true))
 
-returns-3 : tie.Need-returns-3
+returns-3 : tie.Need-returns
 unfolding sent_at
 returns-3 c =
     sym
-    (every_skip _ _ (eq-eqb _ _ c.before.before.before.if1.false)
-    ∙ every_skip _ _ (eq-eqb _ _ c.before.if2.false)
+    (every_skip _ _ (eq-eqb _ _ c.before.before.before.if-number-words.false)
+    ∙ every_skip _ _ (eq-eqb _ _ c.before.if-head-words.false)
     ∙ every_one _)
 
 pub sent_at_spec : {M : Type 1} → statement M

@@ -5,15 +5,15 @@ use Rattle.table.specs.Table.{arrival_in, head_at}
 use Rattle.table.proofs.used_at.Statement.{statement}
 use Rattle.table.proofs.used_at.Tie as tie
 
-returns : tie.Need-returns
+returns : tie.Need-returns-then-x-words
 returns c =
     let a = c.before.before.before.args in
-    other_number a.arrival (arrival_in (head_at a.words.now a.from a.i)) _ (ne_eqb _ _ c.if1.true)
+    other_number a.arrival (arrival_in (head_at a.words.now a.from a.i)) _ (ne_eqb _ _ c.if-x-words.true)
 
-returns-2 : tie.Need-returns-2
+returns-2 : tie.Need-returns
 returns-2 c =
-    same_class c.before.before.before.before.before.args.arrival _ _ _ c.is-arrival.ensures
-    (eq-eqb _ _ c.before.before.if1.false)
+    same_class c.before.before.before.before.before.args.arrival _ _ _ c.is_arrival.ensures
+    (eq-eqb _ _ c.before.before.if-x-words.false)
 
 pub used_at_spec : {M : Type 1} → statement M
 used_at_spec = tie.close (tie.spec (λ c. search rules) (λ c. search rules) (λ c. search rules) (λ c. search rules) (λ c. search rules)
