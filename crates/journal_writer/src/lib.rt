@@ -92,9 +92,9 @@ fn lay(out: &mut [u8], head: [u8; 32], items: &[u8])
     requires { (length out.old ≡ 512) × (length items.now ≤ 448) }
     ensures { take 480 out.new ≡ head ++ (items.now ++ replicate (448 - length items.now) 0) }
 {
-    bytes::copy(&head, out);
-    bytes::copy(items, &mut out[32..]);
+    out[..32].copy_from_slice(&head);
     let end = 32 + items.len();
+    out[32..end].copy_from_slice(items);
     clear(&mut out[end..480]);
 }
 
@@ -104,7 +104,7 @@ fn seal(out: &mut [u8])
     ensures { out.new ≡ take 480 out.old ++ sha256 (take 480 out.old) }
 {
     let d = sha256::digest(&out[..480]);
-    bytes::copy(&d, &mut out[480..]);
+    out[480..].copy_from_slice(&d);
 }
 
 // Writes items as block k of a kind into 512 bytes of output, into block 0 rate and charge account too: for every other block they are

@@ -2,7 +2,8 @@
 use Rattle.wire.proofs.Prelude.{List, [], ◌%◌, ◌*◌, ◌++◌, ◌+◌, ◌-◌, ◌/◌, ◌^◌, ◌∙◌, ◌∷◌, ◌≡◌, ◌≤◌, add-one, ap, append_assoc, arith, drop}
 use Rattle.wire.proofs.Prelude.{drop-append-le, drop_at, drop-drop, get_or, length, length-append, length-drop, length-replicate}
 use Rattle.wire.proofs.Prelude.{length-take-le, replicate, replicate-append-replicate, set, set-append_seam, suc, sym, take, take-add}
-use Rattle.wire.proofs.Prelude.{take_all, take-append-le, take_at, take-length, take-take, ℕ}
+use Rattle.wire.proofs.Prelude.{take_all, take-append-le, take_at, take-take, ℕ}
+use borrow.Rule.Slice.PartMut.{put_mid}
 use Rattle.sha256.specs.Sha256.{block, compressed, hash_bytes, hashed, padded, padding, zero_count}
 use Rattle.sha256.specs.declared.compression.Hash.{Hash}
 use Rattle.wire.proofs.Numbers.{length_bytes_of}
@@ -92,32 +93,31 @@ pub length_bits : (n : ℕ) → n % 2305843009213693952 * 8 ≡ 8 * n % 2 ^ 64
 length_bits n = omega arith
 
 -- the rest p of a message of n bytes in zero_bytes, a mark after it and the length l in its place: the rest and the padding
-pub rest_padded : (p : List ℕ) (n r : ℕ) {b l x : List ℕ} (t u : List ℕ)
-    → length p ≡ n % 64 → r ≡ length p → b ≡ take (length p) p ++ drop (length p) (zero_bytes 128)
-    → l ≡ bytes_of 8 (n % 2305843009213693952 * 8) → x ≡ take (length l) l ++ t
-    → take (n % 64 + zero_count n + 9) (take (r + 1 + (119 - r) % 64) (set b r 0x80) ++ (x ++ u)) ≡ p ++ padding n
+pub rest_padded : (p : List ℕ) (n : ℕ) {q l x : List ℕ}
+    → length p ≡ n % 64 → q ≡ p → l ≡ bytes_of 8 (n % 2305843009213693952 * 8) → x ≡ l
+    → let at = length p + 1 + (119 - length p) % 64 in
+    take (n % 64 + zero_count n + 9)
+    (put_mid at (at + 8 - at) (set (q ++ drop (length p) (zero_bytes 128)) (length p) 0x80) x) ≡ p ++ padding n
 unfolding padding
-rest_padded p n r {b = b} {l = l} {x = x} t u h er eb el ex =
+rest_padded p n {q = q} {l = l} {x = x} h eq el ex =
     let z : ℕ = zero_count n in
+    let r : ℕ = length p in
     let at : ℕ = r + 1 + (119 - r) % 64 in
     let e : ℕ = n % 64 + z + 9 in
-    let q : ℕ = 128 - at in
     let f : List ℕ = p ++ 0x80 ∷ zero_bytes z in
     let length-f : length f ≡ at = omega (arith, length-append p (0x80 ∷ zero_bytes z), length_zero_bytes z) in
-    let bits : l ≡ bytes_of 8 (8 * n % 2 ^ 64) = el ∙ ap (bytes_of 8) (length_bits n) in
     let length-l : length l ≡ 8 = ap length el ∙ length_bytes_of 8 (n % 2305843009213693952 * 8) in
-    let begun : b ≡ p ++ drop (length p) (zero_bytes 128) = eb ∙ ap (λ (k : List ℕ). k ++ drop (length p) (zero_bytes 128)) (take-length p) in
-    let front : take at (set b r 0x80) ≡ f =
-    (λ a. take at (set (begun a) (er a) 0x80))
-    ∙ ap (take at) (marked p z q 0x80 128 (omega arith))
-    ∙ take_at f (zero_bytes q) at length-f in
-    let back : x ++ u ≡ l ++ (t ++ u) =
-    ap (λ (k : List ℕ). k ++ u) (ex ∙ ap (λ (k : List ℕ). k ++ t) (take-length l)) ∙ append_assoc l t u in
-    (λ a. take e (front a ++ back a))
-    ∙ ap (take e) (sym (append_assoc f l (t ++ u)))
-    ∙ take_at (f ++ l) (t ++ u) e (omega (arith, length-append f l))
+    let d : List ℕ = set (q ++ drop r (zero_bytes 128)) r 0x80 in
+    let u : List ℕ = drop (at + 8 - at) (drop at d) in
+    let front : take at d ≡ f =
+    ap (λ (k : List ℕ). take at (set (k ++ drop r (zero_bytes 128)) r 0x80)) eq
+    ∙ ap (take at) (marked p z (128 - at) 0x80 128 (omega arith))
+    ∙ take_at f (zero_bytes (128 - at)) at length-f in
+    (λ a. take e (front a ++ (ex a ++ u)))
+    ∙ ap (take e) (sym (append_assoc f l u))
+    ∙ take_at (f ++ l) u e (omega (arith, length-append f l))
     ∙ append_assoc p (0x80 ∷ zero_bytes z) l
-    ∙ ap (λ (k : List ℕ). p ++ 0x80 ∷ (zero_bytes z ++ k)) bits
+    ∙ ap (λ (k : List ℕ). p ++ 0x80 ∷ (zero_bytes z ++ k)) (el ∙ ap (bytes_of 8) (length_bits n))
 
 -- ## The bytes of a hash value
 

@@ -33,12 +33,14 @@ fn last_bytes(rest: &[u8], n: usize) -> [u8; 128]
     ensures { take (n % 64 + zero_count n + 9) result ≡ rest.now ++ padding n }
 {
     let mut b = [0u8; 128];
-    let r = bytes::copy(rest, &mut b);
+    let r = rest.len();
+    b[..r].copy_from_slice(rest);
     b[r] = 0x80;
     let at = r + 1 + (119 - r) % 64;
     let bits = (n % 2305843009213693952 * 8) as u64;
     let l = u64_bytes(bits);
-    bytes::copy(&l, &mut b[at..]);
+    let end = at + 8;
+    b[at..end].copy_from_slice(&l);
     b
 }
 

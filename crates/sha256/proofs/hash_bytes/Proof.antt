@@ -13,7 +13,7 @@ hash_bytes_spec = tie.close (tie.spec (λ c κs. search rules) (λ c κs. search
     (λ c. search rules) (λ c. search rules) (λ c. search rules) (λ c. search rules) (λ c. search rules) (λ c. search rules)
     (λ c. search rules) (λ c. search rules) (λ c. search rules) (λ c. search rules) (λ c. search rules) (λ c. search rules) (λ c.
     let c4 = c.before.before.before.before in
-    bytes_of_words c4.before.before.before.before.args.s c4.before.before.before.u32-bytes.ensures
-    c4.before.before.u32-bytes2.ensures c4.before.u32-bytes3.ensures c4.u32-bytes4.ensures
-    c.before.before.before.u32-bytes5.ensures c.before.before.u32-bytes6.ensures c.before.u32-bytes7.ensures
-    c.u32-bytes8.ensures))
+    bytes_of_words c4.before.before.before.before.args.s c4.before.before.before.u32_bytes-a.ensures
+    c4.before.before.u32_bytes-b.ensures c4.before.u32_bytes-c.ensures c4.u32_bytes-d.ensures
+    c.before.before.before.u32_bytes-e.ensures c.before.before.u32_bytes-f.ensures c.before.u32_bytes-g.ensures
+    c.u32_bytes-h.ensures))

@@ -15,7 +15,7 @@ compress_spec = tie.close (tie.spec (λ c κs. search rules) (λ c κs. search r
     let l = r1.before.before in
     let a = l.before.before in
     c.add_words.ensures
-    ∙ compressed_by_sixteen a.args.block.now a.args.s a.requires.1 r1.before.constants-from.ensures
-    r2.before.constants-from2.ensures r3.before.constants-from3.ensures r4.before.constants-from4.ensures l.load.ensures
-    r2.before.before.next_words.ensures r3.before.before.next-words2.ensures r4.before.before.next-words3.ensures
-    r1.sixteen.ensures r2.sixteen2.ensures r3.sixteen3.ensures r4.sixteen4.ensures))
+    ∙ compressed_by_sixteen a.args.block.now a.args.s a.requires.1 r1.before.constants_from.ensures
+    r2.before.constants_from-2.ensures r3.before.constants_from-3.ensures r4.before.constants_from-4.ensures l.load-w0.ensures
+    r2.before.before.next_words-w1.ensures r3.before.before.next_words-w2.ensures r4.before.before.next_words-w3.ensures
+    r1.sixteen-s0.ensures r2.sixteen-s1.ensures r3.sixteen-s2.ensures r4.sixteen.ensures))

@@ -10,20 +10,20 @@ next_words_spec = tie.close (tie.spec (λ c κs. search rules) (λ c κs. search
     (λ c κs. search rules) (λ c κs. search rules) (λ c.
     let p = c.before.before.before.before.before.before.before.before in
     record {
-      f0 = p.before.before.before.before.before.before.before.next_word.ensures;
-      f1 = p.before.before.before.before.before.before.next-word2.ensures;
-      f2 = p.before.before.before.before.before.next-word3.ensures;
-      f3 = p.before.before.before.before.next-word4.ensures;
-      f4 = p.before.before.before.next-word5.ensures;
-      f5 = p.before.before.next-word6.ensures;
-      f6 = p.before.next-word7.ensures;
-      f7 = p.next-word8.ensures;
-      f8 = c.before.before.before.before.before.before.before.next-word9.ensures;
-      f9 = c.before.before.before.before.before.before.next-word10.ensures;
-      f10 = c.before.before.before.before.before.next-word11.ensures;
-      f11 = c.before.before.before.before.next-word12.ensures;
-      f12 = c.before.before.before.next-word13.ensures;
-      f13 = c.before.before.next-word14.ensures;
-      f14 = c.before.next-word15.ensures;
-      f15 = c.next-word16.ensures;
+      f0 = p.before.before.before.before.before.before.before.next_word-n0.ensures;
+      f1 = p.before.before.before.before.before.before.next_word-n1.ensures;
+      f2 = p.before.before.before.before.before.next_word-n2.ensures;
+      f3 = p.before.before.before.before.next_word-n3.ensures;
+      f4 = p.before.before.before.next_word-n4.ensures;
+      f5 = p.before.before.next_word-n5.ensures;
+      f6 = p.before.next_word-n6.ensures;
+      f7 = p.next_word-n7.ensures;
+      f8 = c.before.before.before.before.before.before.before.next_word-n8.ensures;
+      f9 = c.before.before.before.before.before.before.next_word-n9.ensures;
+      f10 = c.before.before.before.before.before.next_word-n10.ensures;
+      f11 = c.before.before.before.before.next_word-n11.ensures;
+      f12 = c.before.before.before.next_word-n12.ensures;
+      f13 = c.before.before.next_word-n13.ensures;
+      f14 = c.before.next_word-n14.ensures;
+      f15 = c.next_word-n15.ensures;
     }))
