@@ -9,7 +9,7 @@ use Rattle.journal_blocks.proofs.checks.block_refusal.Tie as tie
 
 pub block_refusal_spec : {M : Type 1} → statement M
 unfolding block_refusal
-block_refusal_spec = tie.close (tie.spec (λ c. rw (ne_eqb _ _ c.if1.true)) (λ c κs. search rules) (λ c κs. search rules)
+block_refusal_spec = tie.close (tie.spec (λ c. rw (ne_eqb _ _ c.if-block-ne-BLOCK_SIZE.true)) (λ c κs. search rules) (λ c κs. search rules)
     (λ c κs. search rules) (λ c κs. search rules) (λ c. search rules) (λ c κs. search rules) (λ c κs. search rules) (λ c κs. search rules)
     (λ c κs. search rules) (λ c κs. search rules) (λ c κs. search rules) (λ c κs. search rules) (λ c κs. search rules) (λ c.
     let c4 = c.before.before.before.before in
@@ -19,14 +19,14 @@ block_refusal_spec = tie.close (tie.spec (λ c. rw (ne_eqb _ _ c.if1.true)) (λ 
     let c11 = c9.before.before in
     let a = c11.before.before.before.args in
     let b = a.block.now in
-    let check = c9.refusal-if2.ensures ∙ ap (λ (t : Bool). refuse (not t) 12 0) c9.before.is-checked.ensures in
-    let number = c7.refusal-if3.ensures ∙ ap (λ (n : ℕ). refuse (not (eqb n a.k)) 13 0) c7.before.u32-at.ensures in
-    let form = c5.refusal-if4.ensures ∙ ap (λ (t : Bool). refuse (not t) 14 0) c5.before.is-block-formed.ensures in
-    let last = c.before.before.before.first-refusal.ensures ∙ ap₂ or_else form c4.tariff-refusal.ensures in
-    let later = c.before.before.first-refusal2.ensures ∙ ap₂ or_else number last in
-    let all = c.before.first-refusal3.ensures ∙ ap₂ or_else check later in
-    rw (eq-eqb _ _ c11.before.if1.false)
-    (c.first-refusal4.ensures
-    ∙ ap₂ or_else c11.refusal-if.ensures all
+    let check = c9.refusal_if-check.ensures ∙ ap (λ (t : Bool). refuse (not t) 12 0) c9.before.is_checked.ensures in
+    let number = c7.refusal_if-number.ensures ∙ ap (λ (n : ℕ). refuse (not (eqb n a.k)) 13 0) c7.before.u32_at.ensures in
+    let form = c5.refusal_if-form.ensures ∙ ap (λ (t : Bool). refuse (not t) 14 0) c5.before.is_block_formed.ensures in
+    let last = c.before.before.before.first_refusal-content.ensures ∙ ap₂ or_else form c4.tariff_refusal-tariff.ensures in
+    let later = c.before.before.first_refusal.ensures ∙ ap₂ or_else number last in
+    let all = c.before.first_refusal-2.ensures ∙ ap₂ or_else check later in
+    rw (eq-eqb _ _ c11.before.if-block-ne-BLOCK_SIZE.false)
+    (c.first_refusal-3.ensures
+    ∙ ap₂ or_else c11.refusal_if-low.ensures all
     ∙ in_order (ltb max_block a.k) (not (checked b)) (not (eqb (block_number b) a.k)) (not (block_formed b a.k a.before))
     (tariff_refusal b a.k))))

@@ -15,5 +15,5 @@ tariff_refusal_spec = tie.close (tie.spec (λ c.
     (λ c κs. search rules) (λ c κs. search rules) (λ c κs. search rules) (λ c κs. search rules) (λ c.
     let c3 = c.before.before.before in
     let test =
-    c.before.is-allowed.ensures ∙ ap₂ tariff_allowed c3.tariff-in.ensures c.before.before.stated-count.ensures in
-    rw c3.before.if1.false (c.refusal-if.ensures ∙ ap (λ (t : Bool). refuse (not t) 52 0) test)))
+    c.before.is_allowed.ensures ∙ ap₂ tariff_allowed c3.tariff_in-tariff.ensures c.before.before.stated_count-accounts.ensures in
+    rw c3.before.if-k-ne0.false (c.refusal_if.ensures ∙ ap (λ (t : Bool). refuse (not t) 52 0) test)))

@@ -4,4 +4,4 @@ use Rattle.journal_blocks.proofs.format.follows.Statement.{statement}
 use Rattle.journal_blocks.proofs.format.follows.Tie as tie
 
 pub follows_spec : {M : Type 1} → statement M
-follows_spec = tie.close (tie.spec (λ c. rw (le-leb _ _ c.if1.true)) (λ c. rw (lt-leb _ _ c.if1.false)))
+follows_spec = tie.close (tie.spec (λ c. rw (le-leb _ _ c.if-k-le2.true)) (λ c. rw (lt-leb _ _ c.if-k-le2.false)))

@@ -5,4 +5,4 @@ use Rattle.journal_blocks.proofs.format.item_size.Statement.{statement}
 use Rattle.journal_blocks.proofs.format.item_size.Tie as tie
 
 pub item_size_spec : {M : Type 1} → statement M
-item_size_spec = tie.close (tie.spec (λ c. sym (balances_block _ c.if1.true).0) (λ c. sym (records_block _ c.if1.false).0))
+item_size_spec = tie.close (tie.spec (λ c. sym (balances_block _ c.if-k-lt2.true).0) (λ c. sym (records_block _ c.if-k-lt2.false).0))

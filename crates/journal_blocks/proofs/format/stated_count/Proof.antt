@@ -5,6 +5,6 @@ use Rattle.journal_blocks.proofs.format.stated_count.Statement.{statement}
 use Rattle.journal_blocks.proofs.format.stated_count.Tie as tie
 
 pub stated_count_spec : {M : Type 1} → statement M
-stated_count_spec = tie.close (tie.spec (λ c. sym (field_none 5 1 c.before.before.args.block.now c.if1.true))
+stated_count_spec = tie.close (tie.spec (λ c. sym (field_none 5 1 c.before.before.args.block.now c.if-block-le5.true))
     (λ c. search rules) (λ c κs. search rules)
-    (λ c. c.byte-as-number.ensures.0 ∙ sym (field_one 5 c.before.before.before.before.args.block.now (omega arith))))
+    (λ c. c.byte_as_number.ensures.0 ∙ sym (field_one 5 c.before.before.before.before.args.block.now (omega arith))))
