@@ -11,4 +11,4 @@ judge_record_spec = tie.close (tie.spec (λ c κs. search rules) (λ c κs. sear
     let c3 = c.before.before.before in
     c.new.ensures
     ∙ ap (λ (n : ℕ). answer n c3.before.before.args.k)
-    (c.before.first-refusal.ensures ∙ ap₂ or_else c3.block-refusal.ensures c.before.before.place-refusal.ensures)))
+    (c.before.first_refusal.ensures ∙ ap₂ or_else c3.block_refusal-whole.ensures c.before.before.place_refusal-place_wanted.ensures)))

@@ -12,6 +12,6 @@ place_refusal_spec = tie.close (tie.spec (λ c κs. search rules) (λ c κs. sea
     let c3 = c.before.before.before in
     let a = c3.before.before.args in
     let count =
-    c.before.refusal-if2.ensures
-    ∙ ap (λ (n : ℕ). refuse (leb n a.place) 4 0) c.before.before.stated-count.ensures in
-    c.first-refusal.ensures ∙ ap₂ or_else c3.refusal-if.ensures count ∙ refuse_else (ltb a.k 2) 4 _ (omega arith)))
+    c.before.refusal_if-count.ensures
+    ∙ ap (λ (n : ℕ). refuse (leb n a.place) 4 0) c.before.before.stated_count.ensures in
+    c.first_refusal.ensures ∙ ap₂ or_else c3.refusal_if-kind.ensures count ∙ refuse_else (ltb a.k 2) 4 _ (omega arith)))
