@@ -1,7 +1,7 @@
 -- What stands in the output after its parts have been written one by one. Assumes nothing.
 use Rattle.wire.proofs.Prelude.{List, [], ◌++◌, ◌+◌, ◌-◌, ◌<◌, ◌∙◌, ◌∷◌, ◌≡◌, ◌≤◌, ap, append_assoc, append-nil, ap₂, arith, drop}
 use Rattle.wire.proofs.Prelude.{drop_of_length-le, get_or, length, length-append, length-drop, length-replicate, length-take, refl, replicate}
-use Rattle.wire.proofs.Prelude.{suc, sym, take, take_at, take-length, zero, ℕ}
+use Rattle.wire.proofs.Prelude.{suc, sym, take, take_at, zero, ℕ}
 use borrow.Rule.Slice.PartMut.{put_mid}
 use Rattle.journal_writer.specs.Written.{tariff_bytes}
 use Rattle.tariffs.specs.declared.Tariff.{Tariff}
@@ -19,49 +19,35 @@ unfolding bytes_of
 tariff_then zero t s = refl
 tariff_then (suc k) t s = refl
 
--- s copied over a list that is as long
-pub copied_over : (s d : List ℕ) → length d ≤ length s → take (length s) s ++ drop (length s) d ≡ s
-copied_over s d h =
-    ap₂ (λ (x y : List ℕ). x ++ y) (take-length s) (drop_of_length-le d {i = length s} h) ∙ append-nil s
-
 -- the check, written from byte 480 on
-pub sealed : (o d x : List ℕ) → length o ≡ 512 → length d ≡ 32
-    → x ≡ take (length d) d ++ drop (length d) (take (length o - 480) (drop 480 o))
-    → put_mid 480 (length o - 480) o x ≡ take 480 o ++ d
-sealed o d x lo ld e =
+pub sealed : (o d : List ℕ) → length o ≡ 512 → put_mid 480 (length o - 480) o d ≡ take 480 o ++ d
+sealed o d lo =
     let p : List ℕ = drop 480 o in
-    let l : length (take (length o - 480) p) ≤ length d = omega (arith, length-take (length o - 480) p) in
     let post : drop (length o - 480) p ≡ [] = drop_of_length-le p {i = length o - 480} (omega (arith, length-drop 480 o)) in
-    ap₂ (λ (y z : List ℕ). take 480 o ++ (y ++ z)) (e ∙ copied_over d (take (length o - 480) p) l) post
-    ∙ ap (λ (y : List ℕ). take 480 o ++ y) (append-nil d)
+    ap (λ (z : List ℕ). take 480 o ++ (d ++ z)) post ∙ ap (λ (y : List ℕ). take 480 o ++ y) (append-nil d)
 
 -- the header, the items and zeros, written from bytes 0, 32 and the items' end on
-module _ (o h t x1 x2 x3 : List ℕ) (lo : length o ≡ 512) (lh : length h ≡ 32) (lt : length t ≤ 448)
-    (e1 : x1 ≡ take (length h) h ++ drop (length h) o)
-    (e2 : x2 ≡ take (length t) t ++ drop (length t) (take (length x1 - 32) (drop 32 x1))) where
+module _ (o h t x1 x2 x3 : List ℕ) (lo : length o ≡ 512) (lh : length h ≡ 32) (lt : length t ≤ 448) (e1 : x1 ≡ h) (e2 : x2 ≡ t) where
   -- the output after the header
-  x1_is : x1 ≡ h ++ drop (length h) o
-  x1_is = e1 ∙ ap (λ (y : List ℕ). y ++ drop (length h) o) (take-length h)
+  abbrev o1 : List ℕ
+  o1 = x1 ++ drop 32 o
 
   -- its first 32 bytes
-  x1_head : take 32 x1 ≡ h
-  x1_head = ap (take 32) x1_is ∙ take_at h (drop (length h) o) 32 lh
+  o1_head : take 32 o1 ≡ h
+  o1_head = ap (λ (y : List ℕ). take 32 (y ++ drop 32 o)) e1 ∙ take_at h (drop 32 o) 32 lh
 
   -- the output after the items
   abbrev o2 : List ℕ
-  o2 = put_mid 32 (length x1 - 32) x1 x2
+  o2 = put_mid 32 (32 + length t - 32) o1 x2
 
   -- what stands after them
   rest : List ℕ
-  rest = drop (length t) (take (length x1 - 32) (drop 32 x1)) ++ drop (length x1 - 32) (drop 32 x1)
+  rest = drop (32 + length t - 32) (drop 32 o1)
 
   -- header, items and that
   o2_is : o2 ≡ (h ++ t) ++ rest
   unfolding rest
-  o2_is =
-      ap₂ (λ (y z : List ℕ). y ++ (z ++ drop (length x1 - 32) (drop 32 x1))) x1_head
-      (e2 ∙ ap (λ (y : List ℕ). y ++ drop (length t) (take (length x1 - 32) (drop 32 x1))) (take-length t))
-      ∙ simp append_assoc
+  o2_is = (λ i. o1_head i ++ (e2 i ++ drop (32 + length t - 32) (drop 32 o1))) ∙ sym (append_assoc h t _)
 
   -- its beginning
   o2_head : take (32 + length t) o2 ≡ h ++ t
@@ -69,12 +55,11 @@ module _ (o h t x1 x2 x3 : List ℕ) (lo : length o ≡ 512) (lh : length h ≡ 
       ap (take (32 + length t)) o2_is ∙ take_at (h ++ t) rest (32 + length t) (omega (arith, length-append h t))
 
   -- 512 bytes still
-  x1_length : length x1 ≡ 512
-  x1_length = rw x1_is (simp (length-append, length-drop) (omega arith))
-
-  -- and still
   o2_length : length o2 ≡ 512
-  o2_length = rw e2 (simp (length-append, length-take, length-drop) (omega (arith, x1_length)))
+  o2_length =
+      let l1 : length x1 ≡ 32 = ap length e1 ∙ lh in
+      let l2 : length x2 ≡ length t = ap length e2 in
+      simp (length-append, length-take, length-drop) (omega arith)
 
   -- the first 480 bytes after the zeros
   pub laid : x3 ≡ replicate (length (take (480 - (32 + length t)) (drop (32 + length t) o2))) 0

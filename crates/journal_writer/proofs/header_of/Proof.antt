@@ -11,8 +11,8 @@ unfolding bytes_of
 header_of_spec = tie.close (tie.spec (λ c κs. search rules) (λ c κs. c.before.requires.1) (λ c. search rules) (λ c. search rules)
     (λ c. search rules) (λ c. search rules) (λ c. search rules) (λ c. search rules) (λ c. search rules) (λ c. search rules) (λ c.
     let a = c.before.before.args in
-    let n = c.before.u32-bytes.ensures in
-    let t = c.tariff-bytes.ensures in
+    let n = c.before.u32_bytes-n.ensures in
+    let t = c.tariff_bytes-t.ensures in
     let kind = c.before.before.requires.0 in
     (λ i.
     get_or (n i) 0 0 ∷ get_or (n i) 1 0 ∷ get_or (n i) 2 0 ∷ get_or (n i) 3 0 ∷ kind i ∷ a.count ∷ get_or (t i) 0 0 ∷ get_or (t i) 1 0

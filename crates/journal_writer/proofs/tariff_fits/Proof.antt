@@ -8,4 +8,4 @@ pub tariff_fits_spec : {M : Type 1} → statement M
 tariff_fits_spec = tie.close (tie.spec (λ c.
     let a = c.before.args in
     sym (fits_later a.k a.tariff a.count (omega arith)))
-    (λ c κs. search rules) (λ c. rw c.before.if1.false c.is-allowed.ensures))
+    (λ c κs. search rules) (λ c. rw c.before.if-k-ne0.false c.is_allowed.ensures))

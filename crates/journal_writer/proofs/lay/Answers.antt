@@ -1,0 +1,21 @@
+-- `journal_writer::lay` meets its contract. Assumes nothing.
+use Rattle.wire.proofs.Prelude.{arith, length-take, rules, ◌≡◌, length, take}
+use Rattle.journal_writer.proofs.Laying.{laid}
+use Rattle.journal_writer.proofs.lay.Goals as goal
+
+-- src/lib.rt:95:5
+pub slice_bounds-copy_from_slice-end-2 : goal.slice_bounds-copy_from_slice-end-2
+slice_bounds-copy_from_slice-end-2 c = omega (arith, length-take 32 c.args.out.now)
+
+-- src/lib.rt:95:5
+pub copy_from_slice-requires : goal.copy_from_slice-requires
+copy_from_slice-requires c =
+    let l : length (take 32 c.args.out.now) ≡ 32 = omega (arith, length-take 32 c.args.out.now) in
+    search (rules, l)
+
+-- src/lib.rt:91:1
+pub returns : goal.returns
+returns c =
+    let a = c.args in
+    laid a.out.now a.head a.items.now c.copy_from_slice.new.self c.copy_from_slice-2.new.self c.clear.new.s c.requires.0
+    (search rules) c.requires.1 c.copy_from_slice.ensures.after c.copy_from_slice-2.ensures.after c.clear.ensures
