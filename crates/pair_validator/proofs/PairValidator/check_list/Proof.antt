@@ -7,9 +7,9 @@ use Rattle.pair_validator.proofs.PairValidator.check_list.Tie as tie
 
 returns : tie.Need-returns
 returns c =
-    let a = c.before.before.before.args in
-    let e = c.take-list.ensures in
-    state_called a.t1 (list a.bytes.now) c.take-list.result _ e.0 e.1
+    let a = c.args in
+    let e = c.take_list-answer.ensures in
+    state_called a.self (list a.bytes.now) c.take_list-answer.result _ e.0 e.1
 
 pub check_list_spec : {M : Type 1} → statement M
 check_list_spec = tie.close (tie.spec (λ c κs. search rules) returns)

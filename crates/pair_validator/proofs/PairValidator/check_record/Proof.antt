@@ -7,9 +7,9 @@ use Rattle.pair_validator.proofs.PairValidator.check_record.Tie as tie
 
 returns : tie.Need-returns
 returns c =
-    let a = c.before.before.before.args in
-    let e = c.take.ensures in
-    state_called a.t1 (one a.bytes.now) c.take.result _ e.0 e.1
+    let a = c.args in
+    let e = c.take-answer.ensures in
+    state_called a.self (one a.bytes.now) c.take-answer.result _ e.0 e.1
 
 pub check_record_spec : {M : Type 1} → statement M
 check_record_spec = tie.close (tie.spec (λ c κs. search rules) returns)

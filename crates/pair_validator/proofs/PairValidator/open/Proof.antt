@@ -8,14 +8,14 @@ use Rattle.rules.specs.PairValidator.{pair_opening_refusal}
 use Rattle.pair_validator.proofs.PairValidator.open.Statement.{statement}
 use Rattle.pair_validator.proofs.PairValidator.open.Tie as tie
 
-open-requires : tie.Need-open-requires
+open-requires : tie.Need-open-number-requires
 unfolding pair_zero_words
 open-requires c κs = refl
 
 returns : tie.Need-returns
 returns c =
-    let a = c.before.before.before.before.before.args in
-    let e = c.before.open.ensures in (
+    let a = c.args in
+    let e = c.open-number.ensures in (
       c.new.ensures ∙ ap (λ (n : ℕ). answer n 0) e.0,
       ap {B = PairValidator} (λ (w : List ℕ). record { words = w }) e.1
           ∙ opening_in {B = PairValidator} (λ (w : List ℕ). record { words = w }) (pair_opening_refusal a.tariff a.homes.now a.fars.now)

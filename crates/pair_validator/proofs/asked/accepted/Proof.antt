@@ -6,7 +6,7 @@ use Rattle.table.specs.Table.{index_length}
 use Rattle.pair_validator.proofs.asked.accepted.Statement.{statement}
 use Rattle.pair_validator.proofs.asked.accepted.Tie as tie
 
-is-accepted-requires : tie.Need-is-accepted-requires
+is-accepted-requires : tie.Need-is_accepted-requires
 is-accepted-requires c κs = (
   refl,
   λ l q. empty_zeros (2 * index_length) (index_on l),

@@ -5,23 +5,23 @@ use Rattle.wire.proofs.Prelude.{◌∙◌, ◌≡◌, arith, rules, not-false, n
 use Rattle.pair_validator.proofs.asked.balance.Statement.{statement}
 use Rattle.pair_validator.proofs.asked.balance.Tie as tie
 
-returns : tie.Need-returns
-returns c = c.balance-refused.ensures ∙ rw (sym c.before.before.accepted.ensures ∙ not-true _ c.before.if1.true)
+returns : tie.Need-returns-then-not-accepted
+returns c = c.balance_refused.ensures ∙ rw (sym c.accepted.ensures ∙ c.if-not-accepted.true)
 
 -- the state is accepted past the test
-accepted-at : (c : tie.Else1) → accepts_pair c.before.before.before.before.before.args.t1.words ≡ true
-accepted-at c = sym c.before.accepted.ensures ∙ not-false _ c.if1.false
+accepted-at : (c : tie.Else-not-accepted) → accepts_pair c.args.state.words ≡ true
+accepted-at c = sym c.accepted.ensures ∙ c.if-not-accepted.false
 
-balance-among-requires : tie.Need-balance-among-requires
+balance-among-requires : tie.Need-balance_among-requires
 balance-among-requires c κs =
-    let e = c.before.before.before.before.before in
-    (pair_on_ledger _ (accepted-at e) e.before.before.before.before.before.args.ledger (omega arith)).0
+    let e = c.before.before.before.before in
+    (pair_on_ledger _ (accepted-at e) e.args.ledger (omega arith)).0
 
-returns-3 : tie.Need-returns-3
-returns-3 c = c.balance-among.ensures ∙ pair_balance_passed _ (accepted-at c.before.before.before.before.before.before) _ _
+returns-3 : tie.Need-returns
+returns-3 c = c.balance_among.ensures ∙ pair_balance_passed _ (accepted-at c.before.before.before.before.before) _ _
     (omega arith)
 
 pub balance_spec : {M : Type 1} → statement M
 balance_spec = tie.close (tie.spec (λ c κs. search rules) (λ c κs. search rules) returns (λ c κs. search rules)
-    (λ c. c.balance-refused2.ensures ∙ no_such_ledger _ (accepted-at c.before.before) _ _ (omega arith)) (λ c. search rules)
+    (λ c. c.balance_refused-then-ledger-gt1.ensures ∙ no_such_ledger _ (accepted-at c.before.before) _ _ (omega arith)) (λ c. search rules)
     (λ c. search rules) (λ c. search rules) (λ c. search rules) (λ c. search rules) balance-among-requires returns-3)

@@ -5,12 +5,12 @@ use Rattle.wire.proofs.Prelude.{◌∙◌, ◌≡◌, arith, rules, not-false, n
 use Rattle.pair_validator.proofs.asked.places_left.Statement.{statement}
 use Rattle.pair_validator.proofs.asked.places_left.Tie as tie
 
-returns : tie.Need-returns
-returns c = pair_places_refused _ (sym c.before.before.accepted.ensures ∙ not-true _ c.before.if1.true) c.new.ensures
+returns : tie.Need-returns-then-not-accepted
+returns c = pair_places_refused _ (sym c.accepted.ensures ∙ c.if-not-accepted.true) c.new.ensures
 
 -- the state is accepted past the test
-accepted-at : (c : tie.Else1) → accepts_pair c.before.before.before.before.before.args.t1.words ≡ true
-accepted-at c = sym c.before.accepted.ensures ∙ not-false _ c.if1.false
+accepted-at : (c : tie.Else-not-accepted) → accepts_pair c.args.state.words ≡ true
+accepted-at c = sym c.accepted.ensures ∙ c.if-not-accepted.false
 
 pub places_left_spec : {M : Type 1} → statement M
 places_left_spec = tie.close (tie.spec (λ c κs. search rules) (λ c κs. search rules) returns (λ c. search rules) (λ c. search rules)
