@@ -153,6 +153,7 @@ impl Record {
     pub const MAX_AMOUNT: u64 = 9223372036854775807;
 
     // What bytes read as.
+    #[tactic(auto, unfolding(crate::specs::Records::reading))]
     pub fn read(s: &[u8]) -> Reading
         ensures { result ≡ reading s.now }
     {
