@@ -1,6 +1,6 @@
 // The library that makers link from C, Rust and what can call C: the published calls, and those of both cores in place, under the C calling
 // convention. Nothing is judged here. An enum does not cross, so that an answer goes as its number, whether it passed, and its place.
-// include/moatbetony.h declares all of it.
+// The crate moatbetony_c exports each function under its name, and include/moatbetony.h declares all of it.
 #![tactic(auto)]
 
 ghost use Rattle.std.specs.Prelude.{◌+◌, ◌*◌, ◌≡◌, drop, length, take};

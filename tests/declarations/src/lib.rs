@@ -1,6 +1,7 @@
 //! Reads what the library's exports look like from three places, and compares: the Rattle sources, the C header and the declarations
-//! of the Rust binding. Each reader knows the few forms that its file uses, and fails on any other. A state is one array of words in the
-//! Rattle sources and has named fields elsewhere, so that it is also compared by its number of words and by where its fields start.
+//! of the Rust binding. In the Rattle sources one crate has the structs and the functions, and another exports each of these. Each reader
+//! knows the few forms that its file uses, and fails on any other. A state is one array of words in the Rattle sources and has named fields
+//! elsewhere, so that it is also compared by its number of words and by where its fields start.
 
 mod header;
 mod rattle;

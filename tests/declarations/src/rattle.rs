@@ -57,11 +57,11 @@ impl Constants {
     }
 }
 
-/// Adds what a source exports, and its structs that have C's layout.
+/// Adds a source's functions that are declared as exports, and its structs that have C's layout.
 pub fn read_exports(source: &str, constants: &Constants, found: &mut Interface) -> Read<()> {
     let mut tokens = Tokens::of(source);
     while !tokens.is_done() {
-        if tokens.take("# [ no_mangle ]") {
+        if tokens.take("# [ unsafe ( no_mangle ) ]") {
             tokens.expect("pub extern \"C\" fn")?;
             let name = tokens.word()?;
             if tokens.peek() == "<" {
@@ -73,12 +73,16 @@ pub fn read_exports(source: &str, constants: &Constants, found: &mut Interface) 
             let result = read_type(&mut tokens, constants)?;
             found.add_function(name, Function { parameters, result })?;
         } else if tokens.take("# [ repr ( C ) ]") {
+            if tokens.take("# [ derive") {
+                tokens.skip_group("(", ")")?;
+                tokens.expect("]")?;
+            }
             tokens.expect("pub struct")?;
             let name = tokens.word()?;
             tokens.expect("{")?;
             found.add_struct(name, read_fields(&mut tokens, constants)?)?;
         } else if tokens.take("extern \"C\"") {
-            return Err("an extern \"C\" without #[no_mangle]".to_string());
+            return Err("an extern \"C\" without #[unsafe(no_mangle)]".to_string());
         } else {
             tokens.next()?;
         }

@@ -17,7 +17,8 @@ fn source(path: &str) -> String {
 
 const HEADER: &str = "include/moatbetony.h";
 const FFI: &str = "bindings/rust/src/ffi.rs";
-const EXPORTS: &str = "crates/moatbetony/src/lib.rt";
+const EXPORTS: &str = "crates/moatbetony_c/src/lib.rt";
+const LIBRARY: &str = "crates/moatbetony/src/lib.rt";
 const LEDGERS: &str = "crates/ledgers/src/lib.rt";
 const NUMBER_INDEX: &str = "crates/places/src/number_index.rt";
 const TABLE: &str = "crates/table/src/lib.rt";
@@ -106,12 +107,20 @@ impl Sources {
         let constants = self.constants()?;
         let mut found = Interface::default();
         read_exports(&self.get(EXPORTS), &constants, &mut found)?;
+        found.structs.extend(self.library()?.structs);
         for validator in [PAIR, HOME] {
             // Its own core's constants go by their names alone too.
             let mut constants = constants.clone();
             constants.read(&self.get(validator.core), "")?;
             read_exports(&self.get(validator.state), &constants, &mut found)?;
         }
+        Ok(found)
+    }
+
+    // The structs that cross, and the functions that the exports call, each under the name of its export.
+    fn library(&self) -> Result<Interface, String> {
+        let mut found = Interface::default();
+        read_exports(&self.get(LIBRARY), &self.constants()?, &mut found)?;
         Ok(found)
     }
 
@@ -137,15 +146,18 @@ impl Sources {
     fn complaints(&self) -> Vec<String> {
         let read = || -> Result<Vec<String>, String> {
             let exports = self.exports()?;
+            let library = Interface { functions: self.library()?.functions, structs: exports.structs.clone() };
             let header = read_header(&self.get(HEADER))?;
             let ffi = read_ffi(&self.get(FFI))?;
             let fields = [self.fields_differ(&PAIR, &header)?, self.fields_differ(&HOME, &header)?].concat();
+            let between =
+                differences(&Place { name: "the exports", says: &exports }, &Place { name: "the library", says: &library });
             let (exports, header_in_words) = (exports.in_words()?, header.in_words()?);
             let exports = Place { name: "the exports", says: &exports };
             let header_in_words = Place { name: "the header", says: &header_in_words };
             let header = Place { name: "the header", says: &header };
             let ffi = Place { name: "ffi.rs", says: &ffi };
-            Ok([fields, differences(&exports, &header_in_words), differences(&header, &ffi)].concat())
+            Ok([fields, between, differences(&exports, &header_in_words), differences(&header, &ffi)].concat())
         };
         read().unwrap_or_else(|complaint| vec![complaint])
     }
@@ -414,8 +426,15 @@ fn differences_in_the_exports_are_found() {
         "moatbetony_home_open: parameter 3",
     );
     found(EXPORTS, "    far_accounts: usize,", "    far_accounts: u64,", "moatbetony_home_open: parameter 3");
+    found(LIBRARY, "    far_accounts: usize,", "    far_accounts: u64,", "moatbetony_home_open: parameter 3");
     found(
-        EXPORTS,
+        LIBRARY,
+        "fn moatbetony_sha256(",
+        "fn moatbetony_digest(",
+        "moatbetony_sha256: in the exports, and missing in the library",
+    );
+    found(
+        LIBRARY,
         "    pub start: usize,\n    pub length: usize,",
         "    pub length: usize,\n    pub start: usize,",
         "PlainPart: field 2",
@@ -426,13 +445,13 @@ fn differences_in_the_exports_are_found() {
         "fn moatbetony_digest(",
         "moatbetony_sha256: in the header, and missing in the exports",
     );
-    found(EXPORTS, "    pub number: u32,", "    pub number: u64,", "PlainAnswer: field 1");
-    found(EXPORTS, "    pub passed: u32,", "    pub passed: u8,", "PlainAnswer: field 2");
+    found(LIBRARY, "    pub number: u32,", "    pub number: u64,", "PlainAnswer: field 1");
+    found(LIBRARY, "    pub passed: u32,", "    pub passed: u8,", "PlainAnswer: field 2");
     found(
         EXPORTS,
-        "#[no_mangle]\npub extern \"C\" fn moatbetony_version",
+        "#[unsafe(no_mangle)]\npub extern \"C\" fn moatbetony_version",
         "pub extern \"C\" fn moatbetony_version",
-        "without #[no_mangle]",
+        "without #[unsafe(no_mangle)]",
     );
     found(HOME.state, "#[repr(C)]", "", "unknown struct HomeValidator");
     found(HOME.core, "COUNT_WORD: usize = SUPPLY_WORD + 4", "COUNT_WORD: usize = SUPPLY_WORD + 3", "HomeValidator: field 7");
