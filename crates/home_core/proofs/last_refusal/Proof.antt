@@ -11,24 +11,24 @@ use Rattle.home_core.proofs.last_refusal.Tie as tie
 sound-at : (c : tie.Start) → HomeSound c.args.s.now
 sound-at c = sound_of c.args.s.now c.requires
 
-returns : tie.Need-returns
+returns : tie.Need-returns-then-is_receiving
 returns c =
     let a = c.before.before.before.before.before.args in
-    c.pool-refusal.ensures
-    ∙ last_pooled a.s.now a.r a.r.kind (sym c.before.before.before.is-receiving.ensures ∙ c.before.before.if1.true)
+    c.pool_refusal.ensures
+    ∙ last_pooled a.s.now a.r a.r.kind (sym c.before.before.before.is_receiving.ensures ∙ c.before.before.if-is_receiving.true)
 
-funds-refusal-requires : tie.Need-funds-refusal-requires
+funds-refusal-requires : tie.Need-funds_refusal-requires
 funds-refusal-requires c κs =
     let o = c.before.before.before.before.before in
     let s = o.args.s.now in
     let h = sound-at o in
     (omega (arith, h.long, h.bounds.home_fits), allowed_rate (home_tariff_of s) (home_accounts_of s) h.bounds.tariff_allowed_lem)
 
-returns-2 : tie.Need-returns-2
+returns-2 : tie.Need-returns
 returns-2 c =
     let d = c.before.before.before in
     let a = d.before.before.before.args in
-    c.funds-refusal.ensures ∙ last_paid a.s.now a.r (sym d.before.is-receiving.ensures ∙ d.if1.false)
+    c.funds_refusal.ensures ∙ last_paid a.s.now a.r (sym d.before.is_receiving.ensures ∙ d.if-is_receiving.false)
 
 pub last_refusal_spec : {M : Type 1} → statement M
 last_refusal_spec = tie.close (tie.spec (λ c κs. search rules)
