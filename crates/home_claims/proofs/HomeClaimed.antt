@@ -1,7 +1,6 @@
 -- The claims about the home validator's calls: runs over the program's states are runs over the rules' states. Assumes nothing.
 use Rattle.wire.proofs.Prelude.{List, ◌-◌, ◌∙◌, ◌≡◌, ap, arith, dichotomy, inl, inr, leb, leb-false, leb-true, length, refl, sym, true, ℕ}
 use Rattle.answers.proofs.Answers.{or_else_zero}
-use Rattle.answers.specs.Answers.{answer}
 use Rattle.home_claims.specs.Claims.{HomeCallsAsRules, HomeChargesPaid, HomeFullWhenNoneLeft, HomeHeldAccountsOpen}
 use Rattle.home_claims.specs.Claims.{HomeInPlaceAsByValue, HomeListsAndRefusals, HomeOpenedAsRules, HomePlacesLeft}
 use Rattle.home_claims.specs.Claims.{HomeRunsInPlaceAsByValue, HomeSendingsCostExactly, HomeStatesAnswer, HomeStatesStayAccepted}
