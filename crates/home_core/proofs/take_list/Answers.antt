@@ -4,7 +4,7 @@ use Rattle.rules.proofs.Parts.{gives_unaccepted, taking_end, taking_first, takin
 use Rattle.rules.specs.Calls.{list}
 use Rattle.table.proofs.Numbers.{empty_zeros}
 use Rattle.table.specs.Table.{index_length}
-use Rattle.wire.proofs.Prelude.{ap, arith, not, refl}
+use Rattle.wire.proofs.Prelude.{arith, refl}
 use Rattle.home_core.proofs.take_list.Goals as goal
 
 pub is_accepted-requires : goal.is_accepted-requires
@@ -13,15 +13,15 @@ is_accepted-requires c = (refl, empty_zeros index_length 0)
 pub returns-then-not-is_accepted-clause-answers : goal.returns-then-not-is_accepted-clause-answers
 returns-then-not-is_accepted-clause-answers c =
     (gives_unaccepted home_words_checker c.args.state.now (list c.args.bytes.now) c.is_accepted.ensures.accepts
-    (ap not c.if-not-is_accepted.true)).0
+    c.if-not-is_accepted.true).0
 
 pub returns-then-not-is_accepted-clause-leaves : goal.returns-then-not-is_accepted-clause-leaves
 returns-then-not-is_accepted-clause-leaves c =
     (gives_unaccepted home_words_checker c.args.state.now (list c.args.bytes.now) c.is_accepted.ensures.accepts
-    (ap not c.if-not-is_accepted.true)).1
+    c.if-not-is_accepted.true).1
 
 pub loop-at-init : goal.loop-at-init
-loop-at-init c = taking_first c.is_accepted.ensures.accepts (ap not c.if-not-is_accepted.false) c.is_accepted.ensures.ready
+loop-at-init c = taking_first c.is_accepted.ensures.accepts c.if-not-is_accepted.false c.is_accepted.ensures.ready
 
 pub returns-then-number-ne0-clause-answers : goal.returns-then-number-ne0-clause-answers
 returns-then-number-ne0-clause-answers c =
