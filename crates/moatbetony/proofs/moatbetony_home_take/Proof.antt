@@ -1,8 +1,0 @@
--- `moatbetony::moatbetony_home_take` meets its contract. Assumes nothing.
-use borrow.Author.Rules.{rules}
-use Rattle.moatbetony.proofs.moatbetony_home_take.Statement.{statement}
-use Rattle.moatbetony.proofs.moatbetony_home_take.Tie as tie
-
-pub moatbetony_home_take_spec : {M : Type 1} → statement M
-moatbetony_home_take_spec = tie.close (tie.spec (λ c κs. search rules) (λ c κs. search rules)
-    (λ c. let e = c.before.take.ensures in (rw (c.plain.ensures, e.0), e.1)))

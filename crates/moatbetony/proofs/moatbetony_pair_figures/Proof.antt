@@ -1,8 +1,0 @@
--- `moatbetony::moatbetony_pair_figures` meets its contract. Assumes nothing.
-use borrow.Author.Rules.{rules}
-use Rattle.moatbetony.proofs.moatbetony_pair_figures.Statement.{statement}
-use Rattle.moatbetony.proofs.moatbetony_pair_figures.Tie as tie
-
-pub moatbetony_pair_figures_spec : {M : Type 1} → statement M
-moatbetony_pair_figures_spec = tie.close (tie.spec (λ c κs. search rules) (λ c κs. search rules)
-    (λ c. rw (c.plain.ensures, c.before.figures.ensures)))
