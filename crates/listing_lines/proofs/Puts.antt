@@ -1,9 +1,10 @@
 -- Texts put into a buffer one after the other, decimal digits, and how long the fields and lines of a listing are. Assumes nothing.
-use Rattle.wire.proofs.Prelude.{Bool, List, [], ◌%◌, ◌*◌, ◌++◌, ◌+◌, ◌-◌, ◌/◌, ◌<◌, ◌^◌, ◌∙◌, ◌∷◌, ◌≡◌, ◌≤◌, add-one, append_assoc}
+use Rattle.wire.proofs.Prelude.{Bool, List, [], ◌%◌, ◌*◌, ◌++◌, ◌+◌, ◌/◌, ◌<◌, ◌^◌, ◌∙◌, ◌∷◌, ◌≡◌, ◌≤◌, add-one, append_assoc}
 use Rattle.wire.proofs.Prelude.{append-nil, arith, cond, drop, false, get_or, le-ltb, length, length-append}
-use Rattle.wire.proofs.Prelude.{length-set, length-take, lt-ltb, ltb, ltb-false, ltb-true, pow-le-pow_right, refl, set, suc, sym, take}
+use Rattle.wire.proofs.Prelude.{length-set, length-take, lt-ltb, ltb, pow-suc, refl, set, suc, sym, take}
 use Rattle.wire.proofs.Prelude.{take-suc, take-suc-set, true, zero, ℕ}
-use Rattle.io.specs.Digits.{IsDigitCount, last_digits}
+use Rattle.std.proofs.lemmas.Fmt.{decimal_by_steps}
+use Rattle.std.specs.Fmt.{decimal as number_digits}
 use Rattle.listing_lines.specs.Lines.{TextPut, decimal, decimal_in, hexadecimal, number_text}
 use Rattle.listing_lines.specs.Lines.{fault_line, figures_text, header_line, open_line, record_line}
 
@@ -35,37 +36,32 @@ put_next {d} {e} {o} s i h l p =
 
 -- ## Decimal digits
 
--- the fewest digits that hold a number are its decimal digits
-digits_decimal : (f k n : ℕ) → k ≤ f → IsDigitCount 10 1 n k → last_digits 10 k n ≡ decimal_in f n
-unfolding decimal_in
-digits_decimal f zero n a w = absurd (omega (arith, w.0))
-digits_decimal zero (suc k) n a w = absurd (omega arith)
-digits_decimal (suc f) (suc zero) n a w =
-    let m : n % 10 ≡ n = omega (arith, w.1) in
-    rw (m, lt-ltb n 10 (omega (arith, w.1)))
-digits_decimal (suc f) (suc (suc k)) n a w =
-    let y : suc (suc k) - 1 ≡ suc k = omega arith in
-    let z : suc k - 1 ≡ k = omega arith in
-    let p : 10 ^ suc k ≤ n = rw y at (w.2 (omega arith)) in
-    let q : 1 ≤ 10 ^ k = pow-le-pow_right {n = 10} (omega arith) {i = 0} (omega arith) in
-    let h = digits_decimal f (suc k) (n / 10) (omega arith) (omega arith, omega (arith, w.1), λ i. rw z (omega arith)) in
-    rw (lt-ltb (n % 10) 10 (omega arith), le-ltb n 10 (omega arith), h)
+-- a number below 10^k, for some k above 0, has the decimal digits ds
+DigitsOf : ℕ → List ℕ → Type 0
+DigitsOf n ds = (k : ℕ) → n < 10 ^ suc k → decimal_in (suc k) n ≡ ds
 
--- the fewest digits that hold a number of 64 bits are at most 20
-pub few_digits : (n k : ℕ) → n < 2 ^ 64 → IsDigitCount 10 1 n k → k ≤ 20
-few_digits n k h w = by_test (ltb 20 k) refl
-  where
-    by_test : (t : Bool) → ltb 20 k ≡ t → k ≤ 20
-    by_test true e =
-        let m : 20 < k = ltb-true _ _ e in
-        absurd (omega (arith, w.2 (omega arith), pow-le-pow_right {n = 10} (omega arith) {i = 20} {j = k - 1} (omega arith)))
-    by_test false e = ltb-false _ _ e
+-- a number below 10 has one digit
+digits_one : (n : ℕ) → n < 10 → DigitsOf n ((48 + n) ∷ [])
+unfolding decimal_in DigitsOf
+digits_one n h k f = rw (lt-ltb n 10 h) refl
 
--- what `io::decimal` left at the start of l is put as the decimal digits
-pub decimal_whole : {d e : List ℕ} {o r : ℕ} (n k : ℕ) (l : List ℕ) → k ≤ 20 → IsDigitCount 10 1 n k → take k l ≡ last_digits 10 k n
-    → TextPut d o (take k l) e r → TextPut d o (decimal n) e r
-unfolding decimal
-decimal_whole n k l h w x p = rw (x ∙ digits_decimal 20 k n h w) at p
+-- another has those of its tenth part and one more
+digits_more : (n : ℕ) (ds : List ℕ) → 10 ≤ n → DigitsOf (n / 10) ds → DigitsOf n (ds ++ (48 + n % 10) ∷ [])
+unfolding decimal_in DigitsOf
+digits_more n ds h p zero f = absurd (omega arith)
+digits_more n ds h p (suc k) f =
+    let q : 10 ^ suc (suc k) ≡ 10 ^ suc k * 10 = pow-suc 10 (suc k) in
+    rw (le-ltb n 10 h, p k (omega (arith, q))) refl
+
+-- the library's text of a number of 64 bits is its decimal digits
+text_decimal : (n : ℕ) → n < 2 ^ 64 → decimal n ≡ number_digits n
+unfolding decimal DigitsOf
+text_decimal n h = decimal_by_steps DigitsOf digits_one digits_more n h 19 (omega arith)
+
+-- so where that text was put, the decimal digits were
+pub decimal_whole : {d e : List ℕ} {o r : ℕ} (n : ℕ) (l : List ℕ) → n < 2 ^ 64 → l ≡ number_digits n
+    → TextPut d o l e r → TextPut d o (decimal n) e r
+decimal_whole n l h x p = rw (x ∙ sym (text_decimal n h)) at p
 
 -- ## Lengths
 

@@ -8,6 +8,7 @@ ghost use Rattle.listing_lines.specs.Lines.{TextPut, decimal, fault_line, figure
 ghost use Rattle.listing_lines.specs.Lines.{open_line, record_line};
 
 use hex::digits;
+use itoa::Buffer;
 use wire::u64_at;
 
 // The room for a line of a record, in characters.
@@ -42,9 +43,8 @@ fn put_decimal(out: &mut [u8], o: usize, x: u64) -> usize
     requires { o + 20 ≤ length out.old }
     ensures { TextPut out.old o (decimal x) out.new result }
 {
-    let mut text = [0u8; 20];
-    let n = io::decimal(x, &mut text);
-    put_bytes(out, o, &text[..n])
+    let mut text = Buffer::new();
+    put_bytes(out, o, text.format(x).as_bytes())
 }
 
 fn put_number(out: &mut [u8], o: usize, bytes: &[u8]) -> usize
@@ -72,6 +72,7 @@ pub fn put_figures(out: &mut [u8], o: usize, home: u64, far: u64, flight: u64) -
 // ## Lines
 
 // The first line.
+#[tactic(auto, unfolding(crate::specs::Lines::header_line))]
 pub fn put_header(out: &mut [u8], o: usize) -> usize
     requires { o + line_room ≤ length out.old }
     ensures { TextPut out.old o header_line out.new result }
@@ -80,6 +81,7 @@ pub fn put_header(out: &mut [u8], o: usize) -> usize
 }
 
 // The line of an accepted opening.
+#[tactic(auto, using(crate::proofs::Puts::put_put), unfolding(crate::specs::Lines::open_line))]
 pub fn put_open(out: &mut [u8], o: usize, home: u64, far: u64) -> usize
     requires { o + line_room ≤ length out.old }
     ensures { TextPut out.old o (open_line (figures_text home far 0)) out.new result }
@@ -110,6 +112,7 @@ pub fn put_record(
 }
 
 // The line of a bad block.
+#[tactic(auto, using(crate::proofs::Puts::put_put, crate::proofs::Puts::decimal_ends), unfolding(crate::specs::Lines::fault_line))]
 pub fn put_fault(out: &mut [u8], o: usize, refusal: u64, block: u64) -> usize
     requires { o + line_room ≤ length out.old }
     ensures { TextPut out.old o (fault_line refusal block) out.new result }

@@ -13,7 +13,7 @@ put_figures_spec = tie.close (tie.spec (λ c κs. search rules) (λ c κs. omega
     (λ c. let p7 = c.before.before in let p6 = p7.before.before.before.before in let p5 = p6.before.before.before.before in
     let p4 = p5.before.before.before.before in let p3 = p4.before.before.before.before in
     let p2 = p3.before.before.before.before in let p1 = p2.before.before.before.before in
-    let home = put_put p1.put_byte.ensures p2.put-decimal.ensures in
-    let far = put_put p3.put-byte2.ensures p4.put-decimal2.ensures in
-    let flight = put_put p5.put-byte3.ensures p6.put-decimal3.ensures in
-    put_put (put_put (put_put home far) flight) p7.put-byte4.ensures))
+    let home = put_put p1.put_byte-a.ensures p2.put_decimal-b.ensures in
+    let far = put_put p3.put_byte-c.ensures p4.put_decimal-d.ensures in
+    let flight = put_put p5.put_byte-e.ensures p6.put_decimal-f.ensures in
+    put_put (put_put (put_put home far) flight) p7.put_byte.ensures))

@@ -14,6 +14,6 @@ put_record_spec = tie.close (tie.spec (λ c κs. search rules) (λ c κs. omega 
     (λ c. let p6 = c.before.before in let p5 = p6.before.before.before.before in let p4 = p5.before.before.before.before in
     let p3 = p4.before.before.before.before in let p2 = p3.before.before.before.before in
     let p1 = p2.before.before.before.before in
-    let number = put_put p2.put_byte.ensures p3.put-number.ensures in
-    let answer = put_put p4.put-byte2.ensures p5.put-decimal2.ensures in
-    put_put (put_put (put_put p1.put-decimal.ensures number) answer) p6.put-bytes.ensures))
+    let number = put_put p2.put_byte-b.ensures p3.put_number-c.ensures in
+    let answer = put_put p4.put_byte-d.ensures p5.put_decimal-e.ensures in
+    put_put (put_put (put_put p1.put_decimal-a.ensures number) answer) p6.put_bytes.ensures))

@@ -10,7 +10,7 @@ returns : tie.Need-returns
 unfolding bytes_of hexadecimal
 returns c =
     let h = c.before.before in
-    rw (h.u64-bytes.ensures ∙ h.before.high_digits.ensures, c.u64-bytes2.ensures ∙ c.before.low_digits.ensures) refl
+    rw (h.u64_bytes-h.ensures ∙ h.before.high_digits.ensures, c.u64_bytes-l.ensures ∙ c.before.low_digits.ensures) refl
 
 pub digits_spec : {M : Type 1} → statement M
 digits_spec = tie.close (tie.spec (λ c κs. search rules) (λ c κs. search rules) (λ c κs. search rules) (λ c κs. search rules)
