@@ -1,9 +1,9 @@
-// Lists a journal: reads it from one file and prints its lines to another, in chunks of 64 blocks. That the chunks' texts are the
+// Lists a journal: reads it from a reader and prints its lines to a writer, in chunks of 64 blocks. That the chunks' texts are the
 // listing is proved (crates listing, listing_opening, listing_blocks), and so is what is made of the bytes that were handed over, from the
 // opening to a turn after which the listing does not go on. What is read and written is read off the code (docs/DECISIONS.md, 47).
 #![tactic(auto)]
 
-ghost use Rattle.std.specs.Prelude.{◌*◌, ◌≡◌, length, replicate};
+ghost use Rattle.std.specs.Prelude.{◌*◌, ◌≡◌, ◌≤◌, length, replicate, take};
 ghost use Rattle.listing.specs.Chunks.{chunk_room, chunk_size};
 ghost use Rattle.listing.specs.Listing.{opened_progress};
 ghost use Rattle.listing_blocks.specs.Cursors.{CursorBounds, progress_of};
@@ -18,6 +18,7 @@ use listing_lines::LINE;
 use listing_opening::{Start, list_start};
 use pair_core::{INDEXES, WORDS};
 use pair_rows::Row;
+use std::io::{Read, Write};
 
 // The bytes of blocks 0 and 1.
 const OPENING: usize = 2 * BLOCK_SIZE;
@@ -49,6 +50,35 @@ pub struct ListResult {
     pub printed: bool,
     pub opened: bool,
     pub last: TurnResult,
+}
+
+// Reads until the buffer is full, the input ends or a read fails: how many bytes stand at its start.
+fn read_full<R: Read>(source: &mut R, buffer: &mut [u8]) -> usize
+    ensures fits { result ≤ length buffer.new }
+    ensures part { result ≡ length (take result buffer.new) }
+{
+    let mut done = 0;
+    while done < buffer.len() {
+        match source.read(&mut buffer[done..]) {
+            Ok(0) => return done,
+            Ok(n) => done += n,
+            Err(_) => return done,
+        }
+    }
+    done
+}
+
+// Writes all of the bytes, up to a write that takes none or fails: whether all were written.
+fn write_all<W: Write>(target: &mut W, bytes: &[u8]) -> bool {
+    let mut done = 0;
+    while done < bytes.len() {
+        match target.write(&bytes[done..]) {
+            Ok(0) => return false,
+            Ok(n) => done += n,
+            Err(_) => return false,
+        }
+    }
+    true
 }
 
 // The cursor after an accepted opening, with the count of block 1 and the opening's row.
@@ -106,9 +136,9 @@ fn goes_on(written: bool, n: usize, going: bool) -> bool
 }
 
 // One chunk: read, listed and written.
-fn turn<'a, 'b, 'c, 'd>(
-    source: i32,
-    target: i32,
+fn turn<'a, 'b, 'c, 'd, R: Read, W: Write>(
+    source: &mut R,
+    target: &mut W,
     cursor: Cursor,
     input: &'a mut [u8],
     out: &'b mut [u8],
@@ -121,10 +151,10 @@ fn turn<'a, 'b, 'c, 'd>(
         ).row }
     ensures turns { TurnFrom (progress_of cursor state.old) input.new out.new result state.new }
 {
-    let read = io::read_full(source, input);
+    let read = read_full(source, input);
     let next = list_chunk(cursor, &input[..read], out, state, index);
     let text = next.end;
-    let written = io::write_all(target, &out[..text]);
+    let written = write_all(target, &out[..text]);
     let going = goes_on(written, read, next.going);
     TurnResult {
         cursor: resumed(next, going),
@@ -136,9 +166,9 @@ fn turn<'a, 'b, 'c, 'd>(
 
 // The blocks after an accepted opening, chunk by chunk, up to a bad block, the end of the journal or a text that could not be written:
 // the last turn. As many turns as there are chunks get there from every journal.
-fn list_rest<'a, 'b, 'c, 'd>(
-    source: i32,
-    target: i32,
+fn list_rest<'a, 'b, 'c, 'd, R: Read, W: Write>(
+    source: &mut R,
+    target: &mut W,
     start: Start,
     input: &'a mut [u8],
     out: &'b mut [u8],
@@ -147,7 +177,7 @@ fn list_rest<'a, 'b, 'c, 'd>(
 ) -> TurnResult
     requires { (length input.old ≡ chunk_size) × (length out.old ≡ chunk_room)
         × RowReady state.old index.old start.row }
-    ensures { LastTurnFrom (opened_progress state.old start.before) input.new out.new result state.exit.now }
+    ensures { LastTurnFrom (opened_progress state.old start.before) input.new out.new result state.new }
 {
     let row = start.row;
     let mut last = no_turn(start.before, row);
@@ -164,9 +194,9 @@ fn list_rest<'a, 'b, 'c, 'd>(
 }
 
 // The rest of a journal after an accepted opening, with a state that holds no record yet: the last turn.
-fn list_opened<'a, 'b>(
-    source: i32,
-    target: i32,
+fn list_opened<'a, 'b, R: Read, W: Write>(
+    source: &mut R,
+    target: &mut W,
     start: Start,
     out: &'a mut [u8],
     state: &'b mut [u64; WORDS],
@@ -198,18 +228,17 @@ fn opening_alone(first: usize, end: usize, printed: bool, opened: bool) -> ListR
     }
 }
 
-// The listing of the journal in the file `source`, to the file `target` (descriptors): the opening, and where it was written and accepted
-// the rest. Not published: a contract cannot say what is read or written (docs/DECISIONS.md, 47).
-pub fn list(source: i32, target: i32) -> ListResult
+// The listing of the journal that `source` reads, to `target`: the opening, and where it was written and accepted the rest. Not published: a contract cannot say what is read or written (docs/DECISIONS.md, 47).
+pub fn list<R: Read, W: Write>(source: &mut R, target: &mut W) -> ListResult
     ensures { JournalListed result }
 {
     let mut out = [0u8; TEXT];
     let mut state = [0u64; WORDS];
     let mut opening = [0u8; OPENING];
-    let first = io::read_full(source, &mut opening);
+    let first = read_full(source, &mut opening);
     let start = list_start(&opening[..first], &mut out, &mut state);
     let end = start.end;
-    let printed = io::write_all(target, &out[..end]);
+    let printed = write_all(target, &out[..end]);
     let opened = start.going;
     let alone = opening_alone(first, end, printed, opened);
     if !printed {

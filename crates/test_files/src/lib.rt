@@ -1,18 +1,18 @@
 // The files that a test program's arguments name.
 #![tactic(auto)]
 
-use libc::STDOUT_FILENO;
+use std::fs::{self, Files};
+use std::io::{self, Print};
 
-// Prints the name of argument i on a line, and opens the file of that name for reading; where that fails it prints so, and the
-// answer is below 0. Without an `ensures`, since a contract cannot say what is opened or written (docs/DECISIONS.md, 47).
-pub fn open(i: usize) -> i32 {
-    let mut path = io::buffer();
-    let n = os::arg(i, &mut path);
-    io::write_all(STDOUT_FILENO, &path[..n]);
-    io::write_all(STDOUT_FILENO, b"\n");
-    let fd = os::open_read(&path[..n]);
-    if fd < 0 {
-        io::write_all(STDOUT_FILENO, b"not opened\n");
+// Prints the name of a file on a line, and opens it for reading; where that fails it prints so. Without an `ensures`, since a contract
+// cannot say what is opened or written (docs/DECISIONS.md, 47).
+pub fn open<R: Files + Print>(rt: &R, name: &str) -> io::Result<Option<R::File>> {
+    println!(rt; "{name}")?;
+    match fs::open(rt, name) {
+        Ok(file) => Ok(Some(file)),
+        Err(_) => {
+            println!(rt; "not opened")?;
+            Ok(None)
+        }
     }
-    fd
 }

@@ -2,21 +2,19 @@
 // second validator (validator/, `store`), which was written from documents 01 and 02 alone.
 #![tactic(auto)]
 
-use libc::STDOUT_FILENO;
+use std::{env, io};
 
-// The name of argument i, and the listing of its journal.
-fn journal(i: usize) {
-    let fd = test_files::open(i);
-    if 0 <= fd {
-        listing_journal::list(fd, STDOUT_FILENO);
-        libc::close(fd);
+// The name of a journal, and its listing.
+fn journal(rt: &HostRuntime, name: &str) -> io::Result<()> {
+    if let Some(mut file) = test_files::open(rt, name)? {
+        listing_journal::list(&mut file, &mut rt.stdout());
     }
+    Ok(())
 }
 
-fn main() {
-    let mut i = 1;
-    while i < 1000 && i < os::arg_count() {
-        journal(i);
-        i += 1;
+fn main(rt: HostRuntime) -> io::Result<()> {
+    for name in env::args(&rt)?.take(1000).skip(1) {
+        journal(&rt, name.as_str())?;
     }
+    Ok(())
 }

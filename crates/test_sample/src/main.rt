@@ -3,8 +3,11 @@
 // made by another implementation of document 01.
 #![tactic(auto)]
 
+ghost use Rattle.std.specs.Prelude.{IfOk, length, ◌≤◌};
+
 use answers::Answer;
-use libc::STDOUT_FILENO;
+use std::io::Read;
+use std::{env, io};
 
 // Whether the items of a block, written anew, give the block.
 fn same_again(block: &[u8], k: u64) -> bool {
@@ -37,62 +40,68 @@ fn same_again(block: &[u8], k: u64) -> bool {
     wire::equal(&out, block)
 }
 
-// A number and what follows it.
-fn print(n: u64, then: &[u8]) {
-    io::print_decimal(STDOUT_FILENO, n);
-    io::write_all(STDOUT_FILENO, then);
+// The line of a block, and whether another may follow.
+fn line(rt: &HostRuntime, block: &[u8], k: u64, before: u64) -> io::Result<bool> {
+    let answer = journal_reader::judge(block, k, before);
+    print!(rt; "{k} {}", answer.number())?;
+    let Answer::Passed = answer else {
+        println!(rt)?;
+        return Ok(false);
+    };
+    print!(rt; " {}", journal_blocks::stated_count(block))?;
+    if same_again(block, k) {
+        println!(rt; " same")?;
+    } else {
+        println!(rt; " other")?;
+    }
+    Ok(true)
 }
 
-// The line of a block, and whether another may follow.
-fn line(block: &[u8], k: u64, before: u64) -> bool {
-    let answer = journal_reader::judge(block, k, before);
-    print(k, b" ");
-    print(answer.number() as u64, b"");
-    let Answer::Passed = answer else {
-        io::write_all(STDOUT_FILENO, b"\n");
-        return false;
-    };
-    io::write_all(STDOUT_FILENO, b" ");
-    print(journal_blocks::stated_count(block), b"");
-    if same_again(block, k) {
-        io::write_all(STDOUT_FILENO, b" same\n");
-    } else {
-        io::write_all(STDOUT_FILENO, b" other\n");
+// Reads until the buffer is full or the input ends: how many bytes stand at its start.
+fn read_full<R: Read>(source: &mut R, buffer: &mut [u8]) -> io::Result<usize>
+    ensures fits { IfOk result (λ n. n ≤ length buffer.new) }
+{
+    let mut done = 0;
+    while done < buffer.len() {
+        let n = source.read(&mut buffer[done..])?;
+        if n == 0 {
+            return Ok(done);
+        }
+        done += n;
     }
-    true
+    Ok(done)
 }
 
 // The lines of a journal's blocks, up to one that is refused.
-fn list(fd: i32) {
+fn list<R: Read>(rt: &HostRuntime, source: &mut R) -> io::Result<()> {
     let mut block = [0u8; 512];
     let mut before = 0;
     let mut k = 0;
     while k <= 65536 {
-        let n = io::read_full(fd, &mut block);
+        let n = read_full(source, &mut block)?;
         if n == 0 {
-            return;
+            return Ok(());
         }
-        if !line(&block[..n], k, before) {
-            return;
+        if !line(rt, &block[..n], k, before)? {
+            return Ok(());
         }
         before = journal_blocks::stated_count(&block[..n]);
         k += 1;
     }
+    Ok(())
 }
 
-// The name of argument i, and the lines of its journal.
-fn journal(i: usize) {
-    let fd = test_files::open(i);
-    if 0 <= fd {
-        list(fd);
-        libc::close(fd);
+// The name of a journal, and the lines of its blocks.
+fn journal(rt: &HostRuntime, name: &str) -> io::Result<()> {
+    if let Some(mut file) = test_files::open(rt, name)? {
+        list(rt, &mut file)?;
     }
+    Ok(())
 }
 
-fn main() {
-    let mut i = 1;
-    while i < 1000 && i < os::arg_count() {
-        journal(i);
-        i += 1;
+fn main(rt: HostRuntime) -> io::Result<()> {
+    for name in env::args(&rt)?.take(1000).skip(1) {
+        journal(&rt, name.as_str())?;
     }
+    Ok(())
 }

@@ -3,6 +3,8 @@
 
 ghost use Rattle.std.specs.Prelude.{◌≤◌, ◌<◌, length};
 
+use std::io::{self, Print};
+
 // A hexadecimal digit.
 fn digit(x: u8) -> u8 {
     let d = x % 16;
@@ -25,53 +27,59 @@ fn hex(d: [u8; 32]) -> [u8; 64] {
 }
 
 // One line: a label, a space and the digest of a message.
-fn line(label: &[u8], message: &[u8])
+fn line(rt: &HostRuntime, label: &[u8], message: &[u8]) -> io::Result<()>
     requires { length label.now ≤ 16 }
 {
     let mut out = [0u8; 82];
-    let n = bytes::copy(label, &mut out);
+    let n = label.len();
+    out[..n].copy_from_slice(label);
     out[n] = b' ';
     let from = n + 1;
     let t = hex(sha256::digest(message));
-    bytes::copy(&t, &mut out[from..]);
     let end = n + 65;
+    out[from..end].copy_from_slice(&t);
     out[end] = b'\n';
     let all = n + 66;
-    io::write_all(libc::STDOUT_FILENO, &out[..all]);
+    rt.stdout().write_all(&out[..all])
 }
 
 // Short messages whose digests are published.
-fn published() {
-    line(b"empty", b"");
-    line(b"abc", b"abc");
+fn published(rt: &HostRuntime) -> io::Result<()> {
+    line(rt, b"empty", b"")?;
+    line(rt, b"abc", b"abc")?;
     line(
+        rt,
         b"448-bits",
         b"abcdbcdecdefdefgefghfghighijhijkijkljklmklmnlmnomnopnopq",
-    );
+    )?;
     line(
+        rt,
         b"896-bits",
         b"abcdefghbcdefghicdefghijdefghijkefghijklfghijklmghijklmnhijklmnoijklmnopjklmnopqklmnopqrlmnopqrsmnopqrstnopqrstu",
-    );
-    line(b"bd", &[0xbd]);
-    line(b"c98c8e55", &[0xc9, 0x8c, 0x8e, 0x55]);
+    )?;
+    line(rt, b"bd", &[0xbd])?;
+    line(rt, b"c98c8e55", &[0xc9, 0x8c, 0x8e, 0x55])?;
+    Ok(())
 }
 
 // One byte, many times.
-fn repeated() {
+fn repeated(rt: &HostRuntime) -> io::Result<()> {
     let zeros = [0u8; 1000];
-    line(b"zeros-55", &zeros[..55]);
-    line(b"zeros-56", &zeros[..56]);
-    line(b"zeros-57", &zeros[..57]);
-    line(b"zeros-64", &zeros[..64]);
-    line(b"zeros-1000", &zeros);
-    line(b"41-1000-times", &[0x41; 1000]);
-    line(b"55-1005-times", &[0x55; 1005]);
+    line(rt, b"zeros-55", &zeros[..55])?;
+    line(rt, b"zeros-56", &zeros[..56])?;
+    line(rt, b"zeros-57", &zeros[..57])?;
+    line(rt, b"zeros-64", &zeros[..64])?;
+    line(rt, b"zeros-1000", &zeros)?;
+    line(rt, b"41-1000-times", &[0x41; 1000])?;
+    line(rt, b"55-1005-times", &[0x55; 1005])?;
+    Ok(())
 }
 
 // One million bytes.
-fn million() {
+fn million(rt: &HostRuntime) -> io::Result<()> {
     let m = [b'a'; 1000000];
-    line(b"million-a", &m);
+    line(rt, b"million-a", &m)?;
+    Ok(())
 }
 
 // The bytes (7 * i + 3) % 256.
@@ -106,19 +114,21 @@ fn length_label(n: usize) -> [u8; 10]
 }
 
 // Every length up to two blocks and two bytes.
-fn lengths() {
+fn lengths(rt: &HostRuntime) -> io::Result<()> {
     let p = pattern();
     let mut n = 0;
     while n <= 130 {
         let label = length_label(n);
-        line(&label, &p[..n]);
+        line(rt, &label, &p[..n])?;
         n += 1;
     }
+    Ok(())
 }
 
-fn main() {
-    published();
-    repeated();
-    million();
-    lengths();
+fn main(rt: HostRuntime) -> io::Result<()> {
+    published(&rt)?;
+    repeated(&rt)?;
+    million(&rt)?;
+    lengths(&rt)?;
+    Ok(())
 }
