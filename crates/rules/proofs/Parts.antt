@@ -1,6 +1,6 @@
 -- The records of a call's bytes: what a call with one record, and a loop over those of a list, cite. Assumes nothing.
 use Rattle.wire.proofs.Prelude.{Bool, List, [], ◌+◌, ◌-◌, ◌<◌, ◌∙◌, ◌∷◌, ◌≡◌, ◌≤◌, add-one, ap, arith, drop, drop-drop, drop_of_length-le}
-use Rattle.wire.proofs.Prelude.{false, length, length-drop, min, min-zero, not, not-false, not-true, refl, suc, suc-min-suc, sym, take}
+use Rattle.wire.proofs.Prelude.{false, length, length-drop, min, min-zero, refl, suc, suc-min-suc, sym, take}
 use Rattle.wire.proofs.Prelude.{true, zero, zero-min, ℕ}
 use Rattle.answers.specs.Answers.{answer}
 use Rattle.answers.specs.declared.Answer.{Answer}
@@ -31,16 +31,16 @@ module _ {S : Type 0} (c : Checker S) where
   gives s d x e = rw e (refl, refl)
 
   -- where the state is not accepted
-  pub gives_unaccepted : (s : S) (d : Call) {t : Bool} → t ≡ c.accepts s → not t ≡ true → Gives s d (Refused 3 0) s
-  gives_unaccepted s d q h = gives s d (record { answer = Refused 3 0; state = s }) (call_unaccepted c s d (sym q ∙ not-true _ h))
+  pub gives_unaccepted : (s : S) (d : Call) {t : Bool} → t ≡ c.accepts s → t ≡ false → Gives s d (Refused 3 0) s
+  gives_unaccepted s d q h = gives s d (record { answer = Refused 3 0; state = s }) (call_unaccepted c s d (sym q ∙ h))
 
   -- ## A call with one record
 
   -- in an accepted state, by its refusal and the state left
-  pub gives_one : (s : S) (b : List ℕ) {t : Bool} {n : ℕ} {a : Answer} {u : S} → t ≡ c.accepts s → not t ≡ false → n ≡ c.judge s b
+  pub gives_one : (s : S) (b : List ℕ) {t : Bool} {n : ℕ} {a : Answer} {u : S} → t ≡ c.accepts s → t ≡ true → n ≡ c.judge s b
       → a ≡ answer n 0 → u ≡ (call_one c s b).state → Gives s (one b) a u
   unfolding call call_one
-  gives_one s b q h j e l = rw (sym q ∙ not-false _ h) (e ∙ ap (λ (n : ℕ). answer n 0) j, l)
+  gives_one s b q h j e l = rw (sym q ∙ h) (e ∙ ap (λ (n : ℕ). answer n 0) j, l)
 
 -- ## Parts of bytes
 
@@ -148,11 +148,11 @@ pub record Taking (c : Checker (List ℕ)) (Ready : List ℕ → List ℕ → Ty
 
 module _ {c : Checker (List ℕ)} {Ready : List ℕ → List ℕ → Type 0} {start b : List ℕ} where
   -- before the first
-  pub taking_first : {index : List ℕ} {t : Bool} → t ≡ c.accepts start → not t ≡ false → (t ≡ true → Ready start index)
+  pub taking_first : {index : List ℕ} {t : Bool} → t ≡ c.accepts start → t ≡ true → (t ≡ true → Ready start index)
       → Taking c Ready start b start index 0 0
   unfolding call
   taking_first {t = u} q h r =
-      let t : u ≡ true = not-false _ h in
+      let t : u ≡ true = h in
       record { place = omega arith; ready = r t; left = rw (sym q ∙ t) }
 
   module _ {s index : List ℕ} {at i : ℕ} (h : Taking c Ready start b s index at i) where

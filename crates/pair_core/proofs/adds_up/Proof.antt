@@ -29,18 +29,18 @@ few-at c =
     let b = bounds-at c in
     omega (arith, b.room 0 (omega arith), b.room 1 (omega arith))
 
-add-balances-requires : tie.Need-add-balances-requires
+add-balances-requires : tie.Need-add_balances-home_total-requires
 add-balances-requires c κs =
     let o = c.before.before in
     let f = (accounts_fit o.args.s.now (bounds-at o) 0 (omega arith)).1 in
     (omega (arith, o.requires.0, f), omega arith, omega (arith, f))
 
-add-balances-requires-2 : tie.Need-add-balances-requires-2
+add-balances-requires-2 : tie.Need-add_balances-balances-requires
 add-balances-requires-2 c κs =
     let o = c.before.before.before.before in
     let f = (accounts_fit o.args.s.now (bounds-at o) 0 (omega arith)).1 in
     let g = (accounts_fit o.args.s.now (bounds-at o) 1 (omega arith)).1 in
-    let a = c.before.add-balances.ensures in
+    let a = c.before.add_balances-home_total.ensures in
     (omega (arith, o.requires.0, g), a.low_fits, omega (arith, a.high_most, f, g))
 
 -- sums of halves that fit
@@ -50,21 +50,21 @@ fitting c =
     let r = halves_fit 256 (received-at c) (few-at c) in
     (omega (arith, s.1), s.0, omega (arith, r.1), r.0)
 
-add-add-halves : tie.Need-overflow-add-add-halves
+add-add-halves : tie.Need-overflow_add-home
 add-add-halves c = record { fits = (fitting c.before.before.before.before.before.before.before).0 }
 
-add-add-halves-2 : tie.Need-overflow-add-add-halves-2
+add-add-halves-2 : tie.Need-overflow_add-home-2
 add-add-halves-2 c = record {
   fits = let o = c.before.before.before.before.before.before.before.before.before in let f : o.args.home.sent.low + o.args.far.sent.low < 2 ^ 64 = omega (arith, (fitting o).1) in f;
 }
 
-add-halves-requires : tie.Need-add-halves-requires
+add-halves-requires : tie.Need-add_halves-sent-requires
 add-halves-requires c κs =
     let o = c.before.before.before.before.before.before.before.before.before in
     let f = (accounts_fit o.args.s.now (bounds-at o) 0 (omega arith)).1 in
     let g = (accounts_fit o.args.s.now (bounds-at o) 1 (omega arith)).1 in
-    let held = added_after c.before.before.before.before.before.before.add-balances.ensures c.before.before.before.before.add-balances2.ensures in
-    let h = halves_fit c.before.before.before.before.add-balances2.result.high (sent-at o) (omega (
+    let held = added_after c.before.before.before.before.before.before.add_balances-home_total.ensures c.before.before.before.before.add_balances-balances.ensures in
+    let h = halves_fit c.before.before.before.before.add_balances-balances.result.high (sent-at o) (omega (
       arith,
       held.high_most,
       f,
@@ -73,12 +73,12 @@ add-halves-requires c κs =
     )) in
     (held.low_fits, h.0, h.1)
 
-add-add-halves-3 : tie.Need-overflow-add-add-halves-3
+add-add-halves-3 : tie.Need-overflow_add-home-3
 add-add-halves-3 c = record {
   fits = (fitting c.before.before.before.before.before.before.before.before.before.before.before.before.before.before).2;
 }
 
-add-add-halves-4 : tie.Need-overflow-add-add-halves-4
+add-add-halves-4 : tie.Need-overflow_add-home-4
 add-add-halves-4 c = record {
   fits = let o = c.before.before.before.before.before.before.before.before.before.before.before.before.before.before.before.before in let f : o.args.home.received.low + o.args.far.received.low < 2 ^ 64 = omega (
     arith,
@@ -86,7 +86,7 @@ add-add-halves-4 c = record {
   ) in f;
 }
 
-add-halves-requires-2 : tie.Need-add-halves-requires-2
+add-halves-requires-2 : tie.Need-add_halves-received-requires
 add-halves-requires-2 c κs =
     let o = c.before.before.before.before.before.before.before.before.before.before.before.before.before.before.before.before in
     let supply = c.before.before.before.before.add.ensures in
@@ -95,34 +95,34 @@ add-halves-requires-2 c κs =
     (supply.low_fits, h.0, h.1)
 
 -- balances and what was sent
-sent_is : (c : tie.After-add-halves2) → Added (record { high = 0; low = 0 }) (balance_sum c.before.before.before.before.before.before.before.before.before.before.before.before.before.before.before.before.before.args.s.now 0 + balance_sum c.before.before.before.before.before.before.before.before.before.before.before.before.before.before.before.before.before.args.s.now 1 + (flow_sum 2 c.before.before.before.before.before.before.before.before.before.before.before.before.before.before.before.before.before.args.s.now 0 + flow_sum 2 c.before.before.before.before.before.before.before.before.before.before.before.before.before.before.before.before.before.args.s.now 1)) (2 * accounts_on c.before.before.before.before.before.before.before.before.before.before.before.before.before.before.before.before.before.args.s.now 0 + 2 * accounts_on c.before.before.before.before.before.before.before.before.before.before.before.before.before.before.before.before.before.args.s.now 1 + 2 * (count_on c.before.before.before.before.before.before.before.before.before.before.before.before.before.before.before.before.before.args.s.now 0 + count_on c.before.before.before.before.before.before.before.before.before.before.before.before.before.before.before.before.before.args.s.now 1)) c.before.before.before.before.before.before.before.add-halves.result
+sent_is : (c : tie.After-add_halves-received) → Added (record { high = 0; low = 0 }) (balance_sum c.before.before.before.before.before.before.before.before.before.before.before.before.before.before.before.before.before.args.s.now 0 + balance_sum c.before.before.before.before.before.before.before.before.before.before.before.before.before.before.before.before.before.args.s.now 1 + (flow_sum 2 c.before.before.before.before.before.before.before.before.before.before.before.before.before.before.before.before.before.args.s.now 0 + flow_sum 2 c.before.before.before.before.before.before.before.before.before.before.before.before.before.before.before.before.before.args.s.now 1)) (2 * accounts_on c.before.before.before.before.before.before.before.before.before.before.before.before.before.before.before.before.before.args.s.now 0 + 2 * accounts_on c.before.before.before.before.before.before.before.before.before.before.before.before.before.before.before.before.before.args.s.now 1 + 2 * (count_on c.before.before.before.before.before.before.before.before.before.before.before.before.before.before.before.before.before.args.s.now 0 + count_on c.before.before.before.before.before.before.before.before.before.before.before.before.before.before.before.before.before.args.s.now 1)) c.before.before.before.before.before.before.before.add_halves-sent.result
 sent_is c =
-    let held = added_after c.before.before.before.before.before.before.before.before.before.before.before.before.before.before.add-balances.ensures c.before.before.before.before.before.before.before.before.before.before.before.before.add-balances2.ensures in
-    let e = c.before.before.before.before.before.before.before.add-halves.ensures in
+    let held = added_after c.before.before.before.before.before.before.before.before.before.before.before.before.before.before.add_balances-home_total.ensures c.before.before.before.before.before.before.before.before.before.before.before.before.add_balances-balances.ensures in
+    let e = c.before.before.before.before.before.before.before.add_halves-sent.ensures in
     added_after held (halves_added _ _ (sent-at c.before.before.before.before.before.before.before.before.before.before.before.before.before.before.before.before.before) held.low_fits e.0 e.1)
 
 -- the supply and what was received
-received_is : (c : tie.After-add-halves2) → Added (record { high = 0; low = 0 }) (pair_supply_of c.before.before.before.before.before.before.before.before.before.before.before.before.before.before.before.before.before.args.s.now + (flow_sum 3 c.before.before.before.before.before.before.before.before.before.before.before.before.before.before.before.before.before.args.s.now 0 + flow_sum 3 c.before.before.before.before.before.before.before.before.before.before.before.before.before.before.before.before.before.args.s.now 1)) (2 + 2 * (count_on c.before.before.before.before.before.before.before.before.before.before.before.before.before.before.before.before.before.args.s.now 0 + count_on c.before.before.before.before.before.before.before.before.before.before.before.before.before.before.before.before.before.args.s.now 1)) c.add-halves2.result
+received_is : (c : tie.After-add_halves-received) → Added (record { high = 0; low = 0 }) (pair_supply_of c.before.before.before.before.before.before.before.before.before.before.before.before.before.before.before.before.before.args.s.now + (flow_sum 3 c.before.before.before.before.before.before.before.before.before.before.before.before.before.before.before.before.before.args.s.now 0 + flow_sum 3 c.before.before.before.before.before.before.before.before.before.before.before.before.before.before.before.before.before.args.s.now 1)) (2 + 2 * (count_on c.before.before.before.before.before.before.before.before.before.before.before.before.before.before.before.before.before.args.s.now 0 + count_on c.before.before.before.before.before.before.before.before.before.before.before.before.before.before.before.before.before.args.s.now 1)) c.add_halves-received.result
 received_is c =
     let supply = c.before.before.before.before.before.add.ensures in
-    let e = c.add-halves2.ensures in
+    let e = c.add_halves-received.ensures in
     added_after supply (halves_added _ _ (received-at c.before.before.before.before.before.before.before.before.before.before.before.before.before.before.before.before.before) supply.low_fits e.0 e.1)
 
-returns : tie.Need-returns
+returns : tie.Need-returns-then-sent-received
 unfolding sums_agree
 returns c =
     let d = c.before.before.before in
     let sent = sent_is d in
     let received = received_is d in
-    high_differs _ _ _ _ sent.low_fits received.low_fits (added_value sent) (added_value received) c.if1.true
+    high_differs _ _ _ _ sent.low_fits received.low_fits (added_value sent) (added_value received) c.if-sent-received.true
 
-returns-2 : tie.Need-returns-2
+returns-2 : tie.Need-returns
 unfolding sums_agree
 returns-2 c =
     let d = c.before.before.before.before.before in
     let sent = sent_is d in
     let received = received_is d in
-    low_compared _ _ _ _ sent.low_fits received.low_fits (added_value sent) (added_value received) c.before.before.if1.false
+    low_compared _ _ _ _ sent.low_fits received.low_fits (added_value sent) (added_value received) c.before.before.if-sent-received.false
 
 pub adds_up_spec : {M : Type 1} → statement M
 adds_up_spec = tie.close (tie.spec (λ c. search rules) add-balances-requires (λ c. search rules) (λ c. search rules) (λ c. search rules)

@@ -4,7 +4,7 @@ use Rattle.pair_core.proofs.Ledgers.{bounds_of, index_within, records_within}
 use Rattle.pair_core.proofs.crossings_on.Statement.{statement}
 use Rattle.pair_core.proofs.crossings_on.Tie as tie
 
-add-crossings-requires : tie.Need-add-crossings-requires
+add-crossings-requires : tie.Need-add_crossings-requires
 add-crossings-requires c κs =
     let p = c.before.before.before.before.requires in
     let s = c.before.before.before.before.args.s.now in

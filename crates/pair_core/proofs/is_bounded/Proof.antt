@@ -8,42 +8,42 @@ use Rattle.wire.proofs.Prelude.{◌∙◌, ap, le-leb, lt-leb, rules, not-false,
 use Rattle.pair_core.proofs.is_bounded.Statement.{statement}
 use Rattle.pair_core.proofs.is_bounded.Tie as tie
 
-returns : tie.Need-returns
+returns : tie.Need-returns-then-not-is_count_allowed
 unfolding pair_bounds
-returns c = sym (every_not 0 _ (sym c.before.is-count-allowed.ensures ∙ not-true _ c.if1.true))
+returns c = sym (every_not 0 _ (sym c.before.is_count_allowed.ensures ∙ c.if-not-is_count_allowed.true))
 
-returns-2 : tie.Need-returns-2
+returns-2 : tie.Need-returns-then-not-is_count_allowed-2
 unfolding pair_bounds
-returns-2 c = sym (every_not 1 _ (sym c.before.is-count-allowed2.ensures ∙ not-true _ c.if2.true))
+returns-2 c = sym (every_not 1 _ (sym c.before.is_count_allowed-2.ensures ∙ c.if-not-is_count_allowed-2.true))
 
-returns-3 : tie.Need-returns-3
+returns-3 : tie.Need-returns-then-s-gt-CAPACITY
 unfolding pair_bounds
-returns-3 c = sym (every_not 2 _ (lt-leb _ _ c.if3.true))
+returns-3 c = sym (every_not 2 _ (lt-leb _ _ c.if-s-gt-CAPACITY.true))
 
-returns-4 : tie.Need-returns-4
+returns-4 : tie.Need-returns-then-s-gt-CAPACITY-2
 unfolding pair_bounds
-returns-4 c = sym (every_not 3 _ (lt-leb _ _ c.if4.true))
+returns-4 c = sym (every_not 3 _ (lt-leb _ _ c.if-s-gt-CAPACITY-2.true))
 
-returns-5 : tie.Need-returns-5
+returns-5 : tie.Need-returns-then-s-gt-MAX_AMOUNT
 unfolding pair_bounds supply_allowed
-returns-5 c = sym (every_not 4 _ (lt-leb _ _ c.if5.true))
+returns-5 c = sym (every_not 4 _ (lt-leb _ _ c.if-s-gt-MAX_AMOUNT.true))
 
-returns-6 : tie.Need-returns-6
+returns-6 : tie.Need-returns
 unfolding pair_bounds supply_allowed
 returns-6 c =
     let d = c.before.before.before in
     let c5 = d.before.before.before.before.before.before in
     let c8 = c5.before.before.before in
     let s = c8.before.before.before.before.args.s.now in
-    c.is-allowed.ensures
+    c.is_allowed.ensures
     ∙ sym
-    (every_skip _ _ (sym c8.before.is-count-allowed.ensures ∙ not-false _ c8.if1.false)
-    ∙ every_skip _ _ (sym c5.before.is-count-allowed2.ensures ∙ not-false _ c5.if2.false)
-    ∙ every_skip _ _ (le-leb _ _ d.before.before.before.before.if3.false)
-    ∙ every_skip _ _ (le-leb _ _ d.before.before.if4.false)
-    ∙ every_skip _ _ (le-leb _ _ d.if5.false)
+    (every_skip _ _ (sym c8.before.is_count_allowed.ensures ∙ c8.if-not-is_count_allowed.false)
+    ∙ every_skip _ _ (sym c5.before.is_count_allowed-2.ensures ∙ c5.if-not-is_count_allowed-2.false)
+    ∙ every_skip _ _ (le-leb _ _ d.before.before.before.before.if-s-gt-CAPACITY.false)
+    ∙ every_skip _ _ (le-leb _ _ d.before.before.if-s-gt-CAPACITY-2.false)
+    ∙ every_skip _ _ (le-leb _ _ d.if-s-gt-MAX_AMOUNT.false)
     ∙ every_one _
-    ∙ ap (λ (t : Tariff). tariff_allowed t (accounts_on s 0)) (sym c.before.before.tariff-on.ensures))
+    ∙ ap (λ (t : Tariff). tariff_allowed t (accounts_on s 0)) (sym c.before.before.tariff_on.ensures))
 
 pub is_bounded_spec : {M : Type 1} → statement M
 is_bounded_spec = tie.close (tie.spec (λ c. search rules) (λ c κs. search rules) returns (λ c. search rules) (λ c. search rules)

@@ -7,7 +7,7 @@ use Rattle.table.specs.Table.{index_length}
 use Rattle.pair_core.proofs.is_held.Statement.{statement}
 use Rattle.pair_core.proofs.is_held.Tie as tie
 
-hold-indexed-requires : tie.Need-hold-indexed-requires
+hold-indexed-requires : tie.Need-hold_indexed-requires
 hold-indexed-requires c κs =
     let o = c.before.before.before.before.before.before in
     let p = o.requires in
@@ -25,7 +25,7 @@ hold-indexed-requires c κs =
 
 returns : tie.Need-returns
 returns c =
-    let h = c.before.before.hold-indexed.ensures in
+    let h = c.before.before.hold_indexed.ensures in
     let o = c.before.before.before.before.before.before.before.before.before in
     let m = (bounds_of o.args.s.now o.requires.1).room o.args.l o.requires.3 in
     (h.0, (h.1.0, kept_longer (index_on o.args.l + index_length) (omega (arith, m)) h.1.1))

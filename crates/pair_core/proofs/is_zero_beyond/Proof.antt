@@ -12,7 +12,7 @@ fits-at c = (accounts_fit c.args.s.now (bounds_of c.args.s.now c.requires.1) c.a
 
 returns : tie.Need-returns
 unfolding zero_beyond
-returns c = c.are-zero.ensures
+returns c = c.are_zero.ensures
 
 pub is_zero_beyond_spec : {M : Type 1} → statement M
 is_zero_beyond_spec = tie.close (tie.spec (λ c. search rules) (λ c. search rules) (λ c. search rules) (λ c. search rules)

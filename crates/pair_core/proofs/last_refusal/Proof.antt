@@ -17,15 +17,15 @@ sound-at : (c : tie.Start) → PairSound c.args.s.now
 sound-at c = sound_of c.args.s.now c.requires.0.accepted
 
 -- the record's ledger
-ledger-at : (c : tie.After-ledger-index) → c.ledger-index.result ≡ ledger_byte (ledger_of c.before.before.before.before.args.r.kind)
-ledger-at c = c.ledger-index.ensures.0 ∙ ap ledger_byte c.before.ledger.ensures
+ledger-at : (c : tie.After-ledger_index-l) → c.ledger_index-l.result ≡ ledger_byte (ledger_of c.before.before.before.before.args.r.kind)
+ledger-at c = c.ledger_index-l.ensures.0 ∙ ap ledger_byte c.before.ledger.ensures
 
-is-backed-requires : tie.Need-is-backed-requires
+is-backed-requires : tie.Need-is_backed-backed-requires
 is-backed-requires c κs =
     let o = c.before.before.before.before.before.before.before in
     let s = o.args.s.now in
     let h = sound-at o in
-    let m = 1 - c.before.before.before.ledger-index.result in
+    let m = 1 - c.before.before.before.ledger_index-l.result in
     let p : m < 2 = omega arith in (
       records_within s h.long h.bounds m p,
       omega (arith, index_within s h.long h.bounds m p, o.requires.0.index_long),
@@ -33,46 +33,46 @@ is-backed-requires c κs =
       omega arith,
     )
 
-returns : tie.Need-returns
+returns : tie.Need-returns-then-is_receiving
 returns c =
     let o = c.before.before.before.before.before.before.before.before.before in
     let small : (i : ℕ) → get_or o.args.s.now i 0 < 2 ^ 64 = λ i. omega (
       arith,
-      c.before.before.before.before.before.before.before.before.shared-slice-known.given i,
+      c.before.before.before.before.before.before.before.before.shared_slice_known-1.given i,
     ) in
-    c.refusal-if.ensures
-    ∙ ap (λ (t : Bool). refuse (not t) 31 0) c.before.is-backed.ensures
+    c.refusal_if.ensures
+    ∙ ap (λ (t : Bool). refuse (not t) 31 0) c.before.is_backed-backed.ensures
     ∙ last_matched o.args.s.now o.args.r (sound-at o) small o.args.w o.requires.1 o.requires.2 o.args.r.kind refl
-    (sym c.before.before.before.before.is-receiving.ensures ∙ c.before.before.before.if1.true) (1 - c.before.before.before.before.before.ledger-index.result)
+    (sym c.before.before.before.before.is_receiving.ensures ∙ c.before.before.before.if-is_receiving.true) (1 - c.before.before.before.before.before.ledger_index-l.result)
     (ap (λ (l : ℕ). 1 - l) (ledger-at c.before.before.before.before.before))
 
-shared-slice-read-funds-refusal : tie.Need-shared-slice-read-funds-refusal
+shared-slice-read-funds-refusal : tie.Need-bounds-s-l
 shared-slice-read-funds-refusal c = omega (
   arith,
   (sound-at c.before.before.before.before.before.before.before.before).long,
-  c.before.before.before.before.ledger-index.ensures.1,
+  c.before.before.before.before.ledger_index-l.ensures.1,
 )
 
-funds-refusal-requires : tie.Need-funds-refusal-requires
+funds-refusal-requires : tie.Need-funds_refusal-requires
 funds-refusal-requires c κs =
     let o = c.before.before.before.before.before.before.before.before in
     let s = o.args.s.now in
     let h = sound-at o in
-    let l = c.before.before.before.before.ledger-index in (
+    let l = c.before.before.before.before.ledger_index-l in (
       omega (arith, h.long, (accounts_fit s h.bounds l.result l.ensures.1).1, l.ensures.1),
-      rw c.before.tariff-on.ensures (allowed_rate _ _ (tariff_fits_lem s h.bounds l.result l.ensures.1)),
+      rw c.before.tariff_on-tariff.ensures (allowed_rate _ _ (tariff_fits_lem s h.bounds l.result l.ensures.1)),
     )
 
-returns-2 : tie.Need-returns-2
+returns-2 : tie.Need-returns
 returns-2 c =
     let d = c.before.before.before.before in
     let a = d.before.before.before.before.before.args in
     let s = a.s.now in
-    let l : ℕ = d.before.ledger-index.result in
-    c.funds-refusal.ensures
-    ∙ ap (λ (t : Tariff). funds_at s (balances_start l) (accounts_on s l) t.rate a.r) c.before.before.tariff-on.ensures
+    let l : ℕ = d.before.ledger_index-l.result in
+    c.funds_refusal.ensures
+    ∙ ap (λ (t : Tariff). funds_at s (balances_start l) (accounts_on s l) t.rate a.r) c.before.before.tariff_on-tariff.ensures
     ∙ ap (λ (m : ℕ). funds_at s (balances_start m) (accounts_on s m) (tariff_on s m).rate a.r) (ledger-at d.before)
-    ∙ last_paid s a.r a.r.kind refl (sym d.is-receiving.ensures ∙ c.before.before.before.if1.false)
+    ∙ last_paid s a.r a.r.kind refl (sym d.is_receiving.ensures ∙ c.before.before.before.if-is_receiving.false)
 
 pub last_refusal_spec : {M : Type 1} → statement M
 last_refusal_spec = tie.close (tie.spec (λ c κs. search rules) (λ c κs. search rules) (λ c κs. search rules) (λ c. search rules)

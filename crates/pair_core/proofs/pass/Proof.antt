@@ -17,45 +17,45 @@ sound-at : (c : tie.Start) → PairSound c.args.state.now
 sound-at c = sound_of c.args.state.now c.requires.0
 
 -- the record's ledger
-ledger-at : (c : tie.After-ledger-index) → c.ledger-index.result ≡ ledger_byte (ledger_of c.before.before.args.r.kind)
-ledger-at c = c.ledger-index.ensures.0 ∙ ap ledger_byte c.before.ledger.ensures
+ledger-at : (c : tie.After-ledger_index-l) → c.ledger_index-l.result ≡ ledger_byte (ledger_of c.before.before.args.r.kind)
+ledger-at c = c.ledger_index-l.ensures.0 ∙ ap ledger_byte c.before.ledger.ensures
 
 -- the record passes on it
-passes_at : (c : tie.After-ledger-index) → PairPasses c.before.before.args.state.now c.before.before.args.r c.before.before.args.r.kind c.ledger-index.result
+passes_at : (c : tie.After-ledger_index-l) → PairPasses c.before.before.args.state.now c.before.before.args.r c.before.before.args.r.kind c.ledger_index-l.result
 passes_at c =
     let a = c.before.before.args in
     subst (PairPasses a.state.now a.r a.r.kind) (sym (ledger-at c)) (passes_of a.state.now (sound-at c.before.before) a.r c.before.before.requires.3)
 
 store-requires : tie.Need-store-requires
 store-requires c κs =
-    let d = c.before.before.before.before.before in
+    let d = c.before.before.before.before.before.before in
     let o = d.before.before in
     let a = o.args in
     let h = sound-at o in
     let p = passes_at d in
-    let l = d.ledger-index in
+    let l = d.ledger_index-l in
     let m = amount_fits a.w a.r o.requires.1 o.requires.2 in
     let f = paid_fits a.state.now h a.r l.result l.ensures.1 p m in
     let y = allowed_rate _ _ (tariff_fits_lem a.state.now h.bounds l.result l.ensures.1) in
-    rw c.before.tariff-on.ensures (omega (arith, h.long, p.room, p.sender, p.payee, p.pays, l.ensures.1, f, y, m))
+    rw c.before.tariff_on-tariff.ensures (omega (arith, h.long, p.room, p.sender, p.payee, p.pays, l.ensures.1, f, y, m))
 
 returns : tie.Need-returns
 unfolding pair_with
 returns c =
-    let d = c.before.before.before.before.before.before in
+    let d = c.before.before.before.before.before.before.before.before in
     let a = d.before.before.args in
     let s = a.state.now in
-    let l = d.ledger-index.result in
+    let l = d.ledger_index-l.result in
     ap (λ (x : List ℕ). set x (pair_count_word l) (count_on s l + 1)) (c.store.ensures
-    ∙ ap (λ (t : Tariff). stored t s (balances_start l) (records_start l + 4 * count_on s l) a.w a.r) c.before.before.tariff-on.ensures)
+    ∙ ap (λ (t : Tariff). stored t s (balances_start l) (records_start l + 4 * count_on s l) a.w a.r) c.before.before.tariff_on-tariff.ensures)
     ∙ ap (pair_with s a.w a.r) (ledger-at d)
 
 pub pass_spec : {M : Type 1} → statement M
 pass_spec = tie.close (tie.spec (λ c κs. search rules) (λ c κs. search rules) (λ c. search rules) (λ c. search rules)
     (λ c. search rules) (λ c κs. search rules) (λ c. search rules) (λ c. search rules) (λ c. search rules)
-    (λ c. omega (arith, (passes_at c.before.before.before.before.before).room))
+    (λ c. omega (arith, (passes_at c.before.before.before.before.before.before).room))
     (λ c.
-    let d = c.before.before.before.before.before in
-    omega (arith, (passes_at d).room, d.ledger-index.ensures.1))
-    store-requires (λ c. omega (arith, (passes_at c.before.before.before.before.before.before).room)) (λ c. search rules)
+    let d = c.before.before.before.before.before.before in
+    omega (arith, (passes_at d).room, d.ledger_index-l.ensures.1))
+    store-requires (λ c. omega (arith, (passes_at c.before.before.before.before.before.before.before).room)) (λ c. search rules)
     (λ c. search rules) (λ c. search rules) returns)

@@ -8,26 +8,26 @@ use Rattle.table.specs.Table.{index_length}
 use Rattle.pair_core.proofs.take.Statement.{statement}
 use Rattle.pair_core.proofs.take.Tie as tie
 
-is-accepted-requires : tie.Need-is-accepted-requires
+is-accepted-requires : tie.Need-is_accepted-requires
 is-accepted-requires c κs = (
   refl,
   λ l p. empty_zeros (2 * index_length) (index_on l),
 )
 
-returns : tie.Need-returns
+returns : tie.Need-returns-then-not-is_accepted
 returns c =
     let a = c.before.before.before.before.before.before.before.args in
-    gives_unaccepted pair_words_checker a.state.now (one a.bytes.now) c.before.before.is-accepted.ensures.0 c.if1.true
+    gives_unaccepted pair_words_checker a.state.now (one a.bytes.now) c.before.before.is_accepted.ensures.0 c.if-not-is_accepted.true
 
-step-requires : tie.Need-step-requires
-step-requires c κs = c.before.before.before.before.is-accepted.ensures.1.0 (not-false _ c.before.before.if1.false)
+step-requires : tie.Need-step-number-requires
+step-requires c κs = c.before.before.before.before.is_accepted.ensures.1.0 (c.before.before.if-not-is_accepted.false)
 
-returns-2 : tie.Need-returns-2
+returns-2 : tie.Need-returns
 returns-2 c =
     let d = c.before.before.before.before in
     let a = d.before.before.before.before.before.before.before.args in
-    let e = c.before.step.ensures in
-    gives_one pair_words_checker a.state.now a.bytes.now d.before.before.is-accepted.ensures.0 d.if1.false e.0 c.new.ensures
+    let e = c.before.step-number.ensures in
+    gives_one pair_words_checker a.state.now a.bytes.now d.before.before.is_accepted.ensures.0 d.if-not-is_accepted.false e.0 c.new.ensures
     e.1.0
 
 pub take_spec : {M : Type 1} → statement M

@@ -10,11 +10,11 @@ other-free : (s : List ℕ) (l : ℕ) → (l ≡ 0 → ⊥) → free ≡ tariff_
 other-free s zero h = absurd (h refl)
 other-free s (suc l) h = refl
 
-returns : tie.Need-returns
-returns c = ap (tariff_on c.before.before.before.args.s.now) (sym c.before.before.if1.true)
+returns : tie.Need-returns-then-l-eq0
+returns c = ap (tariff_on c.before.before.before.args.s.now) (sym c.before.before.if-l-eq0.true)
 
-returns-2 : tie.Need-returns-2
-returns-2 c = other-free c.before.args.s.now c.before.args.l c.if1.false
+returns-2 : tie.Need-returns
+returns-2 c = other-free c.before.args.s.now c.before.args.l c.if-l-eq0.false
 
 pub tariff_on_spec : {M : Type 1} → statement M
 tariff_on_spec = tie.close (tie.spec (λ c. search rules) (λ c. search rules) returns returns-2)
