@@ -155,7 +155,7 @@ pub record HomeStateWithin (tariff : Tariff) (homes : List ℕ) (fars far_total 
   pub as_rules : home_view_of_state (home_state_of_run tariff homes fars far_total ds)
       ≡ run (home_validator capacity) (home_opened tariff homes fars far_total) ds
   -- every passed record is a home one
-  pub home_records_lem : All HomeRecord (home_passed_of_run tariff homes fars far_total ds)
+  pub home_records : All HomeRecord (home_passed_of_run tariff homes fars far_total ds)
   -- the table holds the passed records, in order
   pub table : (home_view_of_state (home_state_of_run tariff homes fars far_total ds)).home.passed
       ≡ records_on Home (home_passed_of_run tariff homes fars far_total ds)

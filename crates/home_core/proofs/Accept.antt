@@ -34,7 +34,7 @@ pub record HomeBounds (s : List ℕ) : Type 0 where
   pub far_fits : far_accounts_of s ≤ account_limit
   pub room : home_count_of s ≤ capacity
   pub supply_fits : home_supply_of s ≤ max_amount
-  pub tariff_allowed_lem : tariff_allowed (home_tariff_of s) (home_accounts_of s) ≡ true
+  pub tariff_allowed : tariff_allowed (home_tariff_of s) (home_accounts_of s) ≡ true
 
 -- from the test
 pub bounds_facts : (s : List ℕ) → home_bounds s ≡ true → HomeBounds s
@@ -52,7 +52,7 @@ bounds_facts s h =
       far_fits = (count_facts (far_accounts_of s) b.0).1;
       room = leb-true (home_count_of s) capacity c.0;
       supply_fits = leb-true (home_supply_of s) max_amount d.0;
-      tariff_allowed_lem = e.0;
+      tariff_allowed = e.0;
     }
 
 -- and back
@@ -63,7 +63,7 @@ facts_bounds s b =
     (every_both _ _ (facts_count (far_accounts_of s) b.far_some b.far_fits)
     (every_both _ _ (le-leb (home_count_of s) capacity b.room)
     (every_both _ _ (le-leb (home_supply_of s) max_amount b.supply_fits)
-    (every_both _ _ b.tariff_allowed_lem
+    (every_both _ _ b.tariff_allowed
     every_none))))
 
 -- ## Accepted words
@@ -179,7 +179,7 @@ module _ (s : List ℕ) (z : length s ≡ home_words) (b : HomeBounds s) where
         far_count = facts_count (far_accounts_of s) b.far_some b.far_fits;
         room = rw (length_held s) b.room;
         supply_fits = le-leb (home_supply_of s) max_amount b.supply_fits;
-        tariff_allowed_lem = rw (length_balances s z b.home_fits) b.tariff_allowed_lem;
+        tariff_allowed = rw (length_balances s z b.home_fits) b.tariff_allowed;
         allowed = h.allowed;
         distinct = unshared_distinct _ (sym (apart_records s 0 (home_count_of s)) ∙ apart);
         stand = h.stand;

@@ -108,7 +108,7 @@ module _ (tariff : Tariff) (homes : List ℕ) (fars far_total : ℕ) where
                 far_fits = omega (arith, last 3, f);
                 room = omega (arith, last 4);
                 supply_fits = omega (arith, last 0, leb-true (total homes + far_total) max_amount o.supply_fits);
-                tariff_allowed_lem = rw (last 2, last 5, last 6) o.tariff_allowed_lem;
+                tariff_allowed = rw (last 2, last 5, last 6) o.tariff_allowed;
               };
           zeros = rw (last 2) opened_stand.zeros;
           reads = rw (last 4);

@@ -69,14 +69,14 @@ module _ (s : List ℕ) (o : HomeSound s) (r : Record) (space : home_count_of s 
   passes_by : (k : Kind) → HomePassable (home_view_of s) r k → HomePasses s r k
   unfolding HomePassable Changes ledger_in
   passes_by (Local Home) h =
-      let x : r.sender < home_accounts_of s = rw own at h.0.sender_open_lem in
-      omega (arith, h.0.receiver_open_lem, own, o.bounds.home_fits, h.1, pays_by x, sums_fit s o)
+      let x : r.sender < home_accounts_of s = rw own at h.0.sender_open in
+      omega (arith, h.0.receiver_open, own, o.bounds.home_fits, h.1, pays_by x, sums_fit s o)
   passes_by (Sending Home) h =
-      let x : r.sender < home_accounts_of s = rw own at h.0.sender_open_lem in
-      let y = allowed_open (home_tariff_of s) (home_accounts_of s) o.bounds.tariff_allowed_lem in
+      let x : r.sender < home_accounts_of s = rw own at h.0.sender_open in
+      let y = allowed_open (home_tariff_of s) (home_accounts_of s) o.bounds.tariff_allowed in
       omega (arith, y, o.bounds.home_fits, h.1, pays_by x, sums_fit s o)
   passes_by (Receiving Home) h =
-      omega (arith, h.0.sender_open_lem, h.0.receiver_open_lem, own, o.bounds.home_fits, o.bounds.far_fits, h.1, sums_fit s o)
+      omega (arith, h.0.sender_open, h.0.receiver_open, own, o.bounds.home_fits, o.bounds.far_fits, h.1, sums_fit s o)
   passes_by (Local Far) h = absurd h
   passes_by (Sending Far) h = absurd h
   passes_by (Receiving Far) h = absurd h
@@ -95,7 +95,7 @@ pub paid_fits : (s : List ℕ) → HomeSound s → (r : Record) → HomePasses s
     (home_balances_word + payee_by (home_tariff_of s).account r.kind r.receiver) 0
     + credit_by (home_tariff_of s).rate r.kind r.amount < 2 ^ 64
 paid_fits s o r p m =
-    given_fits (home_tariff_of s) s home_balances_word r (allowed_rate (home_tariff_of s) (home_accounts_of s) o.bounds.tariff_allowed_lem)
+    given_fits (home_tariff_of s) s home_balances_word r (allowed_rate (home_tariff_of s) (home_accounts_of s) o.bounds.tariff_allowed)
     (omega (arith, o.long, p.sender)) (balance_most s o r.sender p.sender) (balance_most s o _ p.payee) m
 
 -- what a record takes from the ledger enters the pool, and what it gives to it leaves the pool
@@ -191,7 +191,7 @@ module _ (s t : List ℕ) (w : Words) (r : Record) (o : HomeSound s) (p : HomePa
         far_fits = omega (arith, c.fars, o.bounds.far_fits);
         room = omega (arith, c.count, p.room);
         supply_fits = omega (arith, c.supply, o.bounds.supply_fits);
-        tariff_allowed_lem = rw (c.rate, c.account, c.homes) o.bounds.tariff_allowed_lem;
+        tariff_allowed = rw (c.rate, c.account, c.homes) o.bounds.tariff_allowed;
       }
 
   -- balances beyond the accounts stay zero

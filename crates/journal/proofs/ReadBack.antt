@@ -246,7 +246,7 @@ within_written t home far records w =
 pub written_reads : WrittenReads
 unfolding WrittenReads journal_of items_of numbered AllBlocksPass
 written_reads t home far records w =
-    let h = opening_forth home 0 0 t (omega arith) w.home_opening w.tariff_allowed_lem in
+    let h = opening_forth home 0 0 t (omega arith) w.home_opening w.tariff_allowed in
     let f = opening_forth far 1 (stated_count (journal_block 0 t (balance_bytes home))) t (omega arith) w.far_opening refl in
     let r = within_written t home far records w in
     record {
@@ -255,7 +255,7 @@ written_reads t home far records w =
       others = numbered t 2 (groups (block_count records) records);
       whole = refl;
       right = (h.passes, (f.passes, r.pass));
-      tariff_is = tariff_back t (length home) (balance_bytes home) w.home_opening.most w.tariff_allowed_lem;
+      tariff_is = tariff_back t (length home) (balance_bytes home) w.home_opening.most w.tariff_allowed;
       home_balances = h.reads;
       far_balances = f.reads;
       record_list = r.read;
@@ -281,7 +281,7 @@ read_written t home far records j y r =
     let o = records_back t 2 (stated_count r.second) r.others (omega arith) ys.1.1 r.right.1.1 in
     let e = r.record_list in (
       record {
-        tariff_allowed_lem = sym (ap₂ tariff_allowed r.tariff_is n) ∙ tariff_allowed_lem r.first 0 r.right.0;
+        tariff_allowed = sym (ap₂ tariff_allowed r.tariff_is n) ∙ tariff_allowed_lem r.first 0 r.right.0;
         home_opening = subst IsOpening r.home_balances h.opening;
         far_opening = subst IsOpening r.far_balances f.opening;
         whole = subst (All RecordBytes) e o.whole;
@@ -306,7 +306,7 @@ reads_back t home far records j y = (
 pub blocks_written : BlocksWritten
 unfolding BlocksWritten items_of numbered AllBlocksPass AllAllowed
 blocks_written t home far records w =
-    let h = opening_forth home 0 0 t (omega arith) w.home_opening w.tariff_allowed_lem in
+    let h = opening_forth home 0 0 t (omega arith) w.home_opening w.tariff_allowed in
     let f = opening_forth far 1 (stated_count (journal_block 0 t (balance_bytes home))) t (omega arith) w.far_opening refl in
     let r = within_written t home far records w in
     ((h.allowed, (f.allowed, r.allow)), (h.passes, (f.passes, r.pass)))

@@ -31,7 +31,7 @@ record_limit = records_per_block * (max_block - 1)
 
 -- rate and charge account that 52 has nothing against, two openings and records within the limit
 pub record WithinLimits (tariff : Tariff) (home far : List ℕ) (records : List (List ℕ)) : Type 0 where
-  pub tariff_allowed_lem : tariff_allowed tariff (length home) ≡ true
+  pub tariff_allowed : tariff_allowed tariff (length home) ≡ true
   pub home_opening : IsOpening home
   pub far_opening : IsOpening far
   pub whole : All RecordBytes records

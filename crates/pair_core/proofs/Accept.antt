@@ -216,7 +216,7 @@ module _ (s : List ℕ) (z : length s ≡ pair_words) (b : PairBounds s) (small 
           record {
             count = rw (length_balances s z b (ledger_byte L) (byte_below L)) (b.count (ledger_byte L) (byte_below L));
             room = rw (length_held s (ledger_byte L)) (b.room (ledger_byte L) (byte_below L));
-            tariff_allowed_lem = rw (length_balances s z b (ledger_byte L) (byte_below L)) (tariff_fits_lem s b (ledger_byte L) (byte_below L));
+            tariff_allowed = rw (length_balances s z b (ledger_byte L) (byte_below L)) (tariff_fits_lem s b (ledger_byte L) (byte_below L));
             allowed = (right L).records.allowed;
             clean = clean L;
             stand = under L;

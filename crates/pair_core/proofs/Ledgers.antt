@@ -46,7 +46,7 @@ pub record PairBounds (s : List ℕ) : Type 0 where
   pub count : (l : ℕ) → l < 2 → count_allowed (accounts_on s l) ≡ true
   pub room : (l : ℕ) → l < 2 → count_on s l ≤ capacity
   pub supply_fits : supply_allowed (pair_supply_of s) ≡ true
-  pub tariff_allowed_lem : tariff_allowed (pair_tariff_of s) (accounts_on s 0) ≡ true
+  pub tariff_allowed : tariff_allowed (pair_tariff_of s) (accounts_on s 0) ≡ true
 
 -- the test gives the bounds
 pub bounds_of : (s : List ℕ) → pair_bounds s ≡ true → PairBounds s
@@ -62,7 +62,7 @@ bounds_of s h =
       count = by_byte (λ (l : ℕ). count_allowed (accounts_on s l) ≡ true) a.0 b.0;
       room = by_byte (λ (l : ℕ). count_on s l ≤ capacity) (leb-true _ _ c.0) (leb-true _ _ d.0);
       supply_fits = e.0;
-      tariff_allowed_lem = f.0;
+      tariff_allowed = f.0;
     }
 
 -- and back
@@ -74,7 +74,7 @@ of_bounds s b =
     (every_both _ _ (le-leb _ _ (b.room 0 (omega arith)))
     (every_both _ _ (le-leb _ _ (b.room 1 (omega arith)))
     (every_both _ _ b.supply_fits
-    (every_both _ _ b.tariff_allowed_lem
+    (every_both _ _ b.tariff_allowed
     every_none)))))
 
 -- a ledger has an account and at most as many as it can have
@@ -84,7 +84,7 @@ accounts_fit s b l h = count_facts (accounts_on s l) (b.count l h)
 -- a ledger's tariff is one that 52 has nothing against
 pub tariff_fits_lem : (s : List ℕ) → PairBounds s → (l : ℕ) → l < 2 → tariff_allowed (tariff_on s l) (accounts_on s l) ≡ true
 tariff_fits_lem s b =
-    by_byte (λ (l : ℕ). tariff_allowed (tariff_on s l) (accounts_on s l) ≡ true) b.tariff_allowed_lem
+    by_byte (λ (l : ℕ). tariff_allowed (tariff_on s l) (accounts_on s l) ≡ true) b.tariff_allowed
     (free_allowed (accounts_on s 1) (omega (arith, (accounts_fit s b 1 (omega arith)).0)))
 
 -- ## As the rules see them

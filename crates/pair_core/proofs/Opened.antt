@@ -133,7 +133,7 @@ module _ (tariff : Tariff) (homes fars : List ℕ) (n : pair_opening_refusal tar
                   (rw (last 2) o.far_count);
               room = λ l h. omega (arith, count_none l h);
               supply_fits = rw (last 0) o.supply_fits;
-              tariff_allowed_lem = rw (last 5, last 6, last 1) o.tariff_allowed_lem;
+              tariff_allowed = rw (last 5, last 6, last 1) o.tariff_allowed;
             };
         zeros = by_byte (λ (l : ℕ). zero_beyond opened_words l ≡ true) (rw (last 1) opened_stand.0.zeros) (rw (last 2) opened_stand.1.zeros);
         reads = λ l h. rw (count_none l h);

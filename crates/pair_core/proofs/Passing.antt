@@ -111,12 +111,12 @@ module _ (s : List ℕ) (d : PairSound s) (r : Record) (l o : ℕ) (hl : l < 2) 
   passes_by : (k : Kind) → Passable (ledger_on s l) (ledger_on s o) r k → PairPasses s r k l
   unfolding Passable Changes ledger_in
   passes_by (Local m) h =
-      let x : r.sender < accounts_on s l = rw own at h.0.sender_open_lem in
-      omega (arith, h.0.receiver_open_lem, own, fits l hl, h.1, pays_by x)
+      let x : r.sender < accounts_on s l = rw own at h.0.sender_open in
+      omega (arith, h.0.receiver_open, own, fits l hl, h.1, pays_by x)
   passes_by (Sending m) h =
-      let x : r.sender < accounts_on s l = rw own at h.0.sender_open_lem in
-      omega (arith, h.0.receiver_open_lem, other, fits l hl, fits o ho, h.1, pays_by x, account_open)
-  passes_by (Receiving m) h = omega (arith, h.0.sender_open_lem, h.0.receiver_open_lem, own, other, fits l hl, fits o ho)
+      let x : r.sender < accounts_on s l = rw own at h.0.sender_open in
+      omega (arith, h.0.receiver_open, other, fits l hl, fits o ho, h.1, pays_by x, account_open)
+  passes_by (Receiving m) h = omega (arith, h.0.sender_open, h.0.receiver_open, own, other, fits l hl, fits o ho)
 
 -- a record without a refusal passes
 pub passes_of : (s : List ℕ) → PairSound s → (r : Record) → pair_judge capacity (pair_view_of s).pair (Read r) ≡ 0
@@ -240,7 +240,7 @@ module _ (s : List ℕ) (w : Words) (r : Record) (d : PairSound s) (L : Ledger) 
           room = either (λ (m : ℕ). count_on t m ≤ capacity) L (omega (arith, c.count, p.room))
               (omega (arith, c.others, b.room o (byte_below (counterpart L))));
           supply_fits = rw c.supply b.supply_fits;
-          tariff_allowed_lem = rw (c.tariff, c.accounts 0 (omega arith)) b.tariff_allowed_lem;
+          tariff_allowed = rw (c.tariff, c.accounts 0 (omega arith)) b.tariff_allowed;
         }
 
     -- balances beyond the accounts stay zero

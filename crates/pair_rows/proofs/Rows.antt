@@ -33,19 +33,19 @@ total_moves : (own other : LedgerState) (r : Record) (k : Kind) → own.tariff.a
     → TotalMoves (total own.balances) (total (moved own.tariff own.balances r k)) (taken_by k r.amount) (given_by k r.amount)
 unfolding Passable
 total_moves own other r (Local l) o h =
-    let a = total_lowered own.balances r.sender r.amount h.0.sender_open_lem h.1 in
+    let a = total_lowered own.balances r.sender r.amount h.0.sender_open h.1 in
     let b = total_raised (lowered own.balances r.sender r.amount) r.receiver r.amount
-    (rw (length_lowered own.balances r.sender r.amount) h.0.receiver_open_lem) in
+    (rw (length_lowered own.balances r.sender r.amount) h.0.receiver_open) in
     record { adds = omega (arith, a, b); pays = omega (arith, h.1, balance_total own.balances r.sender) }
 total_moves own other r (Sending l) o h =
     let t = own.tariff in
     let whole = debit t r (Sending l) in
-    let a = total_lowered own.balances r.sender whole h.0.sender_open_lem h.1 in
+    let a = total_lowered own.balances r.sender whole h.0.sender_open h.1 in
     let b = total_raised (lowered own.balances r.sender whole) t.account (charge t.rate r.amount)
     (rw (length_lowered own.balances r.sender whole) o) in
     record { adds = omega (arith, a, b, h.1, balance_total own.balances r.sender); pays = omega (arith, h.1, balance_total own.balances r.sender) }
 total_moves own other r (Receiving l) o h =
-    let b = total_raised own.balances r.receiver r.amount h.0.receiver_open_lem in
+    let b = total_raised own.balances r.receiver r.amount h.0.receiver_open in
     record { adds = omega (arith, b); pays = omega arith }
 
 -- ## The row
@@ -139,7 +139,7 @@ module _ (s index b : List ℕ) (last : Row) (h : RowReady s index last) where
       let g = (accepts_facts capacity _ (sound_of _ x.accepted).accepted).sums in
       let v = x.view in
       let f = accepts_facts capacity _ (sound_of s h.ready.accepted).accepted in
-      let m = row_after_lem (pair_view_of s).pair r (pair_supply_of s) last.refusal (λ l. allowed_open _ _ (f.ledgers l).tariff_allowed_lem) (or_else_zero (judge (pair_view_of s).pair r) _ k).0
+      let m = row_after_lem (pair_view_of s).pair r (pair_supply_of s) last.refusal (λ l. allowed_open _ _ (f.ledgers l).tariff_allowed) (or_else_zero (judge (pair_view_of s).pair r) _ k).0
       (subst (λ (y : PairView). total y.pair.home.balances + total y.pair.far.balances + in_flight y.pair ≡ y.supply) v g) in
       let e : row_of 0 (record { pair = after (pair_view_of s).pair r; supply = pair_supply_of s }) ≡ row_after s b =
       ap₂ row_of j (sym v ∙ ap pair_view_of (sym t)) in

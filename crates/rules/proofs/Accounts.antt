@@ -72,4 +72,4 @@ held_open accounts [] h = tt
 held_open accounts (r ∷ rs) h =
     let u = and_both (held_allowed accounts r) (all (held_allowed accounts) rs) h in
     let a = (held_allowed_lem accounts r u.0).0 in
-    (record { sender = a.sender_open_lem; receiver = a.receiver_open_lem }, held_open accounts rs u.1)
+    (record { sender = a.sender_open; receiver = a.receiver_open }, held_open accounts rs u.1)

@@ -111,8 +111,8 @@ nothing_stranded capacity v ok l r fly =
     let held = (held_allowed_lem _ r (among_all _ r own fly.passed (f.ledgers l).allowed)).0 in
     none_judge v.pair e (Receiving (counterpart l)) refl (
       record {
-        sender_open_lem = rw twice (rw fly.sends at held.sender_open_lem);
-        receiver_open_lem = rw fly.sends at held.receiver_open_lem;
+        sender_open = rw twice (rw fly.sends at held.sender_open);
+        receiver_open = rw fly.sends at held.receiver_open;
         signed = refl;
         fresh = clash_arrived e (state_of (counterpart l) v.pair).passed refl ∙ fly.not_arrived;
       },
@@ -134,8 +134,8 @@ flying_readable capacity v ok l r fits fly =
     record {
       fits =
           record {
-            sender_fits = omega (arith, held.0.sender_open_lem, few (sender_ledger r.kind));
-            receiver_fits = omega (arith, held.0.receiver_open_lem, few (receiver_ledger r.kind));
+            sender_fits = omega (arith, held.0.sender_open, few (sender_ledger r.kind));
+            receiver_fits = omega (arith, held.0.receiver_open, few (receiver_ledger r.kind));
             number_fits = fits;
             amount_fits = omega (arith, held.1.1);
           };

@@ -72,16 +72,16 @@ Covered s r (Receiving l) = r.receiver < length s.balances
 -- so it is by the rules
 pair_covered : (own other : LedgerState) (r : Record) (k : Kind) → Passable own other r k → Covered own r k
 unfolding Passable Covered
-pair_covered own other r (Local l) h = (h.0.sender_open_lem, h.1, h.0.receiver_open_lem)
-pair_covered own other r (Sending l) h = (h.0.sender_open_lem, h.1)
-pair_covered own other r (Receiving l) h = h.0.receiver_open_lem
+pair_covered own other r (Local l) h = (h.0.sender_open, h.1, h.0.receiver_open)
+pair_covered own other r (Sending l) h = (h.0.sender_open, h.1)
+pair_covered own other r (Receiving l) h = h.0.receiver_open
 
 -- and by the home validator
 home_covered : (v : HomeView) (r : Record) (k : Kind) → HomePassable v r k → Covered v.home r k
 unfolding HomePassable Covered
-home_covered v r (Local Home) h = (h.0.sender_open_lem, h.1, h.0.receiver_open_lem)
-home_covered v r (Sending Home) h = (h.0.sender_open_lem, h.1)
-home_covered v r (Receiving Home) h = h.0.receiver_open_lem
+home_covered v r (Local Home) h = (h.0.sender_open, h.1, h.0.receiver_open)
+home_covered v r (Sending Home) h = (h.0.sender_open, h.1)
+home_covered v r (Receiving Home) h = h.0.receiver_open
 home_covered v r (Local Far) h = absurd h
 home_covered v r (Sending Far) h = absurd h
 home_covered v r (Receiving Far) h = absurd h
@@ -154,7 +154,7 @@ pub pair_sendings_cost : PairSendingsCost
 unfolding PairSendingsCost after
 pair_sendings_cost capacity v ok l r q j =
     let s = state_of l v.pair in
-    let o = allowed_open _ _ ((accepts_facts capacity v ok).ledgers l).tariff_allowed_lem in
+    let o = allowed_open _ _ ((accepts_facts capacity v ok).ledgers l).tariff_allowed in
     let h = pair_covered s (state_of (counterpart l) v.pair) r (Sending l) (judge_none v.pair r (Sending l) q j) in
     let e : ledger_of r.kind ≡ l = ap ledger_of q in
     rw (e, state_with l) (sending_costs s r l q o h)
@@ -163,7 +163,7 @@ pair_sendings_cost capacity v ok l r q j =
 pub home_sendings_cost : HomeSendingsCost
 unfolding HomeSendingsCost
 home_sendings_cost capacity v ok r q j =
-    let o = allowed_open _ _ (home_accepts_facts capacity v ok).tariff_allowed_lem in
+    let o = allowed_open _ _ (home_accepts_facts capacity v ok).tariff_allowed in
     sending_costs v.home r Home q o (home_covered v r (Sending Home) (home_judge_none v r (Sending Home) q j))
 
 -- ## Every account, over a run
@@ -234,7 +234,7 @@ pair_accounts_add_up capacity tariff homes fars h ds l =
     let c = pair_validator capacity in
     let v₀ = pair_opened tariff homes fars in
     let start = state_of l (opened tariff homes fars) in
-    let o = allowed_open _ _ ((accepts_facts capacity v₀ (pair_opened_accepted capacity tariff homes fars h)).ledgers l).tariff_allowed_lem in
+    let o = allowed_open _ _ ((accepts_facts capacity v₀ (pair_opened_accepted capacity tariff homes fars h)).ledgers l).tariff_allowed in
     let none : start.passed ≡ [] = elim l as (λ k. (state_of k (opened tariff homes fars)).passed ≡ []) [ Home ↦ refl | Far ↦ refl ] in
     let first = balanced_opened start none o in
     adds_up start _ _ ((conserved capacity tariff homes fars h ds).tables l)
@@ -255,6 +255,6 @@ home_accounts_add_up capacity tariff homes far_accounts far_total h ds =
     let c = home_validator capacity in
     let v₀ = home_opened tariff homes far_accounts far_total in
     let start = new_ledger tariff homes in
-    let first = balanced_opened start refl (allowed_open _ _ (opening_none _ _ _ _ h).tariff_allowed_lem) in
+    let first = balanced_opened start refl (allowed_open _ _ (opening_none _ _ _ _ h).tariff_allowed) in
     adds_up start _ _ (within_pool capacity tariff homes far_accounts far_total h ds).table
     (keep_run c (λ v done. Balanced start v.home) (home_balanced capacity start) ds v₀ [] first)

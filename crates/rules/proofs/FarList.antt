@@ -128,7 +128,7 @@ module _ (far_accounts block : ℕ) (few : far_accounts ≤ 2 ^ 16) (top : block
       let fresh = clash_used z F.passed ∙ un false number (λ w. omega arith) (out true number here) in
       possible_far H F z bs (omega arith) refl
       (none_judge (pair_of H F) z (Local Far) refl
-      (record { sender_open_lem = rw ln p; receiver_open_lem = rw ln q; signed = refl; fresh = fresh }, l))
+      (record { sender_open = rw ln p; receiver_open = rw ln q; signed = refl; fresh = fresh }, l))
       (next (λ arrival n i u.
       used_snoc arrival n F.passed z
       ∙ simp (
@@ -181,19 +181,19 @@ module _ (far_accounts supply block : ℕ) (some : 0 < far_accounts) (few : far_
     home_one (Sending Home) q h =
         let x : Record = far_record (Receiving Far) r.sender r.receiver r.number r.amount in
         let F₁ : LedgerState = held F x in
-        let open-receiver : r.receiver < length F.balances = rw rd.count h.0.receiver_open_lem in
-        let open-sender : r.sender < length (held H r).balances = rw (length_moved H.tariff H.balances r r.kind) h.0.sender_open_lem in
+        let open-receiver : r.receiver < length F.balances = rw rd.count h.0.receiver_open in
+        let open-sender : r.sender < length (held H r).balances = rw (length_moved H.tariff H.balances r r.kind) h.0.sender_open in
         let fresh : used true r.number F.passed ≡ false = rd.unused true r.number (λ w. absurd (out w)) (own_unused false (ap
         is_receiving q) h.0.fresh) in
         possible_home H F r bs b is (ap ledger_of q) (none_judge (pair_of H F) r (Sending Home) q (rw rd.count h))
         (possible_far (held H r) F x bs (omega (arith, g)) refl
         (none_judge (pair_of (held H r) F) x (Receiving Far) refl (
-          record { sender_open_lem = open-sender; receiver_open_lem = open-receiver; signed = refl; fresh = clash_used x F.passed ∙ fresh },
+          record { sender_open = open-sender; receiver_open = open-receiver; signed = refl; fresh = clash_used x F.passed ∙ fresh },
           any_last (matches x) H.passed r
               (matched_matches x r (record { sending = ap is_sending q; number = refl; sender = refl; receiver = refl; amount = refl })),
         ))
         (local_far far_accounts block few top (held H r) F₁ r.receiver 0 r.amount k bs (simp length_raised rd.count)
-        h.0.receiver_open_lem some g.amount_some g.amount_most
+        h.0.receiver_open some g.amount_some g.amount_most
         (omega (arith, raised_same F.balances r.receiver r.amount open-receiver)) room outside_next
         (unused_both block k H F r x refl (sym (ap (λ (t : Kind). not (is_receiving t)) q)) rd.unused)
         (λ u.
@@ -212,15 +212,15 @@ module _ (far_accounts supply block : ℕ) (some : 0 < far_accounts) (few : far_
         let x : Record = far_record (Sending Far) r.sender r.receiver r.number r.amount in
         let F₁ : LedgerState = held F (far_record (Local Far) 0 r.sender (block * 2 ^ 32 + k) r.amount) in
         let left_over : List ℕ = lowered F.balances 0 r.amount in
-        let open-sender : r.sender < length left_over = rw (length_lowered, rd.count) h.0.sender_open_lem in
-        local_far far_accounts block few top H F 0 r.sender r.amount k (b ∷ bs) rd.count some h.0.sender_open_lem
+        let open-sender : r.sender < length left_over = rw (length_lowered, rd.count) h.0.sender_open in
+        local_far far_accounts block few top H F 0 r.sender r.amount k (b ∷ bs) rd.count some h.0.sender_open
         g.amount_some g.amount_most (omega (arith, rd.pool_there, h.1)) room rd.outside rd.unused
         (λ u.
         possible_far H F₁ x (b ∷ bs) (omega (arith, g)) refl
         (none_judge (pair_of H F₁) x (Sending Far) refl (
           record {
-            sender_open_lem = rw length_raised open-sender;
-            receiver_open_lem = h.0.receiver_open_lem;
+            sender_open = rw length_raised open-sender;
+            receiver_open = h.0.receiver_open;
             signed = refl;
             fresh = clash_used x F₁.passed ∙ u false r.number (λ w. absurd (out w)) (own_unused true (ap is_receiving q) h.0.fresh);
           },

@@ -30,7 +30,7 @@ pub record HomeFacts (capacity : ℕ) (v : HomeView) : Type 0 where
   pub far_count : count_allowed v.far_accounts ≡ true
   pub room : length v.home.passed ≤ capacity
   pub supply_fits : supply_allowed v.supply ≡ true
-  pub tariff_allowed_lem : tariff_allowed v.home.tariff (length v.home.balances) ≡ true
+  pub tariff_allowed : tariff_allowed v.home.tariff (length v.home.balances) ≡ true
   pub allowed : all (held_allowed (home_accounts v)) v.home.passed ≡ true
   pub distinct : Distinct v.home.passed
   pub stand : all (stands_under Home) v.home.passed ≡ true
@@ -58,16 +58,16 @@ home_sums : (v : HomeView) (r : Record) (k : Kind) → v.home.tariff.account < l
     → total (moved v.home.tariff v.home.balances r k) + pool_after v.far_pool r k ≡ total v.home.balances + v.far_pool
 unfolding HomePassable
 home_sums v r (Local Home) o h =
-    let u = total_lowered v.home.balances r.sender r.amount h.0.sender_open_lem h.1 in
+    let u = total_lowered v.home.balances r.sender r.amount h.0.sender_open h.1 in
     let left = lowered v.home.balances r.sender r.amount in
-    omega (arith, total_raised left r.receiver (credit r) (rw length_lowered h.0.receiver_open_lem))
+    omega (arith, total_raised left r.receiver (credit r) (rw length_lowered h.0.receiver_open))
 home_sums v r (Sending Home) o h =
     let t = v.home.tariff in
     let whole = debit t r (Sending Home) in
-    let u = total_lowered v.home.balances r.sender whole h.0.sender_open_lem h.1 in
+    let u = total_lowered v.home.balances r.sender whole h.0.sender_open h.1 in
     let left = lowered v.home.balances r.sender whole in
     omega (arith, total_raised left t.account (charge t.rate r.amount) (rw length_lowered o))
-home_sums v r (Receiving Home) o h = omega (arith, h.1, total_raised v.home.balances r.receiver (credit r) h.0.receiver_open_lem)
+home_sums v r (Receiving Home) o h = omega (arith, h.1, total_raised v.home.balances r.receiver (credit r) h.0.receiver_open)
 home_sums v r (Local Far) o h = absurd h
 home_sums v r (Sending Far) o h = absurd h
 home_sums v r (Receiving Far) o h = absurd h
@@ -86,11 +86,11 @@ home_facts_after capacity v r m j room f =
       far_count = f.far_count;
       room = omega (arith, length-append v.home.passed (r ∷ []));
       supply_fits = f.supply_fits;
-      tariff_allowed_lem = rw count f.tariff_allowed_lem;
+      tariff_allowed = rw count f.tariff_allowed;
       allowed = rw accounts (all_snoc _ v.home.passed r f.allowed (allowed_held (home_accounts v) v.home.passed r a m));
       distinct = distinct_snoc v.home.passed r f.distinct a.fresh;
       stand = all_snoc _ v.home.passed r f.stand (rw (home_only v r j) at (stands_own r));
-      sums = home_sums v r r.kind (allowed_open _ _ f.tariff_allowed_lem) h ∙ f.sums;
+      sums = home_sums v r r.kind (allowed_open _ _ f.tariff_allowed) h ∙ f.sums;
     }
 
 -- a record of bytes that passes

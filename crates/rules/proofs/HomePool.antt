@@ -93,7 +93,7 @@ within_pool capacity tariff homes far_accounts far_total ok ds =
           rw (← pooled_figure far_total v xs (pooled_all capacity tariff homes far_accounts far_total xs s.0))
           (home_judge_none v r (Receiving Home) k (or_else_zero (home_judge_record v r) _ j).0).1;
       figure = ap (λ (v : HomeView). v.far_pool) reached.state ∙ pooled_figure far_total _ _ t;
-      home_records_lem = all_home capacity v₀ _ reached.in_turn;
+      home_records = all_home capacity v₀ _ reached.in_turn;
       table = ap (λ (v : HomeView). v.home.passed) reached.state ∙ t.records;
       accepted = home_run_accepted capacity tariff homes far_accounts far_total ok ds;
     }

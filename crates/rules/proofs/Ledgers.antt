@@ -48,20 +48,20 @@ module _ (own other : LedgerState) (r : Record) where
   own_sums (Local l) o q h =
       let s = sent_snoc own.passed r q in
       let t = received_snoc own.passed r q in
-      let u = total_lowered own.balances r.sender r.amount h.0.sender_open_lem h.1 in
+      let u = total_lowered own.balances r.sender r.amount h.0.sender_open h.1 in
       let left = lowered own.balances r.sender r.amount in
-      omega (arith, total_raised left r.receiver (credit r) (rw length_lowered h.0.receiver_open_lem))
+      omega (arith, total_raised left r.receiver (credit r) (rw length_lowered h.0.receiver_open))
   own_sums (Sending l) o q h =
       let s = sent_snoc own.passed r q in
       let t = received_snoc own.passed r q in
       let whole = debit own.tariff r (Sending l) in
-      let u = total_lowered own.balances r.sender whole h.0.sender_open_lem h.1 in
+      let u = total_lowered own.balances r.sender whole h.0.sender_open h.1 in
       let left = lowered own.balances r.sender whole in
       omega (arith, total_raised left own.tariff.account (charge own.tariff.rate r.amount) (rw length_lowered o))
   own_sums (Receiving l) o q h =
       let s = sent_snoc own.passed r q in
       let t = received_snoc own.passed r q in
-      omega (arith, total_raised own.balances r.receiver (credit r) h.0.receiver_open_lem)
+      omega (arith, total_raised own.balances r.receiver (credit r) h.0.receiver_open)
 
 -- ## What the passed records of both ledgers keep
 

@@ -25,7 +25,7 @@ use Rattle.wire.specs.BigEndian.{All}
 pub record LedgerFacts (capacity : ℕ) (accounts : Ledger → ℕ) (l : Ledger) (own other : LedgerState) : Type 0 where
   pub count : count_allowed (length own.balances) ≡ true
   pub room : length own.passed ≤ capacity
-  pub tariff_allowed_lem : tariff_allowed own.tariff (length own.balances) ≡ true
+  pub tariff_allowed : tariff_allowed own.tariff (length own.balances) ≡ true
   pub allowed : all (held_allowed accounts) own.passed ≡ true
   pub clean : Clean own other
   pub stand : all (stands_under l) own.passed ≡ true
@@ -76,7 +76,7 @@ pub allowed_held : (accounts : Ledger → ℕ) (passed : List Record) (r : Recor
 unfolding held_allowed any All
 allowed_held accounts passed r a m =
     let b : Allowed (accounts (sender_ledger r.kind)) (accounts (receiver_ledger r.kind)) [] r =
-    record { sender_open_lem = a.sender_open_lem; receiver_open_lem = a.receiver_open_lem; signed = a.signed; fresh = refl } in
+    record { sender_open = a.sender_open; receiver_open = a.receiver_open; signed = a.signed; fresh = refl } in
     all_every _ (lt-ltb _ _ m.0, (le-leb _ _ m.1, (eq-eqb _ 0 (none_first accounts [] r 0 b refl), tt)))
 
 -- and back
@@ -99,7 +99,7 @@ module _ (capacity : ℕ) (accounts : Ledger → ℕ) (l : Ledger) (own other : 
   facts_own a s h room f =
       record {
         count = rw (length_moved own.tariff own.balances r r.kind) f.count;
-        tariff_allowed_lem = rw (length_moved own.tariff own.balances r r.kind) f.tariff_allowed_lem;
+        tariff_allowed = rw (length_moved own.tariff own.balances r r.kind) f.tariff_allowed;
         room = omega (arith, length-append own.passed (r ∷ []));
         allowed = all_snoc _ own.passed r f.allowed a;
         clean = clean_own own other r h f.clean;
@@ -147,7 +147,7 @@ accepted_after capacity v r m j room a =
           ]);
           supply_fits = a.supply_fits;
           far_free = a.far_free;
-          sums = omega (arith, a.sums, sum_step p.home p.far r (allowed_open _ _ (a.ledgers Home).tariff_allowed_lem) h (a.ledgers Home).clean (a.ledgers Far).clean);
+          sums = omega (arith, a.sums, sum_step p.home p.far r (allowed_open _ _ (a.ledgers Home).tariff_allowed) h (a.ledgers Home).clean (a.ledgers Far).clean);
         }
     go Far s h room =
         record {
@@ -157,7 +157,7 @@ accepted_after capacity v r m j room a =
           ]);
           supply_fits = a.supply_fits;
           far_free = a.far_free;
-          sums = omega (arith, a.sums, sum_step p.far p.home r (allowed_open _ _ (a.ledgers Far).tariff_allowed_lem) h (a.ledgers Far).clean (a.ledgers Home).clean);
+          sums = omega (arith, a.sums, sum_step p.far p.home r (allowed_open _ _ (a.ledgers Far).tariff_allowed) h (a.ledgers Far).clean (a.ledgers Home).clean);
         }
 
 -- a record of bytes that passes

@@ -58,7 +58,7 @@ pub record Opening (tariff : Tariff) (homes fars supply : ℕ) : Type 0 where
   pub home_count : count_allowed homes ≡ true
   pub far_count : count_allowed fars ≡ true
   pub supply_fits : supply_allowed supply ≡ true
-  pub tariff_allowed_lem : tariff_allowed tariff homes ≡ true
+  pub tariff_allowed : tariff_allowed tariff homes ≡ true
 
 -- the refusals 1, 2 and 52
 pub opening_none : (tariff : Tariff) (homes fars supply : ℕ) → opening_refusal tariff homes fars supply ≡ 0
@@ -69,7 +69,7 @@ opening_none tariff homes fars supply h =
     let b = refuse_zero _ 2 _ (lit< tt) a.1 in
     let d = refuse_zero _ 52 0 (lit< tt) b.1 in
     let c = every_all _ (not-false _ a.0) in
-    record { home_count = c.0; far_count = c.1.0; supply_fits = not-false _ b.0; tariff_allowed_lem = not-false _ d.0 }
+    record { home_count = c.0; far_count = c.1.0; supply_fits = not-false _ b.0; tariff_allowed = not-false _ d.0 }
 
 -- the state of an accepted opening is accepted
 pub pair_opened_accepted : (capacity : ℕ) (tariff : Tariff) (homes fars : List ℕ) → pair_opening_refusal tariff homes fars ≡ 0

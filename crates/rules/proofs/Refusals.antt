@@ -16,8 +16,8 @@ use Rattle.rules.specs.Rules.{judge, last_refusal, match_refusal}
 
 -- what they leave of a record, with the accounts of the sender's and the receiver's ledger and the records passed on its own
 pub record Allowed (senders receivers : ℕ) (passed : List Record) (r : Record) : Type 0 where
-  pub sender_open_lem : r.sender < senders
-  pub receiver_open_lem : r.receiver < receivers
+  pub sender_open : r.sender < senders
+  pub receiver_open : r.receiver < receivers
   pub signed : r.verified ≡ true
   pub fresh : any (clashes r) passed ≡ false
 
@@ -30,7 +30,7 @@ first_none accounts passed r later h =
     let t = refuse_zero _ _ _ (lit< tt) s.1 in
     let u = refuse_zero _ _ _ (lit< tt) t.1 in
     let v = refuse_zero _ _ later (lit< tt) u.1 in (
-      record { sender_open_lem = leb-false _ _ s.0; receiver_open_lem = leb-false _ _ t.0; signed = not-false _ u.0; fresh = v.0 },
+      record { sender_open = leb-false _ _ s.0; receiver_open = leb-false _ _ t.0; signed = not-false _ u.0; fresh = v.0 },
       v.1,
     )
 
@@ -39,7 +39,7 @@ pub none_first : (accounts : Ledger → ℕ) (passed : List Record) (r : Record)
     → Allowed (accounts (sender_ledger r.kind)) (accounts (receiver_ledger r.kind)) passed r → later ≡ 0
     → first_refusal accounts passed r later ≡ 0
 unfolding first_refusal
-none_first accounts passed r later a h = simp (lt-leb _ _ a.sender_open_lem, lt-leb _ _ a.receiver_open_lem, a.signed, a.fresh, h)
+none_first accounts passed r later a h = simp (lt-leb _ _ a.sender_open, lt-leb _ _ a.receiver_open, a.signed, a.fresh, h)
 
 -- a refusal after 22, 51, 23, 24 and the later ones
 pub first_else : (accounts : Ledger → ℕ) (passed : List Record) (r : Record) (later x : ℕ)

@@ -102,7 +102,7 @@ receivings_were_sent p r l q h =
       sending = w.1;
       later = w.2;
       stands = w.3;
-      is_sending_lem = m.sending;
+      is_sending = m.sending;
       same_number = m.number;
       same_sender = m.sender;
       same_receiver = m.receiver;
@@ -133,8 +133,8 @@ sendings_arrive p xs ys b c r l rb k rc h =
     λ free.
     none_judge now e (Receiving (counterpart l)) refl (
       record {
-        sender_open_lem = rw (twice, ap (λ (f : Ledger → ℕ). f l) accounts) allowed.sender_open_lem;
-        receiver_open_lem = rw (ap (λ (f : Ledger → ℕ). f (counterpart l)) accounts) allowed.receiver_open_lem;
+        sender_open = rw (twice, ap (λ (f : Ledger → ℕ). f l) accounts) allowed.sender_open;
+        receiver_open = rw (ap (λ (f : Ledger → ℕ). f (counterpart l)) accounts) allowed.receiver_open;
         signed = refl;
         fresh = free;
       },

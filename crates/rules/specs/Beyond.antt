@@ -26,7 +26,7 @@ pub record WasSent (passed : List Record) (r : Record) : Type 0 where
   pub sending : Record
   pub later : List Record
   pub stands : passed ≡ before ++ sending ∷ later
-  pub is_sending_lem : is_sending sending.kind ≡ true
+  pub is_sending : is_sending sending.kind ≡ true
   pub same_number : r.number ≡ sending.number
   pub same_sender : r.sender ≡ sending.sender
   pub same_receiver : r.receiver ≡ sending.receiver

@@ -190,7 +190,7 @@ pub record WithinPoolAfter (capacity : ℕ) (tariff : Tariff) (homes : List ℕ)
   pub figure : (run (home_validator capacity) (home_opened tariff homes far_accounts far_total) ds).far_pool
       ≡ far_pool_of far_total (records_on Home (passed_records (home_validator capacity) (home_opened tariff homes far_accounts far_total) ds))
   -- every passed record is a home one
-  pub home_records_lem : All HomeRecord (passed_records (home_validator capacity) (home_opened tariff homes far_accounts far_total) ds)
+  pub home_records : All HomeRecord (passed_records (home_validator capacity) (home_opened tariff homes far_accounts far_total) ds)
   -- the table holds the passed records, in order
   pub table : (run (home_validator capacity) (home_opened tariff homes far_accounts far_total) ds).home.passed
       ≡ records_on Home (passed_records (home_validator capacity) (home_opened tariff homes far_accounts far_total) ds)

@@ -150,8 +150,8 @@ module _ (L : Ledger) (own other : ℕ) (ho : own ≤ account_limit) (ht : other
         allowed =
             allowed_held (accounts_by L own other) [] (record_in w)
             (record {
-              sender_open_lem = sends;
-              receiver_open_lem = receives;
+              sender_open = sends;
+              receiver_open = receives;
               signed = eq-eqb (within 0 1 w.tail) 1 (omega (arith, tail));
               fresh = refl;
             })
@@ -172,9 +172,9 @@ module _ (L : Ledger) (own other : ℕ) (ho : own ≤ account_limit) (ht : other
       let byte : ledger ≡ ledger_byte L = byte_only L ledger f.ledger_most same in
       let on : ledger_at ledger ≡ L = ap ledger_at byte ∙ at_byte L in
       let sends : sender < cond (eqb kind 3) other own =
-      rw (k, on, sender_accounts L own other kind some most) at x.0.sender_open_lem in
+      rw (k, on, sender_accounts L own other kind some most) at x.0.sender_open in
       let receives : receiver < cond (eqb kind 2) other own =
-      rw (k, on, receiver_accounts L own other kind some most) at x.0.receiver_open_lem in
+      rw (k, on, receiver_accounts L own other kind some most) at x.0.receiver_open in
       let none : zero_part ≡ 0 = omega (arith, f.zeros_first) in
       let tail : w.tail ≡ 2 ^ 56 = tail_one (eqb-true _ _ x.0.signed) f.zeros_last in
       every_both _ _

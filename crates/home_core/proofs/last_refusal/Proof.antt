@@ -22,7 +22,7 @@ funds-refusal-requires c κs =
     let o = c.before.before.before.before.before in
     let s = o.args.s.now in
     let h = sound-at o in
-    (omega (arith, h.long, h.bounds.home_fits), allowed_rate (home_tariff_of s) (home_accounts_of s) h.bounds.tariff_allowed_lem)
+    (omega (arith, h.long, h.bounds.home_fits), allowed_rate (home_tariff_of s) (home_accounts_of s) h.bounds.tariff_allowed)
 
 returns-2 : tie.Need-returns
 returns-2 c =

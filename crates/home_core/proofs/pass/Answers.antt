@@ -24,7 +24,7 @@ store-requires c =
     let h = sound_of a.state.now c.requires.0 in
     let p = passes_of a.state.now h a.r c.requires.3 in
     let m = amount_fits a.w a.r c.requires.1 c.requires.2 in
-    let y = allowed_rate _ _ h.bounds.tariff_allowed_lem in
+    let y = allowed_rate _ _ h.bounds.tariff_allowed in
     let f = paid_fits a.state.now h a.r p m in
     rw c.tariff_of-tariff.ensures (omega (arith, h.long, p.room, p.sender, p.payee, p.pays, f, y, m))
 
