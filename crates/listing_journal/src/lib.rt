@@ -123,6 +123,7 @@ fn resumed(cursor: Cursor, going: bool) -> Cursor
 }
 
 // Whether the listing goes on after a chunk: its text was written, it was full and had no bad block.
+#[tactic(auto, unfolding(crate::specs::Turns::goes_on, wire::specs::BigEndian::every))]
 fn goes_on(written: bool, n: usize, going: bool) -> bool
     ensures { result ≡ goes_on written n going }
 {

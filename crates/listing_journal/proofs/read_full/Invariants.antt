@@ -1,0 +1,9 @@
+-- What was read stands within the buffer.
+use Rattle.std.proofs.Common.{length, ◌-◌, ◌≤◌, ◌≡◌, ◌^◌, ◌<◌}
+use Rattle.listing_journal.proofs.read_full.Given as goal
+
+abbrev pub invariant-loop-done : goal.invariant-loop-done
+invariant-loop-done g l = (length l.buffer ≡ length l.initial.buffer) × (l.done ≤ length l.buffer) × (length l.buffer < 2 ^ 64)
+
+abbrev pub decreases-loop-done : goal.decreases-loop-done
+decreases-loop-done g l = length l.initial.buffer - l.done
