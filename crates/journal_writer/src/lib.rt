@@ -87,6 +87,18 @@ fn clear(s: &mut [u8])
     }
 }
 
+// Puts bytes in the place of as many, one by one: a call of C's memmove would be one more function that the archive asks for.
+fn put(s: &mut [u8], from: &[u8])
+    requires { length s.old ≡ length from.now }
+    ensures { s.new ≡ from.now }
+{
+    let mut i = 0;
+    while i < s.len() {
+        s[i] = from[i];
+        i += 1;
+    }
+}
+
 // The header, the items and zeros into the first 480 bytes.
 fn lay(out: &mut [u8], head: [u8; 32], items: &[u8])
     requires { (length out.old ≡ 512) × (length items.now ≤ 448) }
@@ -94,7 +106,7 @@ fn lay(out: &mut [u8], head: [u8; 32], items: &[u8])
 {
     out[..32].copy_from_slice(&head);
     let end = 32 + items.len();
-    out[32..end].copy_from_slice(items);
+    put(&mut out[32..end], items);
     clear(&mut out[end..480]);
 }
 

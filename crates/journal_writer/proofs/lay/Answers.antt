@@ -17,5 +17,5 @@ copy_from_slice-requires c =
 pub returns : goal.returns
 returns c =
     let a = c.args in
-    laid a.out.now a.head a.items.now c.copy_from_slice.new.self c.copy_from_slice-2.new.self c.clear.new.s c.requires.0
-    (search rules) c.requires.1 c.copy_from_slice.ensures.after c.copy_from_slice-2.ensures.after c.clear.ensures
+    laid a.out.now a.head a.items.now c.copy_from_slice.new.self c.put.new.s c.clear.new.s c.requires.0
+    (search rules) c.requires.1 c.copy_from_slice.ensures.after c.put.ensures c.clear.ensures
