@@ -103,7 +103,7 @@ fn list_block<'a, 'b, 'c, 'd>(
 ) -> Cursor
     requires { CursorBounds cursor × (cursor.end + records_per_block * line_room ≤ length out.old)
         × RowReady state.old index.old cursor.row }
-    ensures puts { TextPut out.old cursor.end (block_text pair_words_checker state_figures (progress_of cursor state.entry.now)
+    ensures puts { TextPut out.old cursor.end (block_text pair_words_checker state_figures (progress_of cursor state.old)
         block.now) out.new result.end }
     ensures stands { progress_of result state.new ≡ after_block pair_words_checker (progress_of cursor state.old)
         block.now }

@@ -1,7 +1,7 @@
 -- The first two blocks of bytes, the text of their opening by their refusals, and what the reader hands out of them. Assumes nothing.
-use Rattle.wire.proofs.Prelude.{Bool, List, [], ◌++◌, ◌+◌, ◌-◌, ◌<◌, ◌∙◌, ◌≡◌, ◌≤◌, ap, append-nil, ap₂, arith, cond, drop}
-use Rattle.wire.proofs.Prelude.{drop-append_seam, false, leb, leb-false, leb-true, length, length-append, length-drop, length-take, lt-leb}
-use Rattle.wire.proofs.Prelude.{min, refl, suc, sym, take, take-append-drop, take-append_seam, take_at, true, zero, ℕ}
+use Rattle.wire.proofs.Prelude.{List, [], ◌++◌, ◌+◌, ◌-◌, ◌<◌, ◌∙◌, ◌≡◌, ◌≤◌, ap, append-nil, arith, drop}
+use Rattle.wire.proofs.Prelude.{false, length, length-append, length-drop, lt-leb}
+use Rattle.wire.proofs.Prelude.{min, refl, suc, sym, take, take_at, true, zero, ℕ}
 use Rattle.answers.proofs.Answers.{tells}
 use Rattle.answers.specs.Answers.{Tells, answer, number_of, or_else}
 use Rattle.answers.specs.declared.Answer.TheVariants.{Passed, Refused}

@@ -1,5 +1,5 @@
 -- What a listing leaves of blocks 0 and 1: the fault of one of them, or of the opening, or the line of the opening. Assumes nothing.
-use Rattle.journal_blocks.specs.Blocks.{balances_of, stated_count, tariff_in}
+use Rattle.journal_blocks.specs.Blocks.{stated_count}
 use Rattle.journal_reader.specs.Judged.{opening_of}
 use Rattle.journal_reader.specs.declared.Balances.{Balances}
 use Rattle.answers.specs.declared.Answer.TheVariants.{Passed}
