@@ -162,6 +162,7 @@ fn pool_refusal(pool: u64, r: Record) -> u32
 }
 
 // 25 or 32, or 0.
+#[tactic(auto, using(crate::proofs::Judging::last_pooled, crate::proofs::Judging::last_paid))]
 fn last_refusal(s: &[u64], r: Record) -> u32
     requires { accepts_home s.now ≡ true }
     ensures { result ≡ home_last_refusal (home_view_of s.now) r r.kind }
