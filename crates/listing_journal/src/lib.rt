@@ -229,7 +229,8 @@ fn opening_alone(first: usize, end: usize, printed: bool, opened: bool) -> ListR
     }
 }
 
-// The listing of the journal that `source` reads, to `target`: the opening, and where it was written and accepted the rest. Not published: a contract cannot say what is read or written (docs/DECISIONS.md, 47).
+// The listing of the journal that `source` reads, to `target`: the opening, and where it was written and accepted the rest. Not published: a
+// contract cannot say what is read or written (docs/DECISIONS.md, 47).
 pub fn list<R: Read, W: Write>(source: &mut R, target: &mut W) -> ListResult
     ensures { JournalListed result }
 {

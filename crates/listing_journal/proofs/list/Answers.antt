@@ -1,6 +1,6 @@
 -- What the listing of the opening leaves, alone or with the turns after it.
 use Rattle.wire.proofs.Prelude.{◌∙◌, ◌≡◌, arith, length, lit≤, refl, sym, take}
-use Rattle.listing_journal.proofs.Begun.{Begun, listed_all, listed_alone, long_as, room_in, started}
+use Rattle.listing_journal.proofs.Begun.{Begun, listed_alone, long_as, room_in, started}
 use Rattle.rules.proofs.Lists.{never_both_tests}
 use Rattle.listing_journal.proofs.list.Goals as goal
 use Rattle.listing_journal.proofs.list.Given.{Over}

@@ -1,5 +1,5 @@
 -- Each turn goes on from where the ones before led, and with none left the listing has stopped.
-use Rattle.listing_journal.proofs.Turning.{ended_from, turns_end, turns_next, turns_start}
+use Rattle.listing_journal.proofs.Turning.{turns_next, turns_start}
 use Rattle.listing_journal.proofs.list_rest.Goals as goal
 use Rattle.wire.proofs.Prelude.{not-false}
 

@@ -1,5 +1,5 @@
 -- The chunk is no longer than the room for it, and what was read, listed and written is what the turn tells.
-use Rattle.wire.proofs.Prelude.{arith, length-take, rules}
+use Rattle.wire.proofs.Prelude.{arith, length-take}
 use Rattle.listing_journal.proofs.Turning.{resumed_keeps, turned_by}
 use Rattle.listing_journal.proofs.turn.Goals as goal
 
