@@ -1,5 +1,5 @@
 #!/usr/bin/env python3
-"""Brings the repository's own definitions, lemmas and variables to snake case, where /opt/rattle/port/port.py left them
+"""Brings the repository's own definitions, lemmas and variables to snake case, where the kit's port.py left them
 with dashes or in camel case. Types and facts keep their capital, and the library's names stay as they are.
 
 usage: python3 tools/respell.py          at the top, once, after port.py
