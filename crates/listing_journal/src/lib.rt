@@ -148,8 +148,8 @@ fn turn<'a, 'b, 'c, 'd, R: Read, W: Write>(
 ) -> TurnResult
     requires { CursorBounds cursor × (cursor.end ≡ 0) × (length input.old ≡ chunk_size) × (length out.old ≡ chunk_room)
         × RowReady state.old index.old cursor.row }
-    ensures keeps { CursorBounds result.cursor × (result.cursor.end ≡ 0) × RowReady state.new index.new (result.cursor
-        ).row }
+    ensures keeps { CursorBounds result.cursor × (result.cursor.end ≡ 0) × RowReady state.new index.new
+        result.cursor.row }
     ensures turns { TurnFrom (progress_of cursor state.old) input.new out.new result state.new }
 {
     let read = read_full(source, input);
