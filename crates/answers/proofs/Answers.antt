@@ -1,6 +1,9 @@
 -- Laws of answers: the number and the place of an answer, and what follows from the case that came back. Assumes nothing.
 use Rattle.wire.proofs.Prelude.{Bool, ◌<◌, ◌∙◌, ◌≡◌, ap, arith, false, refl, suc, sym, true, zero, ℕ}
-use Rattle.answers.specs.Answers.{Passed, Refused, Tells, answer, number_of, or_else, refuse, unless_refused}
+use Rattle.std.specs.Prelude.{Ok, Err}
+use Rattle.answers.specs.Answers.{AnswersTold, Passed, Refused, Tells, answer, number_of, place_of, or_else, refuse, unless_refused}
+use Rattle.answers.specs.Refusals.{Numbered, Refusal, refusal_number}
+use Rattle.answers.proofs.Refusals.{numbered}
 
 -- an answer tells its number and its place
 pub tells : Tells
@@ -58,3 +61,19 @@ instead_refused (suc n) given instead h = refl
 pub refuse_later : (s : Bool) (n later x : ℕ) → or_else (refuse s (suc n) later) x ≡ refuse s (suc n) (or_else later x)
 refuse_later true n later x = refl
 refuse_later false n later x = refl
+
+-- the answer with a refusal's number is that refusal
+pub answer_number : (r : Refusal) (p : ℕ) → answer (refusal_number r) p ≡ Refused (refusal_number r) p
+unfolding Numbered
+answer_number r p = sym (answer_refused (refusal_number r) p (λ h. let l = (numbered r r).0 in absurd (omega arith)))
+
+-- a result is told by the answer that it is
+pub answers_told : AnswersTold
+unfolding AnswersTold Numbered
+answers_told A (Ok x) (Ok y) h = tt
+answers_told A (Ok x) (Err e) h = cc
+answers_told A (Err d) (Ok y) h = cc
+answers_told A (Err d) (Err e) h =
+    let r : d.refusal ≡ e.refusal = (numbered d.refusal e.refusal).1 (ap number_of h) in
+    let p : d.place ≡ e.place = ap place_of h in
+    λ i. record { refusal = r i; place = p i }

@@ -1,4 +1,4 @@
--- Laws of answers and of the balance of one account. Assumes nothing.
+-- Laws of refusals and of answers. Assumes nothing.
 
+pub mod Refusals
 pub mod Answers
-mod BalanceAmong

@@ -1,7 +1,17 @@
 -- The answer of a call (document 01, "Refusals"): its number and its place. Assumes nothing.
-use Rattle.std.specs.Prelude.{ℕ, zero, suc, ◌<◌, ◌≡◌, Bool, true, false}
-pub use Rattle.answers.specs.declared.Answer.{Answer}
-pub use Rattle.answers.specs.declared.Answer.TheVariants.{Passed, Refused}
+use Rattle.std.specs.Prelude.{ℕ, zero, suc, ◌<◌, ◌≡◌, Bool, true, false, Result, Ok, Err}
+use Rattle.answers.specs.Refusals.{Alike, refusal_number}
+use Rattle.answers.specs.declared.refusal.Refused.{Refused as RefusedAt}
+
+-- passed, or a refusal with its number and its place
+pub data Answer : Type 0 where
+  Passed : Answer
+  Refused : ℕ → ℕ → Answer
+
+-- the answer that a call's result is
+abbrev pub answer_of : {A : Type 0} → Result A RefusedAt → Answer
+answer_of (Ok x) = Passed
+answer_of (Err r) = Refused (refusal_number r.refusal) r.place
 
 -- the documents' number of each case: 0 passed, or the refusal's
 abbrev pub number_of : Answer → ℕ
@@ -24,6 +34,10 @@ answer (suc n) p = Refused (suc n) p
 -- it tells its number, and where it is a refusal its place
 unfoldable pub Tells : Type 0
 Tells = (n p : ℕ) → (number_of (answer n p) ≡ n) × (0 < n → place_of (answer n p) ≡ p)
+
+-- what is said of the answer that a result is says which refusal it is and where, or that it passed
+unfoldable pub AnswersTold : Type 1
+AnswersTold = (A : Type 0) (x y : Result A RefusedAt) → answer_of x ≡ answer_of y → Alike x y
 
 -- ## The order of refusals
 

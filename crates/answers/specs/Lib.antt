@@ -1,4 +1,5 @@
--- Answers, and the balance of one account. Assumes nothing.
+-- Refusals, answers, and the balance of one account. Assumes nothing.
 
+pub mod Refusals
 pub mod Answers
 pub mod Balances

@@ -1,69 +1,66 @@
-// The answer that every call of the journal and of the validators gives (document 01, "Refusals"), refusals in order, and the answer with
-// a balance.
+// The answer that every call of the journal and of the validators gives (document 01, "Refusals"), refusals in order, and the balance of
+// one account.
 #![tactic(auto)]
 
-pub mod balance; // balance.rt: the balance of one account, beside the answer
+pub mod refusal; // refusal.rt: the refusals, each with its number
+pub mod balance; // balance.rt: the balance of one account
 
 ghost use Rattle.std.specs.Prelude.{◌≡◌};
-ghost use Rattle.answers.specs.Answers.{number_of, place_of, answer, refuse, or_else};
+ghost use Rattle.answers.specs.Answers.{number_of, place_of, answer, answer_of, refuse, or_else};
+ghost use Rattle.answers.specs.Refusals.{refusal_number, refused_by};
 
-pub use balance::{Balance, balance_among, balance_refused};
+pub use balance::balance_among;
+pub use refusal::{Refusal, Refused};
 
 // Passed, or one of the documents' refusals with its place.
-#[derive(Clone, Copy)]
-pub enum Answer {
-    Passed,
-    Refused { number: u32, place: u64 },
+pub type Answer = Result<(), Refused>;
+
+// An answer, with the state to go on with beside it: a refusal hands it back as it came.
+// Kept: the state stands beside the answer: check_record's hands_back gives it on a refusal too, so a Result would carry it twice.
+#[derive(Clone, Copy, PartialEq, Eq)]
+pub struct Outcome<S> {
+    pub answer: Answer,
+    pub state: S,
 }
 
-// Refusal n where a test refuses, and 0 for none.
-pub fn refusal_if(refuses: bool, n: u32) -> u32
-    ensures { result ≡ refuse refuses n 0 }
+// A refusal where a test refuses.
+pub fn refuse_if(refuses: bool, refusal: Refusal) -> Result<(), Refusal>
+    ensures { refused_by result ≡ refuse refuses (refusal_number refusal) 0 }
 {
-    if refuses {
-        return n;
-    }
-    0
+    if refuses { Err(refusal) } else { Ok(()) }
 }
 
-// The first of two refusals, in their order; 0 for none.
-pub fn first_refusal(first: u32, later: u32) -> u32
-    ensures { result ≡ or_else first later }
+// The first of two refusals, in their order.
+pub fn first_refusal(first: Result<(), Refusal>, later: Result<(), Refusal>) -> Result<(), Refusal>
+    ensures { refused_by result ≡ or_else (refused_by first) (refused_by later) }
 {
-    if first == 0 {
-        return later;
-    }
-    first
+    first.and(later)
 }
 
-impl Answer {
-    // The answer with a refusal's number and place: passed where the number is 0.
-    pub fn new(number: u32, place: u64) -> Answer
-        ensures { result ≡ answer number place }
-    {
-        if number == 0 {
-            return Answer::Passed;
-        }
-        Answer::Refused { number, place }
-    }
+// The answer at a place: passed where there is no refusal.
+pub fn answer_at(judged: Result<(), Refusal>, place: u64) -> Answer
+    ensures { answer_of result ≡ answer (refused_by judged) place }
+{
+    judged.map_err(|refusal| Refused { refusal, place })
+}
 
-    // The refusal's number; 0 where it passed.
-    pub fn number(self) -> u32
-        ensures { result ≡ number_of self }
-    {
-        match self {
-            Answer::Passed => 0,
-            Answer::Refused { number, place: _ } => number,
-        }
+// The refusal's number; 0 where it passed.
+// Kept: README names number and place, and no crate can give a Result, which an answer is, a method or a From of its own.
+pub fn number(answer: Answer) -> u32
+    ensures { result ≡ number_of (answer_of answer) }
+{
+    match answer {
+        Ok(()) => 0,
+        Err(refused) => u32::from(refused.refusal),
     }
+}
 
-    // The refusal's place; 0 where it passed.
-    pub fn place(self) -> u64
-        ensures { result ≡ place_of self }
-    {
-        match self {
-            Answer::Passed => 0,
-            Answer::Refused { number: _, place } => place,
-        }
+// The refusal's place; 0 where it passed.
+pub fn place(answer: Answer) -> u64
+    ensures { result ≡ place_of (answer_of answer) }
+{
+    match answer {
+        Ok(()) => 0,
+        Err(refused) => refused.place,
     }
 }

@@ -1,15 +1,18 @@
 -- Certificates of the far committee (document 02, U5; D3.2, section 6.4.3: trust committee, sidechain certificate). Assumes nothing.
 use Rattle.std.specs.Prelude.{ℕ, ◌*◌, ◌+◌, ◌-◌, ◌^◌, Bool, cond, not, true, List, [], ◌∷◌, map, ◌≡◌, eqb, leb, ltb, get_or}
+use Rattle.std.specs.Prelude.{Option, None, Some}
 use Rattle.std.specs.Int.Count.{ones}
 use Rattle.answers.specs.Answers.{refuse}
 use Rattle.certificates.specs.Digests.{Digest, same_digest}
 use Rattle.wire.specs.BigEndian.{every}
 pub use Rattle.certificates.specs.declared.Certificate.{Certificate}
 pub use Rattle.certificates.specs.declared.Committee.{Committee}
-pub use Rattle.certificates.specs.declared.FarCommittee.{FarCommittee}
-pub use Rattle.certificates.specs.declared.FarCommittee.TheVariants.{With, Without}
 
 -- ## The committee
+
+-- the committee of the far ledger, where it has one
+abbrev pub FarCommittee : Type 0
+FarCommittee = Option Committee
 
 -- the greatest k: a mask of 64 bits has one for each of 2k members
 abbrev pub most_half : ℕ
@@ -21,8 +24,8 @@ half_allowed k = every (leb 1 k ∷ leb k most_half ∷ [])
 
 -- what 1 asks of an opening's committee, and 3 of a state's
 abbrev pub committee_allowed : FarCommittee → Bool
-committee_allowed Without = true
-committee_allowed (With c) = half_allowed c.half
+committee_allowed None = true
+committee_allowed (Some c) = half_allowed c.half
 
 -- the committee at its opening, with the first keys
 abbrev pub first_committee : ℕ → Digest → Committee
@@ -74,8 +77,8 @@ refusal_by c x =
 
 -- without a committee every certificate is 53
 abbrev pub committee_refusal : FarCommittee → Certificate → ℕ
-committee_refusal Without x = 53
-committee_refusal (With c) x = refusal_by c x
+committee_refusal None x = 53
+committee_refusal (Some c) x = refusal_by c x
 
 -- 21 before these; 3 is judged by the call
 unfoldable pub certificate_refusal : FarCommittee → Certificate → ℕ
@@ -83,5 +86,5 @@ certificate_refusal far x = refuse (not (leaves_allowed x.leaves)) 21 (committee
 
 -- the committee once a certificate has passed: the next keys are in force, its number is the last
 abbrev pub certified : FarCommittee → Certificate → FarCommittee
-certified Without x = Without
-certified (With c) x = With (record { half = c.half; last = x.number; keys = x.next_keys })
+certified None x = None
+certified (Some c) x = Some (record { half = c.half; last = x.number; keys = x.next_keys })

@@ -1,9 +1,9 @@
 -- What is claimed of certificates that are handed in one after another: those that pass make an unbroken chain (document 02, U5; D3.2,
 -- section 6.4.3: each certificate is signed under the key that the one before it brought). Assumes nothing.
-use Rattle.std.specs.Prelude.{◌*◌, ◌<◌, ◌^◌, ◌≤◌, suc, ℕ, List, [], ◌++◌, ◌∷◌, ◌↔◌, ◌≡◌, length}
+use Rattle.std.specs.Prelude.{◌*◌, ◌<◌, ◌^◌, ◌≤◌, suc, ℕ, List, [], ◌++◌, ◌∷◌, ◌↔◌, ◌≡◌, length, None, Some}
 use Rattle.std.specs.Int.Count.{ones}
 use Rattle.answers.specs.Answers.{unless_refused}
-use Rattle.certificates.specs.Certificates.{Certificate, Committee, FarCommittee, With, Without, certificate_refusal, certified}
+use Rattle.certificates.specs.Certificates.{Certificate, Committee, FarCommittee, certificate_refusal, certified}
 use Rattle.certificates.specs.Certificates.{first_committee}
 use Rattle.certificates.specs.Digests.{Digest}
 
@@ -28,8 +28,8 @@ pub record Fit (c : Committee) (x : Certificate) : Type 0 where
 unfoldable pub CertificatesPass : Type 0
 CertificatesPass =
     (x : Certificate)
-    → ((c : Committee) → (certificate_refusal (With c) x ≡ 0) ↔ Fit c x)
-    × (certificate_refusal Without x ≡ 0 → ⊥)
+    → ((c : Committee) → (certificate_refusal (Some c) x ≡ 0) ↔ Fit c x)
+    × (certificate_refusal None x ≡ 0 → ⊥)
 
 -- ## Chains
 
@@ -59,7 +59,7 @@ passed_among far (x ∷ xs) = unless_refused (certificate_refusal far x) (x ∷ 
 -- what holds of a committee after certificates that passed, from the opening's size and keys
 pub record KeysInForce (far : FarCommittee) (half : ℕ) (keys : Digest) (passed : List Certificate) : Type 0 where
   pub committee : Committee
-  pub there : far ≡ With committee
+  pub there : far ≡ Some committee
   -- its size is the opening's
   pub size : committee.half ≡ half
   -- the keys in force are reached from the opening's by an unbroken chain of all of them
@@ -71,4 +71,4 @@ pub record KeysInForce (far : FarCommittee) (half : ℕ) (keys : Digest) (passed
 unfoldable pub ChainsUnbroken : Type 0
 ChainsUnbroken =
     (half : ℕ) (keys : Digest) (xs : List Certificate)
-    → KeysInForce (after_all (With (first_committee half keys)) xs) half keys (passed_among (With (first_committee half keys)) xs)
+    → KeysInForce (after_all (Some (first_committee half keys)) xs) half keys (passed_among (Some (first_committee half keys)) xs)

@@ -4,11 +4,12 @@
 
 pub mod digests; // digests.rt: a digest's 32 bytes as four words
 
-ghost use Rattle.std.specs.Prelude.{◌≤◌, true, ◌≡◌};
-ghost use Rattle.certificates.specs.Certificates.{certificate_refusal, committee_allowed, committee_refusal, enough_signers, follows};
-ghost use Rattle.certificates.specs.Certificates.{half_allowed, leaves_allowed, most_half, refusal_by};
+ghost use Rattle.std.specs.Prelude.{◌≡◌};
+ghost use Rattle.answers.specs.Refusals.{refused_by};
+ghost use Rattle.certificates.specs.Certificates.{certificate_refusal, committee_refusal, enough_signers, follows, half_allowed};
+ghost use Rattle.certificates.specs.Certificates.{leaves_allowed, refusal_by};
 
-use answers::{first_refusal, refusal_if};
+use answers::{Refusal, refuse_if};
 pub use digests::Digest;
 
 // What a far committee certifies, as it is handed in.
@@ -37,92 +38,73 @@ pub struct Committee {
     pub keys: Digest,
 }
 
-// The committee of the far ledger, where it has one.
-#[derive(Clone, Copy)]
-pub enum FarCommittee {
-    Without,
-    With(Committee),
-}
-
 impl Committee {
     // The greatest k.
     pub const MAX_HALF: u64 = 32;
 }
 
 // Whether a committee may have twice as many members.
+// Kept: this and are_leaves are one contains each; a function of the limit would be no shorter, nor say more.
+#[tactic(auto, unfolding(crate::specs::Certificates::half_allowed, wire::specs::BigEndian::every))]
 pub fn is_half(half: u64) -> bool
     ensures { result ≡ half_allowed half }
 {
-    if half < 1 {
-        return false;
-    }
-    half <= Committee::MAX_HALF
+    (1..=Committee::MAX_HALF).contains(&half)
 }
 
 impl Certificate {
     // The most leaves.
     pub const MAX_LEAVES: u64 = 4096;
 
-    // The refusal of a certificate by the far ledger's committee, 21, 53, 54 and 55 in order, or 0.
-    pub fn refusal(self, far: FarCommittee) -> u32
-        requires { committee_allowed far ≡ true }
-        ensures { result ≡ certificate_refusal far self }
+    // The refusal of a certificate by the far ledger's committee, where it has one: 21, 53, 54 and 55 in order.
+    #[tactic(auto, unfolding(crate::specs::Certificates::certificate_refusal))]
+    pub fn refusal(self, far: Option<Committee>) -> Result<(), Refusal>
+        ensures { refused_by result ≡ certificate_refusal far self }
     {
-        let form = refusal_if(!are_leaves(self.leaves), 21);
-        first_refusal(form, committee_refusal(far, self))
+        refuse_if(!are_leaves(self.leaves), Refusal::RecordForm)?;
+        committee_refusal(far, self)
     }
 }
 
 // Whether a tree may have so many leaves.
+#[tactic(auto, unfolding(crate::specs::Certificates::leaves_allowed, wire::specs::BigEndian::every))]
 fn are_leaves(leaves: u64) -> bool
     ensures { result ≡ leaves_allowed leaves }
 {
-    if leaves < 1 {
-        return false;
-    }
-    leaves <= Certificate::MAX_LEAVES
+    (1..=Certificate::MAX_LEAVES).contains(&leaves)
 }
 
 // Whether a number is the one after the last; none is after 2^64-1.
+#[tactic(auto, unfolding(crate::specs::Certificates::follows, wire::specs::BigEndian::every))]
 fn is_next(last: u64, number: u64) -> bool
     ensures { result ≡ follows last number }
 {
-    if last == 18446744073709551615 {
-        return false; // none is after it
-    }
-    number == last + 1
+    last < u64::MAX && number == last + 1
 }
 
 // Whether more than half of the committee's bits are set, and none beyond them.
 fn are_enough(half: u64, signers: u64) -> bool
-    requires { half ≤ most_half }
     ensures { result ≡ enough_signers half signers }
 {
-    if u64::count_ones(signers) as u64 <= half {
-        return false;
-    }
-    64 <= u64::leading_zeros(signers) as u64 + 2 * half // as many zeros above as there are bits beyond, at least
+    // as many zeros above as there are bits beyond, at least
+    half < u64::from(signers.count_ones()) && 64 <= u64::from(signers.leading_zeros()) + 2 * half
 }
 
-// The refusal of a certificate by a committee, 53, 54 and 55 in order, or 0.
-fn refusal_by(c: Committee, x: Certificate) -> u32
-    requires { c.half ≤ most_half }
-    ensures { result ≡ refusal_by c x }
+// The refusal of a certificate by a committee, 53, 54 and 55 in order.
+#[tactic(auto, unfolding(crate::specs::Certificates::refusal_by))]
+fn refusal_by(c: Committee, x: Certificate) -> Result<(), Refusal>
+    ensures { refused_by result ≡ refusal_by c x }
 {
     let in_force = c.keys;
-    let number = refusal_if(!is_next(c.last, x.number), 53);
-    let keys = refusal_if(!in_force.is(x.keys), 54);
-    let signers = refusal_if(!are_enough(c.half, x.signers), 55);
-    first_refusal(number, first_refusal(keys, signers))
+    refuse_if(!is_next(c.last, x.number), Refusal::CertificateNumber)?;
+    refuse_if(!in_force.is(x.keys), Refusal::KeysNotInForce)?;
+    refuse_if(!are_enough(c.half, x.signers), Refusal::SignersTooFew)
 }
 
-// The same where there may be no committee.
-fn committee_refusal(far: FarCommittee, x: Certificate) -> u32
-    requires { committee_allowed far ≡ true }
-    ensures { result ≡ committee_refusal far x }
+// The same where there may be no committee: then 53.
+fn committee_refusal(far: Option<Committee>, x: Certificate) -> Result<(), Refusal>
+    ensures { refused_by result ≡ committee_refusal far x }
 {
-    let FarCommittee::With(c) = far else {
-        return 53;
-    };
-    refusal_by(c, x)
+    let committee = far.ok_or(Refusal::CertificateNumber)?;
+    refusal_by(committee, x)
 }

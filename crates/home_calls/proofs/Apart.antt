@@ -3,11 +3,10 @@
 -- runs with them. Assumes nothing.
 use Rattle.wire.proofs.Prelude.{List, [], ◌++◌, ◌∙◌, ◌∷◌, ◌≡◌, ap, ap₂, refl, suc, sym, true, zero, ℕ}
 use Rattle.answers.specs.Answers.{answer}
-use Rattle.answers.specs.declared.Answer.{Answer}
-use Rattle.answers.specs.declared.Answer.TheVariants.{Passed, Refused}
-use Rattle.certificates.specs.Certificates.{certificate_refusal, certified}
+use Rattle.answers.specs.Answers.{Answer}
+use Rattle.answers.specs.Answers.{Passed, Refused}
+use Rattle.certificates.specs.Certificates.{FarCommittee, certificate_refusal, certified}
 use Rattle.certificates.specs.declared.Certificate.{Certificate}
-use Rattle.certificates.specs.declared.FarCommittee.{FarCommittee}
 use Rattle.certificates.specs.Chains.{after_all, after_one, passed_among}
 use Rattle.home_calls.specs.HomeCalls.{HomeCall, HomeChecker, call_certificate, certificate, certificate_answers, certificates_in}
 use Rattle.home_calls.specs.HomeCalls.{certificates_passed, home_passed, home_run, one_record, record_answers, record_calls}

@@ -1,7 +1,7 @@
 -- A validator that takes certificates, seen through a view of its states: where each call is that of another one, each run is. And the bytes
 -- of the calls with records. Assumes nothing.
 use Rattle.wire.proofs.Prelude.{List, [], ◌++◌, ◌∙◌, ◌∷◌, ◌≡◌, ap, ap₂, refl, ℕ}
-use Rattle.answers.specs.declared.Answer.{Answer}
+use Rattle.answers.specs.Answers.{Answer}
 use Rattle.certificates.specs.declared.Certificate.{Certificate}
 use Rattle.home_calls.specs.HomeCalls.{HomeCall, HomeCallBytes, HomeChecker, certificate, certificate_in, certificates_passed, handed_in}
 use Rattle.home_calls.specs.HomeCalls.{home_call, home_passed, home_run, one_record, record_calls, record_list, when_passed}

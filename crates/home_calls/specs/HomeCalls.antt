@@ -2,11 +2,10 @@
 -- its runs. The calls with records are those of every validator (Calls). Assumes nothing.
 use Rattle.std.specs.Prelude.{ℕ, not, List, [], ◌++◌, ◌∷◌}
 use Rattle.answers.specs.Answers.{answer, refuse, unless_refused}
-use Rattle.answers.specs.declared.Answer.{Answer}
-use Rattle.answers.specs.declared.Answer.TheVariants.{Passed, Refused}
-use Rattle.certificates.specs.Certificates.{committee_allowed}
+use Rattle.answers.specs.Answers.{Answer}
+use Rattle.answers.specs.Answers.{Passed, Refused}
+use Rattle.certificates.specs.Certificates.{FarCommittee, committee_allowed}
 use Rattle.certificates.specs.declared.Certificate.{Certificate}
-use Rattle.certificates.specs.declared.FarCommittee.{FarCommittee}
 use Rattle.rules.specs.Calls.{Call, CallBytes, Checker, Result, call, handed, if_accepted, if_passed, list, one}
 use Rattle.rules.specs.HomeValidator.{home_opening_refusal}
 use Rattle.tariffs.specs.declared.Tariff.{Tariff}

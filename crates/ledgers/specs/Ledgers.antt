@@ -1,7 +1,8 @@
 -- The two ledgers and the three kinds of record (document 01, "The record"). Assumes nothing.
-use Rattle.std.specs.Prelude.{ℕ, cond, eqb}
+use Rattle.std.specs.Prelude.{ℕ, ◌<◌, ◌≡◌, ◌≤◌, cond, eqb, Result, MatchResult}
 pub use Rattle.ledgers.specs.declared.Ledger.{Ledger}
 pub use Rattle.ledgers.specs.declared.Ledger.TheVariants.{Far, Home}
+pub use Rattle.ledgers.specs.declared.NoLedger.{NoLedger}
 pub use Rattle.ledgers.specs.declared.Kind.{Kind}
 pub use Rattle.ledgers.specs.declared.Kind.TheVariants.{Local, Receiving, Sending}
 
@@ -20,6 +21,10 @@ ledger_byte Far = 1
 -- the ledger with a byte, which is 0 or 1
 abbrev pub ledger_at : ℕ → Ledger
 ledger_at n = cond (eqb n 0) Home Far
+
+-- a byte read as a ledger's: that ledger, or the byte where it is no ledger's
+abbrev pub LedgerRead : ℕ → Result Ledger NoLedger → Type 0
+LedgerRead byte r = MatchResult r (λ l. (byte ≤ 1) × (l ≡ ledger_at byte)) (λ e. (1 < byte) × (e.0 ≡ byte))
 
 -- ## The kinds
 

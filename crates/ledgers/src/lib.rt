@@ -1,11 +1,12 @@
 // The two ledgers and the three kinds of record (document 01, "The record").
 #![tactic(auto)]
 
-ghost use Rattle.std.specs.Prelude.{◌≡◌};
-ghost use Rattle.ledgers.specs.Ledgers.{counterpart, ledger_byte, kind_byte, ledger_of, sender_ledger, receiver_ledger};
+ghost use Rattle.std.specs.Prelude.{◌≡◌, ◌<◌, ◌≤◌, SomeIff};
+ghost use Rattle.ledgers.specs.Ledgers.{counterpart, ledger_byte, LedgerRead, kind_byte, kind_at, ledger_of};
+ghost use Rattle.ledgers.specs.Ledgers.{sender_ledger, receiver_ledger};
 
 // The two linked ledgers.
-#[derive(Clone, Copy)]
+#[derive(Clone, Copy, PartialEq, Eq)]
 pub enum Ledger {
     Home,
     Far,
@@ -30,20 +31,41 @@ impl Ledger {
             Ledger::Far => Ledger::Home,
         }
     }
+}
 
-    // The byte of a record that this ledger holds.
-    pub fn byte(self) -> u8
-        ensures { result ≡ ledger_byte self }
-    {
-        match self {
+// The byte of a record that the ledger holds.
+impl From<Ledger> for u8 {
+    ghost from_gives = { λ ledger byte. byte ≡ ledger_byte ledger };
+
+    fn from(ledger: Ledger) -> u8 {
+        match ledger {
             Ledger::Home => Ledger::HOME,
             Ledger::Far => Ledger::FAR,
         }
     }
 }
 
+// A byte that is no ledger's.
+#[derive(Clone, Copy, PartialEq, Eq)]
+pub struct NoLedger(pub u8);
+
+// The ledger with a byte.
+impl TryFrom<u8> for Ledger {
+    type Error = NoLedger;
+
+    ghost try_from_gives = { LedgerRead };
+
+    fn try_from(byte: u8) -> Result<Ledger, NoLedger> {
+        match byte {
+            Ledger::HOME => Ok(Ledger::Home),
+            Ledger::FAR => Ok(Ledger::Far),
+            _ => Err(NoLedger(byte)),
+        }
+    }
+}
+
 // What a record does, with the ledger that holds it.
-#[derive(Clone, Copy)]
+#[derive(Clone, Copy, PartialEq, Eq)]
 pub enum Kind {
     Local(Ledger),
     Sending(Ledger),
@@ -59,14 +81,16 @@ impl Kind {
 
     pub const RECEIVING: u8 = 3;
 
-    // The byte of a record of this kind.
-    pub fn byte(self) -> u8
-        ensures { result ≡ kind_byte self }
+    // The kind with a byte, of a record that the ledger holds; none where it is no kind's.
+    // Kept: README names read, and a TryFrom takes one value, where a kind needs its byte and its ledger.
+    pub fn read(byte: u8, ledger: Ledger) -> Option<Kind>
+        ensures { SomeIff result ((0 < byte) × (byte ≤ 3)) (kind_at byte ledger) }
     {
-        match self {
-            Kind::Local(_) => Kind::LOCAL,
-            Kind::Sending(_) => Kind::SENDING,
-            Kind::Receiving(_) => Kind::RECEIVING,
+        match byte {
+            Kind::LOCAL => Some(Kind::Local(ledger)),
+            Kind::SENDING => Some(Kind::Sending(ledger)),
+            Kind::RECEIVING => Some(Kind::Receiving(ledger)),
+            _ => None,
         }
     }
 
@@ -75,19 +99,17 @@ impl Kind {
         ensures { result ≡ ledger_of self }
     {
         match self {
-            Kind::Local(l) => l,
-            Kind::Sending(l) => l,
-            Kind::Receiving(l) => l,
+            Kind::Local(l) | Kind::Sending(l) | Kind::Receiving(l) => l,
         }
     }
 
     // The ledger of the sender's account.
+    // Kept: README names this and receiver_ledger; they differ in the kind that crosses, and one of a flag would say less.
     pub fn sender_ledger(self) -> Ledger
         ensures { result ≡ sender_ledger self }
     {
         match self {
-            Kind::Local(l) => l,
-            Kind::Sending(l) => l,
+            Kind::Local(l) | Kind::Sending(l) => l,
             Kind::Receiving(l) => l.counterpart(),
         }
     }
@@ -97,9 +119,21 @@ impl Kind {
         ensures { result ≡ receiver_ledger self }
     {
         match self {
-            Kind::Local(l) => l,
+            Kind::Local(l) | Kind::Receiving(l) => l,
             Kind::Sending(l) => l.counterpart(),
-            Kind::Receiving(l) => l,
+        }
+    }
+}
+
+// The byte of a record of the kind.
+impl From<Kind> for u8 {
+    ghost from_gives = { λ kind byte. byte ≡ kind_byte kind };
+
+    fn from(kind: Kind) -> u8 {
+        match kind {
+            Kind::Local(_) => Kind::LOCAL,
+            Kind::Sending(_) => Kind::SENDING,
+            Kind::Receiving(_) => Kind::RECEIVING,
         }
     }
 }

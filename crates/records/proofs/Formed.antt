@@ -1,10 +1,15 @@
 -- What words and bytes that refusal 21 lets pass show, fact by fact. Assumes nothing.
-use Rattle.wire.proofs.Prelude.{Bool, List, ◌%◌, ◌+◌, ◌-◌, ◌/◌, ◌<◌, ◌^◌, ◌∙◌, ◌≡◌, ◌≤◌, ap, ap₂, arith, eq-eqb, eqb, eqb-true, false}
-use Rattle.wire.proofs.Prelude.{le-leb, leb-true, length, lt-ltb, ltb-true, refl, sym, true, ℕ}
-use Rattle.ledgers.specs.Ledgers.{kind_at, ledger_at}
+use Rattle.std.specs.Prelude.{Err, None, Ok, Result, Some}
+use Rattle.std.specs.Result.{result_ok}
+use Rattle.std.specs.Int.{to_be_bytes, w64}
+use Rattle.wire.proofs.Prelude.{Bool, List, get_or, ◌*◌, ◌%◌, ◌+◌, ◌-◌, ◌/◌, ◌<◌, ◌^◌, ◌∙◌, ◌≡◌, ◌≤◌, ap, ap₂, arith, eq-eqb, eqb, eqb-true}
+use Rattle.wire.proofs.Prelude.{false, le-leb, leb-true, length, lt-ltb, ltb-true, refl, sym, true, ℕ}
+use Rattle.ledgers.specs.Ledgers.{LedgerRead, kind_at, ledger_at}
+use Rattle.ledgers.specs.declared.Ledger.{Ledger}
+use Rattle.ledgers.specs.declared.NoLedger.{NoLedger}
 use Rattle.ledgers.specs.Limits.{max_amount}
 use Rattle.records.specs.Records.{Read, Record, Unreadable, Words, formed, reading, reading_words, record_in, within, words_of}
-use Rattle.wire.proofs.Lists.{every_hold, hold_every}
+use Rattle.wire.proofs.Lists.{every_hold, hold_every, not_held}
 use Rattle.wire.proofs.Numbers.{field_high, field_low}
 use Rattle.wire.specs.BigEndian.{All, Bytes, field}
 
@@ -30,6 +35,49 @@ formed_facts w h = let k = every_hold _ h in omega (arith, ltb-true, leb-true, e
 pub facts_formed : (w : Words) → FormedWords w → formed w ≡ true
 unfolding formed All
 facts_formed w f = hold_every _ (omega (arith, lt-ltb, le-leb, eq-eqb))
+
+-- words that are not formed do not read
+pub unreadable : (w : Words) → (FormedWords w → ⊥) → Unreadable ≡ reading_words w
+unfolding reading_words
+unreadable w h = rw (← not_held (formed w) (λ f. h (formed_facts w f)))
+
+-- and others read as the record in them
+pub readable : (w : Words) (r : Record) → FormedWords w → r ≡ record_in w → Read r ≡ reading_words w
+unfolding reading_words
+readable w r f e = rw (facts_formed w f, e)
+
+-- a ledger's byte is 0 or 1
+pub no_ledger : (n : ℕ) (r : Result Ledger NoLedger) → LedgerRead n r → result_ok r ≡ None → 1 < n
+no_ledger n (Ok l) h e = cc
+no_ledger n (Err x) h e = h.0
+
+-- and the ledger is that with the byte
+pub one_ledger : (n : ℕ) (r : Result Ledger NoLedger) (l : Ledger) → LedgerRead n r → result_ok r ≡ Some l → (n ≤ 1) × (l ≡ ledger_at n)
+one_ledger n (Ok m) l h e = let k : m ≡ l = cc in (h.0, sym k ∙ h.1)
+one_ledger n (Err x) l h e = let k : None ≡ Some l = e in (cc, cc)
+
+-- the bytes of a word
+module _ (w : ℕ) (b : List ℕ) (e : b ≡ to_be_bytes w64 w) where
+  -- the first, and the second
+  pub byte_zero : get_or b 0 0 ≡ within 0 1 w
+  byte_zero = rw e
+
+  pub byte_one : get_or b 1 0 ≡ within 1 1 w
+  byte_one = rw e
+
+  -- two together
+  pub two_at_two : get_or b 2 0 * 256 + get_or b 3 0 ≡ within 2 2 w
+  two_at_two = rw e (omega arith)
+
+  pub two_at_four : get_or b 4 0 * 256 + get_or b 5 0 ≡ within 4 2 w
+  two_at_four = rw e (omega arith)
+
+  -- the last two are zero together
+  pub word_zeros : get_or b 6 0 ≡ 0 → get_or b 7 0 ≡ 0 → within 6 2 w ≡ 0
+  word_zeros p q = let k = rw e at p in let l = rw e at q in omega arith
+
+  pub byte_zeros : within 6 2 w ≡ 0 → (get_or b 6 0 ≡ 0) × (get_or b 7 0 ≡ 0)
+  byte_zeros h = (rw e (omega arith), rw e (omega arith))
 
 -- ## Bytes
 

@@ -1,13 +1,12 @@
 -- The record of 32 bytes (document 01, "The record"): its reading and its encoding. Assumes nothing.
-use Rattle.std.specs.Prelude.{ℕ, ◌+◌, ◌-◌, ◌/◌, ◌%◌, ◌<◌, ◌≤◌, ◌^◌, Bool, cond, List, [], ◌∷◌, ◌↔◌, ◌≡◌, eqb, ltb, leb, length}
+use Rattle.std.specs.Prelude.{ℕ, ◌+◌, ◌-◌, ◌/◌, ◌%◌, ◌<◌, ◌≤◌, ◌^◌, Bool, cond, List, [], ◌∷◌, ◌↔◌, ◌≡◌, eqb, ltb, leb, length, Option}
+use Rattle.std.specs.Prelude.{Some, None}
 use Rattle.ledgers.specs.Ledgers.{kind_at, kind_byte, ledger_at, ledger_byte, ledger_of}
 use Rattle.ledgers.specs.Limits.{max_amount}
 use Rattle.records.specs.Fields.{field_bytes}
 use Rattle.wire.specs.BigEndian.{Bytes, every, field}
 pub use Rattle.records.specs.declared.Record.{Record}
 pub use Rattle.records.specs.declared.Words.{Words}
-pub use Rattle.records.specs.declared.Reading.{Reading}
-pub use Rattle.records.specs.declared.Reading.TheVariants.{Read, Unreadable}
 
 -- ## Words
 
@@ -48,6 +47,16 @@ record_in w =
       amount = w.amount;
       verified = eqb (within 0 1 w.tail) 1;
     }
+
+-- what words or bytes read as
+pub data Reading : Type 0 where
+  Read : Record → Reading
+  Unreadable : Reading
+
+-- the reading that a result of the code is
+abbrev pub read_as : Option Record → Reading
+read_as (Some r) = Read r
+read_as None = Unreadable
 
 -- what four words read as
 unfoldable pub reading_words : Words → Reading

@@ -2,9 +2,11 @@
 ghost use Rattle.std.specs.Prelude.{◌≡◌};
 ghost use Rattle.records.specs.Fields.{field_bytes};
 
-use wire::{u16_bytes, u64_bytes};
+use wire::BigEndian;
 
 // The bytes with these fields, whether they read as a record or not.
+// Kept: moatbetony_record_encode takes these numbers one by one, in C's interface, and hands them on.
+#[tactic(auto, unfolding(crate::specs::Fields::field_bytes, wire::specs::BigEndian::bytes_of))]
 pub fn field_bytes(
     kind: u8,
     ledger: u8,
@@ -16,12 +18,13 @@ pub fn field_bytes(
 ) -> [u8; 32]
     ensures { result ≡ field_bytes kind ledger sender receiver number amount verdict }
 {
-    let s = u16_bytes(sender);
-    let r = u16_bytes(receiver);
-    let n = u64_bytes(number);
-    let a = u64_bytes(amount);
-    [
-        kind, ledger, s[0], s[1], r[0], r[1], 0, 0, n[0], n[1], n[2], n[3], n[4], n[5], n[6], n[7],
-        a[0], a[1], a[2], a[3], a[4], a[5], a[6], a[7], verdict, 0, 0, 0, 0, 0, 0, 0,
-    ]
+    let mut b = [0u8; 32];
+    b[0] = kind;
+    b[1] = ledger;
+    b[2..4].copy_from_slice(&sender.bytes());
+    b[4..6].copy_from_slice(&receiver.bytes());
+    b[8..16].copy_from_slice(&number.bytes());
+    b[16..24].copy_from_slice(&amount.bytes());
+    b[24] = verdict;
+    b
 }

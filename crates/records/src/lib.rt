@@ -3,13 +3,12 @@
 
 pub mod fields; // fields.rt: the 32 bytes with fields given as numbers
 
-ghost use Rattle.std.specs.Prelude.{◌≡◌, cond, length};
-ghost use Rattle.ledgers.specs.Ledgers.{ledger_at, kind_at};
-ghost use Rattle.records.specs.Records.{words_of, formed, record_in, reading_words, reading, encoding};
+ghost use Rattle.std.specs.Prelude.{◌≡◌, ◌≤◌, SomeIff, eqb, length};
+ghost use Rattle.records.specs.Records.{words_of, within, read_as, reading_words, reading, encoding};
 
 pub use fields::field_bytes;
 use ledgers::{Kind, Ledger};
-use wire::u64_at;
+use wire::BigEndian;
 
 // A record that was read.
 #[derive(Clone, Copy)]
@@ -35,114 +34,59 @@ pub struct Words {
     pub tail: u64,
 }
 
-// What words or bytes read as.
-#[derive(Clone, Copy)]
-pub enum Reading {
-    Read(Record),
-    Unreadable,
-}
-
 // What a word is divided by for its first byte alone, and for its first two.
 pub const FIRST_BYTE: u64 = 72057594037927936;
 
 pub const FIRST_TWO_BYTES: u64 = 281474976710656;
 
-fn ledger_at(byte: u64) -> Ledger
-    ensures { result ≡ ledger_at byte }
+// The verdict in bytes 24-31, where it is 0 or 1 and zero bytes follow it.
+fn verdict(tail: u64) -> Option<bool>
+    ensures { SomeIff result ((within 0 1 tail ≤ 1) × (within 1 7 tail ≡ 0)) (eqb (within 0 1 tail) 1) }
 {
-    if byte == 0 { Ledger::Home } else { Ledger::Far }
-}
-
-fn kind_at(byte: u64, l: Ledger) -> Kind
-    ensures { result ≡ kind_at byte l }
-{
-    if byte == 1 {
-        return Kind::Local(l);
-    }
-    if byte == 2 {
-        return Kind::Sending(l);
-    }
-    Kind::Receiving(l)
-}
-
-// Whether refusal 21 has nothing against the words.
-fn are_formed(w: Words) -> bool
-    ensures { result ≡ formed w }
-{
-    let kind = w.head / FIRST_BYTE % 256;
-    if kind == 0 {
-        return false;
-    }
-    if 3 < kind {
-        return false;
-    }
-    if 1 < w.head / FIRST_TWO_BYTES % 256 {
-        return false;
-    }
-    if w.head % 65536 != 0 {
-        return false;
-    }
-    if w.amount == 0 {
-        return false;
-    }
-    if Record::MAX_AMOUNT < w.amount {
-        return false;
-    }
-    if 1 < w.tail / FIRST_BYTE % 256 {
-        return false;
-    }
-    w.tail % FIRST_BYTE == 0
-}
-
-// The record in its words.
-fn record_in(w: Words) -> Record
-    ensures { result ≡ record_in w }
-{
-    let kind = kind_at(
-        w.head / FIRST_BYTE % 256,
-        ledger_at(w.head / FIRST_TWO_BYTES % 256),
-    );
-    let verified = w.tail / FIRST_BYTE % 256 == 1;
-    Record {
-        kind,
-        sender: (w.head / 4294967296 % 65536) as u16,
-        receiver: (w.head / 65536 % 65536) as u16,
-        number: w.number,
-        amount: w.amount,
-        verified,
+    match tail {
+        0 => Some(false),
+        FIRST_BYTE => Some(true),
+        _ => None,
     }
 }
 
 impl Words {
     // The words of 32 bytes.
+    // Kept: a slice of 32 bytes and no From of an array, which would ask more of those who call it.
     pub fn of(s: &[u8]) -> Words
         requires { length s.now ≡ 32 }
         ensures { result ≡ words_of s.now }
     {
         Words {
-            head: u64_at(s, 0),
-            number: u64_at(s, 8),
-            amount: u64_at(s, 16),
-            tail: u64_at(s, 24),
+            head: u64::at(s, 0),
+            number: u64::at(s, 8),
+            amount: u64::at(s, 16),
+            tail: u64::at(s, 24),
         }
     }
 
-    // What the words read as.
-    pub fn read(self) -> Reading
-        ensures { result ≡ reading_words self }
+    // The record that the words read as.
+    pub fn read(self) -> Option<Record>
+        ensures { read_as result ≡ reading_words self }
     {
-        if are_formed(self) {
-            return Reading::Read(record_in(self));
+        let [kind, ledger, s0, s1, r0, r1, 0, 0] = self.head.to_be_bytes() else {
+            return None;
+        };
+        let ledger = Ledger::try_from(ledger).ok()?;
+        let kind = Kind::read(kind, ledger)?;
+        let verified = verdict(self.tail)?;
+        if !(1..=Record::MAX_AMOUNT).contains(&self.amount) {
+            return None;
         }
-        Reading::Unreadable
+        Some(Record {
+            kind,
+            sender: u16::from_be_bytes([s0, s1]),
+            receiver: u16::from_be_bytes([r0, r1]),
+            number: self.number,
+            amount: self.amount,
+            verified,
+        })
     }
-}
-
-// The byte of a verdict.
-pub fn verdict_byte(verified: bool) -> u8
-    ensures { result ≡ cond verified 1 0 }
-{
-    if verified { 1 } else { 0 }
 }
 
 impl Record {
@@ -152,32 +96,31 @@ impl Record {
     // The greatest amount.
     pub const MAX_AMOUNT: u64 = 9223372036854775807;
 
-    // What bytes read as.
+    // The record that bytes read as.
+    // Kept: README names `read` and `encode`, and a TryFrom with an error type of its own and a From would say no more.
     #[tactic(auto, unfolding(crate::specs::Records::reading))]
-    pub fn read(s: &[u8]) -> Reading
-        ensures { result ≡ reading s.now }
+    pub fn read(s: &[u8]) -> Option<Record>
+        ensures { read_as result ≡ reading s.now }
     {
         if s.len() != Record::SIZE {
-            return Reading::Unreadable;
+            return None;
         }
-        let words = Words::of(s);
-        words.read()
+        Words::of(s).read()
     }
 
     // The 32 bytes of a record, also where its amount is 0 or above 2^63-1; such bytes do not read.
+    #[tactic(auto, unfolding(crate::specs::Records::encoding))]
     pub fn encode(self) -> [u8; 32]
         ensures { result ≡ encoding self }
     {
-        let k = self.kind;
-        let v = verdict_byte(self.verified);
         field_bytes(
-            k.byte(),
-            k.ledger().byte(),
+            u8::from(self.kind),
+            u8::from(self.kind.ledger()),
             self.sender,
             self.receiver,
             self.number,
             self.amount,
-            v,
+            u8::from(self.verified),
         )
     }
 }

@@ -24,20 +24,10 @@ charge_parts rate amount =
     ap (λ (n : ℕ). n / parts) (product rate amount)
     ∙ digits_div (amount / parts * rate + amount % parts * rate / parts) (mod-lt (amount % parts * rate) (lit< tt))
 
--- the charge on the whole ten thousands is at most these
-pub whole_most : (rate amount : ℕ) → rate ≤ parts → amount / parts * rate ≤ amount
-whole_most rate amount h = omega (arith, mul-le-mul_left (amount / parts) h)
-
--- and the rest times the rate is small
-pub rest_most : (rate amount : ℕ) → rate ≤ parts → amount % parts * rate ≤ amount % parts * parts
-rest_most rate amount h = mul-le-mul_left (amount % parts) h
-
 -- the charge is at most the amount
 pub charge_most : (rate amount : ℕ) → rate ≤ parts → charge rate amount ≤ amount
-charge_most rate amount h = omega (arith, charge_parts rate amount, whole_of, rest_most rate amount h)
-  where
-    whole_of : amount / parts * rate ≤ amount / parts * parts
-    whole_of = mul-le-mul_left (amount / parts) h
+charge_most rate amount h =
+    omega (arith, charge_parts rate amount, mul-le-mul_left (amount / parts) h, mul-le-mul_left (amount % parts) h)
 
 -- nothing is taken at rate 0
 pub charge_free : (amount : ℕ) → charge 0 amount ≡ 0

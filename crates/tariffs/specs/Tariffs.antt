@@ -1,8 +1,9 @@
 -- What home's network takes on each sending that leaves home (document 02, U3). Assumes nothing.
-use Rattle.std.specs.Prelude.{ℕ, ◌+◌, ◌*◌, ◌/◌, Bool, true, List, [], ◌∷◌, map, ◌≡◌, eqb, leb, ltb, get_or}
-use Rattle.answers.specs.Answers.{answer, refuse, unless_refused}
+use Rattle.std.specs.Prelude.{ℕ, ◌+◌, ◌*◌, ◌/◌, Bool, true, List, [], ◌∷◌, map, ◌≡◌, eqb, leb, ltb, get_or, Result, Ok, Err}
+use Rattle.answers.specs.Answers.{Answer, answer, refuse, unless_refused}
+use Rattle.answers.specs.Refusals.{refusal_number}
+use Rattle.answers.specs.declared.refusal.Refusal.{Refusal}
 use Rattle.wire.specs.BigEndian.{every}
-pub use Rattle.tariffs.specs.declared.Charged.{Charged}
 pub use Rattle.tariffs.specs.declared.Tariff.{Tariff}
 
 -- the ten-thousandths of a whole: the greatest rate
@@ -60,6 +61,16 @@ tariff_allowed t accounts = every (leb t.rate parts ∷ ltb t.account accounts �
 -- a rate above 10,000 is 52
 unfoldable pub rate_refusal : ℕ → ℕ
 rate_refusal rate = refuse (ltb parts rate) 52 0
+
+-- an answer, and the charge on an amount; 0 where it is refused
+pub record Charged : Type 0 where
+  pub answer : Answer
+  pub charge : ℕ
+
+-- what the result of a call for a charge tells
+abbrev pub told : Result ℕ Refusal → Charged
+told (Ok c) = record { answer = answer 0 0; charge = c }
+told (Err r) = record { answer = answer (refusal_number r) 0; charge = 0 }
 
 -- the charge on an amount, with its answer
 unfoldable pub charge_told : ℕ → ℕ → Charged

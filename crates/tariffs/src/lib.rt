@@ -3,12 +3,12 @@
 #![tactic(auto)]
 
 ghost use Rattle.std.specs.Prelude.{◌≤◌, ◌≡◌};
-ghost use Rattle.tariffs.specs.Tariffs.{charge, charge_told, parts, tariff_allowed};
+ghost use Rattle.tariffs.specs.Tariffs.{charge, charge_told, parts, tariff_allowed, told};
 
-use answers::Answer;
+use answers::{Refusal, refuse_if};
 
 // The rate, in ten-thousandths of what is sent, and the home account that the charge is paid to.
-#[derive(Clone, Copy)]
+#[derive(Clone, Copy, PartialEq, Eq)]
 pub struct Tariff {
     pub rate: u64,
     pub account: u64,
@@ -19,17 +19,17 @@ impl Tariff {
     pub const PARTS: u64 = 10000;
 
     // Whether 52 has nothing against it, home having so many accounts.
+    #[tactic(auto, unfolding(crate::specs::Tariffs::tariff_allowed, wire::specs::BigEndian::every))]
     pub fn is_allowed(self, accounts: u64) -> bool
         ensures { result ≡ tariff_allowed self accounts }
     {
-        if Tariff::PARTS < self.rate {
-            return false;
-        }
-        self.account < accounts
+        self.rate <= Tariff::PARTS && self.account < accounts
     }
 }
 
 // The charge on an amount that leaves home.
+// Kept: the limit on the rate is a `requires`: docs/PROVED.md names `tariffs::charge`, so it takes no narrower type than a number.
+#[tactic(auto, using(crate::proofs::Charges::charge_parts))]
 pub fn charge(rate: u64, amount: u64) -> u64
     requires { rate ≤ parts }
     ensures { result ≡ charge rate amount }
@@ -39,28 +39,11 @@ pub fn charge(rate: u64, amount: u64) -> u64
     whole * rate + rest * rate / Tariff::PARTS
 }
 
-// An answer, and the charge on an amount; 0 where it is refused.
-#[derive(Clone, Copy)]
-pub struct Charged {
-    pub answer: Answer,
-    pub charge: u64,
-}
-
 // The charge on an amount that leaves home, for who shows it before a sending is made: 52 where the rate is above 10,000.
-pub fn tell_charge(rate: u64, amount: u64) -> Charged
-    ensures { result ≡ charge_told rate amount }
+#[tactic(auto, unfolding(crate::specs::Tariffs::charge_told, crate::specs::Tariffs::rate_refusal))]
+pub fn tell_charge(rate: u64, amount: u64) -> Result<u64, Refusal>
+    ensures { told result ≡ charge_told rate amount }
 {
-    if Tariff::PARTS < rate {
-        return Charged {
-            answer: Answer::Refused {
-                number: 52,
-                place: 0,
-            },
-            charge: 0,
-        };
-    }
-    Charged {
-        answer: Answer::Passed,
-        charge: charge(rate, amount),
-    }
+    refuse_if(Tariff::PARTS < rate, Refusal::TariffNotAllowed)?;
+    Ok(charge(rate, amount))
 }
