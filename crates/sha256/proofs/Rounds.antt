@@ -134,27 +134,23 @@ module _ (m : List ℕ) where
 
   -- ## Rounds
 
-  -- constants that are K's
-  constants_are : (n : ℕ) {k : List ℕ} {c : SixteenWords} → k ≡ K → c ≡ words_from k n → c ≡ words_from K n
-  constants_are n e h = h ∙ ap (λ (l : List ℕ). words_from l n) e
-
   -- four times sixteen rounds, each with the next words and constants, compress a block
-  pub compressed_by_sixteen : (s : Hash) {k : List ℕ} {w0 w1 w2 w3 k0 k1 k2 k3 : SixteenWords} {s0 s1 s2 s3 : Hash}
-      → k ≡ K → k0 ≡ words_from k 0 → k1 ≡ words_from k 16 → k2 ≡ words_from k 32 → k3 ≡ words_from k 48
+  pub compressed_by_sixteen : (s : Hash) {w0 w1 w2 w3 k0 k1 k2 k3 : SixteenWords} {s0 s1 s2 s3 : Hash}
+      → k0 ≡ words_from K 0 → k1 ≡ words_from K 16 → k2 ≡ words_from K 32 → k3 ≡ words_from K 48
       → w0 ≡ sixteen_words_of m → NextSixteen w0 w1 → NextSixteen w1 w2 → NextSixteen w2 w3
       → s0 ≡ sixteen_rounds s k0 w0 → s1 ≡ sixteen_rounds s0 k1 w1 → s2 ≡ sixteen_rounds s1 k2 w2 → s3 ≡ sixteen_rounds s2 k3 w3
       → sums s s3 ≡ compressed s m
   unfolding compressed rounds sixteen_rounds
-  compressed_by_sixteen s {s0 = s0} {s1 = s1} {s2 = s2} {s3 = s3} ek c0 c1 c2 c3 ew f1 f2 f3 e0 e1 e2 e3 =
+  compressed_by_sixteen s {s0 = s0} {s1 = s1} {s2 = s2} {s3 = s3} c0 c1 c2 c3 ew f1 f2 f3 e0 e1 e2 e3 =
       let v : List ℕ = schedule m 48 in
       let p0 = ew ∙ first_words in
       let p1 = next_words 0 (omega arith) p0 f1 in
       let p2 = next_words 16 (omega arith) p1 f2 in
       let p3 = next_words 32 (omega arith) p2 f3 in
-      let r0 : s0 ≡ rounds s v 16 = e0 ∙ (λ a. sixteen_rounds s (constants_are 0 ek c0 a) (p0 a)) in
-      let r1 : s1 ≡ rounds s v 32 = e1 ∙ (λ a. sixteen_rounds (r0 a) (constants_are 16 ek c1 a) (p1 a)) in
-      let r2 : s2 ≡ rounds s v 48 = e2 ∙ (λ a. sixteen_rounds (r1 a) (constants_are 32 ek c2 a) (p2 a)) in
-      let r3 : s3 ≡ rounds s v 64 = e3 ∙ (λ a. sixteen_rounds (r2 a) (constants_are 48 ek c3 a) (p3 a)) in
+      let r0 : s0 ≡ rounds s v 16 = e0 ∙ (λ a. sixteen_rounds s (c0 a) (p0 a)) in
+      let r1 : s1 ≡ rounds s v 32 = e1 ∙ (λ a. sixteen_rounds (r0 a) (c1 a) (p1 a)) in
+      let r2 : s2 ≡ rounds s v 48 = e2 ∙ (λ a. sixteen_rounds (r1 a) (c2 a) (p2 a)) in
+      let r3 : s3 ≡ rounds s v 64 = e3 ∙ (λ a. sixteen_rounds (r2 a) (c3 a) (p3 a)) in
       ap (sums s) r3
 
 -- sixteen rounds, one by one

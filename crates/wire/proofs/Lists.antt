@@ -1,7 +1,10 @@
 -- Laws of tests, properties and zero bytes over lists. Assumes nothing.
-use Rattle.wire.proofs.Prelude.{Bool, List, [], ◌&&◌, ◌++◌, ◌+◌, ◌-◌, ◌<◌, ◌∙◌, ◌∷◌, ◌≡◌, ◌≤◌, add-one, and-true, ap, ap₂, arith}
-use Rattle.wire.proofs.Prelude.{drop, drop-cons, drop_of_length-le, eq-eqb, eqb, eqb-true, false, false≢true, get_or, length, refl}
+pub use Rattle.wire.proofs.Prelude.{and-false}
+use Rattle.wire.proofs.Prelude.{Bool, List, [], ◌&&◌, ◌++◌, ◌<◌, ◌∷◌, ◌≡◌, and-true, ap, ap₂, arith}
+use Rattle.wire.proofs.Prelude.{drop, eq-eqb, eqb, eqb-true, false, false≢true, get_or, length, refl}
 use Rattle.wire.proofs.Prelude.{replicate, suc, sym, take, true, zero, ℕ}
+use Rattle.std.specs.List.{list_all}
+use lib.Pointwise.{pointwise}
 use Rattle.wire.specs.BigEndian.{All, Bytes, every, same, zeros}
 
 -- ## Tests
@@ -20,11 +23,6 @@ not_held false h = refl
 pub same_tests : (s t : Bool) → (s ≡ true → t ≡ true) → (t ≡ true → s ≡ true) → s ≡ t
 same_tests true t p q = sym (p refl)
 same_tests false t p q = not_held t (λ h. false≢true (q h))
-
--- a conjunction with false
-pub and-false : (t : Bool) → (t && false) ≡ false
-and-false true = refl
-and-false false = refl
 
 -- no test at all
 pub every_none : every [] ≡ true
@@ -127,18 +125,11 @@ zeros_are (x ∷ xs) h =
     let b = and_both (eqb x 0) (zeros xs) h in
     ap₂ (λ (y : ℕ) (l : List ℕ). y ∷ l) (eqb-true x 0 b.0) (zeros_are xs b.1)
 
--- the test of s from index i up to e: the byte at i, and the others
-pub zeros_cons : (s : List ℕ) (i e : ℕ) → i < e → e ≤ length s
-    → zeros (take (e - i) (drop i s)) ≡ (eqb (get_or s i 0) 0 && zeros (take (e - (i + 1)) (drop (i + 1) s)))
+-- the test of every byte
+pub zeros_all : (s : List ℕ) → list_all (λ x. eqb x 0) s ≡ zeros s
 unfolding zeros
-zeros_cons s i e h k =
-    let z : e - i ≡ suc (e - (i + 1)) = omega arith in
-    ap₂ (λ (n : ℕ) (l : List ℕ). zeros (take n l)) z (drop-cons s i 0 (omega arith)) ∙ rw add-one
-
--- and at the end
-pub zeros_end : (s : List ℕ) (i e : ℕ) → e ≤ i → zeros (take (e - i) (drop i s)) ≡ true
-unfolding zeros
-zeros_end s i e h = let z : e - i ≡ 0 = omega arith in ap (λ (n : ℕ). zeros (take n (drop i s))) z
+zeros_all [] = refl
+zeros_all (x ∷ xs) = ap (λ (t : Bool). eqb x 0 && t) (zeros_all xs)
 
 -- ## The same bytes
 
@@ -158,16 +149,13 @@ same_equal (x ∷ xs) (y ∷ ys) h =
     let b = and_both (eqb x y) (same xs ys) h in
     ap₂ (λ (z : ℕ) (l : List ℕ). z ∷ l) (eqb-true x y b.0) (same_equal xs ys b.1)
 
--- the test from index i on: the bytes there, and the others
-pub same_cons : (xs ys : List ℕ) (i : ℕ) → i < length xs → i < length ys
-    → same (drop i xs) (drop i ys) ≡ (eqb (get_or xs i 0) (get_or ys i 0) && same (drop (i + 1) xs) (drop (i + 1) ys))
+-- the library's test of two lists
+pub same_pointwise : (xs ys : List ℕ) → pointwise eqb xs ys ≡ same xs ys
 unfolding same
-same_cons xs ys i h k = ap₂ same (drop-cons xs i 0 h) (drop-cons ys i 0 k) ∙ rw add-one
-
--- and at the end
-pub same_end : (xs ys : List ℕ) (i : ℕ) → length xs ≤ i → length ys ≤ i → same (drop i xs) (drop i ys) ≡ true
-unfolding same
-same_end xs ys i h k = ap₂ same (drop_of_length-le xs {i = i} h) (drop_of_length-le ys {i = i} k)
+same_pointwise [] [] = refl
+same_pointwise [] (y ∷ ys) = refl
+same_pointwise (x ∷ xs) [] = refl
+same_pointwise (x ∷ xs) (y ∷ ys) = ap (λ (t : Bool). eqb x y && t) (same_pointwise xs ys)
 
 -- zero bytes are bytes
 pub bytes_zeros : (n : ℕ) → Bytes (replicate n 0)

@@ -1,8 +1,9 @@
 -- Numbers and their bytes: one law each over every width. Assumes nothing.
-use Rattle.wire.proofs.Prelude.{List, [], ◌%◌, ◌*◌, ◌++◌, ◌+◌, ◌/◌, ◌<◌, ◌^◌, ◌∙◌, ◌∷◌, ◌≡◌, ◌≤◌, add-mul, ap, ap₂, arith, drop}
+use Rattle.wire.proofs.Prelude.{List, [], ◌%◌, ◌*◌, ◌++◌, ◌+◌, ◌/◌, ◌<◌, ◌^◌, ◌∙◌, ◌∷◌, ◌≡◌, ◌≤◌, add-mul, ap, ap₂, arith, div-one, drop}
 use Rattle.wire.proofs.Prelude.{drop-cons, drop-drop, drop_of_length-le, get_or, length, length-drop, length-take-le, lit<}
 use Rattle.wire.proofs.Prelude.{mod-eq_of_lt, mul-add-div_right, mul_comm, one-le-pow, pow-suc, refl, subst, suc, sym, take}
 use Rattle.wire.proofs.Prelude.{take-add, take-append-drop, take-nil, zero, ℕ}
+use Rattle.std.specs.Int.{bytes_high_first}
 use lib.Arith.{digits_lt, digits_div, digits_mod, mod-mul}
 use Rattle.wire.proofs.Lists.{all_drop, all_take, bytes_append}
 use Rattle.wire.specs.BigEndian.{All, Bytes, bytes_of, field, value, value_after}
@@ -115,6 +116,17 @@ value_bytes_of (suc k) n =
 -- a number that fits in k bytes reads back from them
 pub value_back : (k n : ℕ) → n < 256 ^ k → value (bytes_of k n) ≡ n
 value_back k n h = value_bytes_of k n ∙ mod-eq_of_lt h
+
+-- the library's bytes of a number
+pub library_bytes : (k n : ℕ) → bytes_high_first k n ≡ bytes_of k n
+unfolding bytes_of
+library_bytes zero n = refl
+library_bytes (suc zero) n = ap (λ (x : ℕ). x % 256 ∷ []) (sym (div-one n))
+library_bytes (suc (suc k)) n = ap (λ (s : List ℕ). n / 256 ^ suc k % 256 ∷ s) (library_bytes (suc k) n)
+
+-- bytes whose number has them as its own are those that write it
+pub written_by : (k n : ℕ) {bs : List ℕ} → n < 256 ^ k → bytes_high_first k n ≡ bs → n ≡ value bs
+written_by k n h e = sym (value_back k n h) ∙ ap value (sym (library_bytes k n) ∙ e)
 
 -- the k bytes of a number do not depend on what is above them
 bytes_low : (k a n : ℕ) → bytes_of k (a * 256 ^ k + n) ≡ bytes_of k n
