@@ -1,7 +1,7 @@
 -- The journal as a whole (document 01, "The journal"; document 02, U3; demand 2): what is written, what is read, and that these are the
 -- same. A record is here a string of 32 bytes, which is not judged. Assumes nothing.
 use Rattle.std.specs.Prelude.{ℕ, zero, suc, ◌+◌, ◌-◌, ◌*◌, ◌/◌, ◌^◌, ◌≤◌, ◌<◌, true, List, [], ◌∷◌, ◌++◌, ◌↔◌, ◌≡◌, length, take, drop, get_or, replicate}
-use Rattle.answers.specs.declared.Answer.TheVariants.{Passed}
+use Rattle.answers.specs.Answers.{Passed}
 use Rattle.journal_blocks.specs.Blocks.{balance_table, balances_of, kind_of_block, max_block, records_of, records_per_block, stated_count}
 use Rattle.journal_blocks.specs.Blocks.{tariff_in}
 use Rattle.journal_blocks.specs.Checked.{block_refusal}

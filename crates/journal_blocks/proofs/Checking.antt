@@ -1,17 +1,13 @@
 -- What a block that is not refused shows, fact by fact. Assumes nothing.
-use Rattle.wire.proofs.Prelude.{Bool, List, ◌<◌, ◌∙◌, ◌≡◌, ◌≤◌, ap, arith, eq-eqb, eqb, eqb-true, le-ltb, length, ltb, ltb-false, not}
-use Rattle.wire.proofs.Prelude.{not-false, refl, suc, true, zero, ℕ}
-use Rattle.answers.proofs.Answers.{refuse_else, refuse_zero}
-use Rattle.answers.specs.Answers.{or_else, refuse}
+use Rattle.wire.proofs.Prelude.{Bool, List, ◌≡◌, ◌≤◌, arith, false, eq-eqb, eqb, eqb-true, le-ltb, length, ltb, ltb-false, not}
+use Rattle.wire.proofs.Prelude.{not-false, rules, true, ℕ}
+use Rattle.answers.proofs.Answers.{refuse_zero}
+use Rattle.answers.specs.Answers.{refuse}
+use Rattle.answers.specs.Refusals.{refusal_number}
+use Rattle.answers.specs.declared.refusal.Refusal.{Refusal}
 use Rattle.journal_blocks.specs.Blocks.{block_formed, block_number, max_block, stated_count, tariff_in}
 use Rattle.journal_blocks.specs.Checked.{block_refusal, checked, tariff_refusal}
 use Rattle.tariffs.specs.Tariffs.{tariff_allowed}
-
--- no block but block 0 is refused for rate and charge account
-pub later_free : (b : List ℕ) (k : ℕ) → 0 < k → tariff_refusal b k ≡ 0
-unfolding tariff_refusal
-later_free b zero h = absurd (omega arith)
-later_free b (suc k) h = refl
 
 -- the facts, one for each test
 pub record Right (b : List ℕ) (k before : ℕ) : Type 0 where
@@ -51,12 +47,7 @@ unfolding block_refusal
 not_refused b k before r =
     rw (eq-eqb _ _ r.long, le-ltb _ _ r.low, r.sealed, eq-eqb _ _ r.numbered, r.formed) r.tariff
 
--- the refusals after the length, one by one and in their order
-pub in_order : (t u v w : Bool) (n : ℕ)
-    → or_else (refuse t 11 0) (or_else (refuse u 12 0) (or_else (refuse v 13 0) (or_else (refuse w 14 0) n)))
-    ≡ refuse t 11 (refuse u 12 (refuse v 13 (refuse w 14 n)))
-in_order t u v w n =
-    refuse_else t 11 _ (omega arith)
-    ∙ ap (refuse t 11)
-    (refuse_else u 12 _ (omega arith)
-    ∙ ap (refuse u 12) (refuse_else v 13 _ (omega arith) ∙ ap (refuse v 13) (refuse_else w 14 n (omega arith))))
+-- what a test refuses stays whatever the later tests say
+pub refused_later : (t : Bool) (n later : ℕ) (e : Refusal) → refusal_number e ≡ refuse t n 0 → refusal_number e ≡ refuse t n later
+refused_later true n later e h = h
+refused_later false n later e h = search rules

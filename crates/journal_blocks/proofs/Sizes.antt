@@ -1,6 +1,6 @@
 -- Kinds, sizes and limits by a block's number. Assumes nothing.
 use Rattle.wire.proofs.Prelude.{◌*◌, ◌/◌, ◌<◌, ◌≡◌, ◌≤◌, arith, mul-div_cancel, refl, suc, zero, ℕ}
-use Rattle.journal_blocks.specs.Blocks.{head_end, item_limit, item_size, kind_of_block}
+use Rattle.journal_blocks.specs.Blocks.{item_limit, item_size, kind_of_block}
 use Rattle.ledgers.specs.Limits.{account_limit}
 
 -- blocks 0 and 1 hold opening balances: the size of one, and as many as a ledger has accounts
@@ -14,11 +14,6 @@ pub records_block : (k : ℕ) → 2 ≤ k → (item_size k ≡ 32) × (item_limi
 records_block zero h = absurd (omega arith)
 records_block (suc zero) h = absurd (omega arith)
 records_block (suc (suc k)) h = (refl, refl, refl)
-
--- the zero bytes of the header begin at byte 6 in every block but block 0
-pub head_end_later : (k : ℕ) → 0 < k → head_end k ≡ 6
-head_end_later zero h = absurd (omega arith)
-head_end_later (suc k) h = refl
 
 -- as many as a block has records
 pub records_limit : (k : ℕ) → 2 ≤ k → item_limit k ≡ 14

@@ -1,4 +1,5 @@
 -- The block of a journal, and judging it. Assumes nothing.
 
 pub mod Blocks
+pub mod Kinds
 pub mod Checked

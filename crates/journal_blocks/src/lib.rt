@@ -6,6 +6,6 @@ pub mod checks; // checks.rt: refusals 11 to 14 and 52 in order
 
 pub use checks::block_refusal;
 pub use format::{
-    BLOCK_SIZE, MAX_BLOCK, RECORDS_PER_BLOCK, item_limit, item_size, kind_of_block, stated_count,
-    tariff_in,
+    BLOCK_SIZE, BlockKind, MAX_BLOCK, RECORDS_PER_BLOCK, item_limit, item_size, kind_of_block,
+    stated_count, tariff_in,
 };

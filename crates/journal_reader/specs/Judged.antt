@@ -1,12 +1,44 @@
 -- What the reader's calls answer of a block (document 01, "Refusals": 4 for a place, after 11 to 14 and 52) and hand out. Assumes nothing.
-use Rattle.std.specs.Prelude.{ℕ, List, [], ltb, leb, replicate}
-use Rattle.answers.specs.Answers.{answer, or_else, refuse, unless_refused}
+use Rattle.std.specs.Prelude.{ℕ, List, [], ltb, leb, replicate, Result, Ok, Err}
+use Rattle.answers.specs.Answers.{Answer, Passed, Refused, answer, or_else, refuse, unless_refused}
+use Rattle.answers.specs.Refusals.{refusal_number}
+use Rattle.answers.specs.declared.refusal.Refused.{Refused as RefusedAt}
 use Rattle.journal_blocks.specs.Blocks.{balance_table, record_part, stated_count, tariff_in}
 use Rattle.journal_blocks.specs.Checked.{block_refusal}
 use Rattle.ledgers.specs.Limits.{account_limit}
 use Rattle.tariffs.specs.Tariffs.{free}
-pub use Rattle.journal_reader.specs.declared.Counted.{Counted}
-pub use Rattle.journal_reader.specs.declared.Balances.{Balances}
+use Rattle.tariffs.specs.declared.Tariff.{Tariff}
+use Rattle.journal_reader.specs.declared.balances.Opening.{Opening}
+
+-- a block's answer, and the count of its items; 0 where it is refused
+pub record Counted : Type 0 where
+  pub answer : Answer
+  pub count : ℕ
+
+-- a block's answer, the count of its opening balances, of block 0 the rate and the charge account beside the balances (of block 1
+-- both are 0), and the balances, zeros after them; all 0 where it is refused
+pub record Balances : Type 0 where
+  pub answer : Answer
+  pub count : ℕ
+  pub tariff : Tariff
+  pub balances : List ℕ
+
+-- what the result of a call for the count tells
+abbrev pub count_told : Result ℕ RefusedAt → Counted
+count_told (Ok n) = record { answer = Passed; count = n }
+count_told (Err r) = record { answer = Refused (refusal_number r.refusal) r.place; count = 0 }
+
+-- what the result of a call for the opening balances tells
+abbrev pub opening_told : Result Opening RefusedAt → Balances
+opening_told (Ok o) =
+    record { answer = Passed; count = o.balances.count; tariff = o.tariff; balances = o.balances.table }
+opening_told (Err r) =
+    record {
+      answer = Refused (refusal_number r.refusal) r.place;
+      count = 0;
+      tariff = free;
+      balances = replicate account_limit 0;
+    }
 
 -- the refusal of a place at which a record is wanted: 4 in a block of opening balances, and not below the count
 unfoldable pub place_refusal : List ℕ → ℕ → ℕ → ℕ

@@ -1,23 +1,8 @@
 -- What stands in the output after its parts have been written one by one. Assumes nothing.
-use Rattle.wire.proofs.Prelude.{List, [], ◌++◌, ◌+◌, ◌-◌, ◌<◌, ◌∙◌, ◌∷◌, ◌≡◌, ◌≤◌, ap, append_assoc, append-nil, ap₂, arith, drop}
-use Rattle.wire.proofs.Prelude.{drop_of_length-le, get_or, length, length-append, length-drop, length-replicate, length-take, refl, replicate}
-use Rattle.wire.proofs.Prelude.{suc, sym, take, take_at, zero, ℕ}
+use Rattle.wire.proofs.Prelude.{List, [], ◌++◌, ◌+◌, ◌-◌, ◌∙◌, ◌≡◌, ◌≤◌, ap, append_assoc, append-nil, ap₂, arith, drop}
+use Rattle.wire.proofs.Prelude.{drop_of_length-le, length, length-append, length-drop, length-replicate, length-take, replicate}
+use Rattle.wire.proofs.Prelude.{sym, take, take_at, ℕ}
 use borrow.Rule.Slice.PartMut.{put_mid}
-use Rattle.journal_writer.specs.Written.{tariff_bytes}
-use Rattle.tariffs.specs.declared.Tariff.{Tariff}
-use Rattle.wire.specs.BigEndian.{bytes_of}
-
--- every block but block 0 has zeros for rate and charge account
-pub bytes_later : (k : ℕ) (t : Tariff) → 0 < k → tariff_bytes k t ≡ replicate 4 0
-bytes_later zero t h = absurd (omega arith)
-bytes_later (suc k) t h = refl
-
--- the bytes of rate and charge account one by one, and what follows them
-pub tariff_then : (k : ℕ) (t : Tariff) (s : List ℕ) → let b = tariff_bytes k t in
-    get_or b 0 0 ∷ get_or b 1 0 ∷ get_or b 2 0 ∷ get_or b 3 0 ∷ s ≡ b ++ s
-unfolding bytes_of
-tariff_then zero t s = refl
-tariff_then (suc k) t s = refl
 
 -- the check, written from byte 480 on
 pub sealed : (o d : List ℕ) → length o ≡ 512 → put_mid 480 (length o - 480) o d ≡ take 480 o ++ d

@@ -1,9 +1,6 @@
 -- The first i bytes are those that were handed in.
-use Rattle.wire.proofs.Prelude.{length, take, ◌-◌, ◌≡◌, ◌≤◌}
+use Rattle.wire.proofs.Prelude.{length, take, ◌≡◌}
 use Rattle.journal_writer.proofs.put.Given as goal
 
 abbrev pub invariant-loop-i : goal.invariant-loop-i
-invariant-loop-i l = (l.i ≤ length l.s) × (length l.s ≡ length l.from) × (take l.i l.s ≡ take l.i l.from)
-
-abbrev pub decreases-loop-i : goal.decreases-loop-i
-decreases-loop-i l = length l.initial.s - l.i
+invariant-loop-i l = (length l.s ≡ length l.from) × (take l.i l.s ≡ take l.i l.from)
