@@ -1,7 +1,7 @@
 -- Laws of sums in two limbs. Assumes nothing.
-use Rattle.wire.proofs.Prelude.{Bool, ◌%◌, ◌*◌, ◌+◌, ◌-◌, ◌/◌, ◌<◌, ◌^◌, ◌≡◌, ◌≤◌, arith, cond, false, refl, true, ℕ}
+use Rattle.wire.proofs.Prelude.{Bool, ◌%◌, ◌*◌, ◌+◌, ◌-◌, ◌/◌, ◌<◌, ◌^◌, ◌≡◌, ◌≤◌, arith, cond, false, true, ℕ}
 use Rattle.ledgers.specs.Limits.{max_amount}
-use Rattle.places.specs.ExactSums.{Added, Halves, wide}
+use Rattle.places.specs.ExactSums.{Added, Halves, IsNoSum, wide}
 use Rattle.places.specs.declared.exact_sums.Wide.{Wide}
 
 -- ## Two limbs and the number that they stand for
@@ -20,11 +20,6 @@ pub same_wide : (v w : Wide) → v.high ≡ w.high → v.low ≡ w.low → wide 
 unfolding wide
 same_wide v w a b = rw (a, b)
 
--- limbs of zero are zero
-wide_zero : wide (record { high = 0; low = 0 }) ≡ 0
-unfolding wide
-wide_zero = refl
-
 -- a number without a high limb is an amount
 pub wide_fits : (w : Wide) → w.low < 2 ^ 63 → w.high ≡ 0 → wide w ≤ max_amount
 unfolding wide
@@ -37,23 +32,6 @@ wide_passes w e = omega arith
 
 -- ## One number more
 
--- a high limb of one more
-pub wide_up : (h l : ℕ) → wide (record { high = h + 1; low = l }) ≡ wide (record { high = h; low = l }) + 2 ^ 63
-unfolding wide
-wide_up h l = omega arith
-
--- a low limb of x more
-pub wide_low : (h l x : ℕ) → wide (record { high = h; low = l + x }) ≡ wide (record { high = h; low = l }) + x
-unfolding wide
-wide_low h l x = omega arith
-
--- a low limb that would pass its greatest value is carried into the high one
-pub wide_carry : (h l x : ℕ)
-    → max_amount < l + x
-    → wide (record { high = h + 1; low = l + x - max_amount - 1 }) ≡ wide (record { high = h; low = l }) + x
-unfolding wide
-wide_carry h l x p = omega arith
-
 -- one number added after another is their sum added
 pub added_after : {u v w : Wide} {x y p q : ℕ} → Added u x p v → Added v y q w → Added u (x + y) (p + q) w
 added_after {u} {v} {w} {x} {y} {p} {q} a b =
@@ -63,9 +41,10 @@ added_after {u} {v} {w} {x} {y} {p} {q} a b =
       high_most = omega (arith, a.high_most, b.high_most);
     }
 
--- what was added to limbs of zero
-pub added_value : {w : Wide} {x n : ℕ} → Added (record { high = 0; low = 0 }) x n w → wide w ≡ x
-added_value a = omega (arith, a.value, wide_zero)
+-- what was added to the sum of no number
+pub added_value : {v w : Wide} {x n : ℕ} → IsNoSum v → Added v x n w → wide w ≡ x
+unfolding wide
+added_value z a = omega (arith, a.value, z.0, z.1)
 
 -- ## Two sums of halves
 
@@ -82,17 +61,8 @@ half_high : (a : ℕ) → a < 2 ^ 64 → a / 2 ^ 32 ≤ 2 ^ 32 - 1
 half_high a h = omega arith
 
 -- the low half of a number
-pub half_low : (a : ℕ) → a % 2 ^ 32 ≤ 2 ^ 32 - 1
+half_low : (a : ℕ) → a % 2 ^ 32 ≤ 2 ^ 32 - 1
 half_low a = omega arith
-
--- a sum of halves, and one more of them
-pub half_fits : (h from n i x y : ℕ) → h + 2 * n < 65535 → i < from + n → x ≤ (i - from) * (2 ^ 32 - 1) → y ≤ 2 ^ 32 - 1
-    → x + y < 2 ^ 64
-half_fits h from n i x y p q a b = omega arith
-
--- the places of a loop that has ended
-pub all_places : (from n i : ℕ) → i ≤ from + n → from + n ≤ i → i - from ≡ n
-all_places from n i a b = omega arith
 
 -- the sums with two halves more
 with_halves : (s k high low a x y t m : ℕ) → Halves s k high low → x * 2 ^ 32 + y ≡ a → x ≤ 2 ^ 32 - 1 → y ≤ 2 ^ 32 - 1
@@ -130,22 +100,13 @@ pub halves_fit : {s k high low : ℕ} (h : ℕ) → Halves s k high low → h + 
     → (low < 2 ^ 63) × (h * 2 ^ 31 + high < 65535 * 2 ^ 31)
 halves_fit h a p = (omega (arith, a.low_most), omega (arith, a.high_most))
 
--- a high sum in the limbs
-pub high_added : (h l high : ℕ)
-    → wide (record { high = h + high / 2 ^ 31; low = l }) + high % 2 ^ 31 * 2 ^ 32
-    ≡ wide (record { high = h; low = l }) + high * 2 ^ 32
-unfolding wide
-high_added h l high = omega arith
-
--- both sums in the limbs
-pub halves_added : (v w : Wide) {s k high low : ℕ} → Halves s k high low → v.low < 2 ^ 63
-    → wide w ≡ wide v + (high * 2 ^ 32 + low)
-    → w.low < 2 ^ 63
+-- sums of halves added to a sum
+pub halves_added : (v w : Wide) {s k high low : ℕ} → Halves s k high low → wide w ≡ wide v + (high * 2 ^ 32 + low)
     → Added v s (2 * k) w
 unfolding wide
-halves_added v w h p e q =
+halves_added v w h e =
     record {
       value = omega (arith, h.value, e);
-      low_fits = q;
-      high_most = omega (arith, h.high_most, h.low_most, e);
+      low_fits = w.low_fits;
+      high_most = omega (arith, h.high_most, h.low_most, e, v.low_fits, w.low_fits);
     }

@@ -6,6 +6,7 @@ pub mod Refusals
 pub mod BalanceTotals
 pub mod Openings
 pub mod OverPlaces
+pub mod Slices
 pub mod Chains
 pub mod Walks
 pub mod NumberIndex

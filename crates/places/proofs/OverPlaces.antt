@@ -1,7 +1,7 @@
 -- Laws of lists, tests and sums over places: what a loop at place i before an end cites, and how they meet the rules' lists.
 -- Assumes nothing.
 use Rattle.wire.proofs.Prelude.{Bool, List, [], ◌&&◌, ◌++◌, ◌+◌, ◌-◌, ◌<◌, ◌||◌, ◌∙◌, ◌∷◌, ◌≡◌, ◌≤◌, add-one, ap, arith, cond}
-use Rattle.wire.proofs.Prelude.{eq-or-lt_of_le, false, length, not, or_assoc, or-false, refl, suc, sym, true, zero, ℕ, ⊎_elim}
+use Rattle.wire.proofs.Prelude.{eq-or-lt_of_le, false, length, not, refl, suc, sym, true, zero, ℕ, ⊎_elim}
 use Rattle.places.specs.OverPlaces.{all_at, any_at, apart_at, list_at, sum_at}
 use Rattle.rules.proofs.Lists.{never_both_tests, or_right}
 use Rattle.rules.specs.Lists.{all, any, sum}
@@ -12,10 +12,6 @@ use Rattle.wire.proofs.Lists.{and_both}
 -- the places left, where one is left
 left : (i end : ℕ) → i < end → end - i ≡ suc (end - (i + 1))
 left i end h = omega arith
-
--- the places from the first on
-pub from_start : {A : Type 0} (g : ℕ → ℕ → A) (from n : ℕ) → g from n ≡ g from (from + n - from)
-from_start g from n = ap (g from) (let z : n ≡ from + n - from = omega arith in z)
 
 module _ (p : ℕ → Bool) (i end : ℕ) where
   -- the test holds here

@@ -46,10 +46,6 @@ module _ (f heads nexts : ℕ → ℕ) (n : ℕ) (c : Chains f heads nexts n) (p
               omega (arith, u, e);
         }
 
-    -- to a lower place
-    pub over_lower : (to : ℕ) → 0 < at → to ≡ nexts (at - 1) → to < at
-    over_lower to z e = omega (arith, e, c.next_most (at - 1) (let b : at - 1 < n = omega (arith, w.most) in b))
-
     -- it finds the place
     pub over_found : 0 < at → p (at - 1) ≡ true → any_at p 0 n ≡ true
     over_found z e = any_some p 0 n (at - 1) (omega arith) (omega (arith, w.most)) e

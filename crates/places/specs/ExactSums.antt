@@ -6,6 +6,10 @@ use Rattle.places.specs.declared.exact_sums.Wide.{Wide}
 unfoldable pub wide : Wide → ℕ
 wide w = w.high * 2 ^ 63 + w.low
 
+-- w is the sum of no number
+abbrev pub IsNoSum : Wide → Type 0
+IsNoSum w = (w.high ≡ 0) × (w.low ≡ 0)
+
 -- w is v and x more, in its one form, and its high limb grew by at most n
 pub record Added (v : Wide) (x n : ℕ) (w : Wide) : Type 0 where
   pub value : wide w ≡ wide v + x

@@ -5,13 +5,6 @@ ghost use Rattle.rules.specs.PairValidator.{count_allowed};
 
 use ledgers::Ledger;
 
-// A number of 16 bits, an account's or an element of an index of numbers, as an index.
-pub fn as_index(x: u16) -> usize
-    ensures { result ≡ x }
-{
-    x as usize
-}
-
 // Whether a ledger may have n accounts.
 pub fn is_count_allowed(n: usize) -> bool
     ensures { result ≡ count_allowed n }
@@ -23,19 +16,13 @@ pub fn is_count_allowed(n: usize) -> bool
 }
 
 // Whether n balances from a place on are zero, as refusal 3 asks of those that no account has.
+// Kept: one all over words, as wire::all_zero is over bytes; a function generic in the number would be longer than both.
+// Kept: a start and a count, and no slice: zeros_at, sum_at and funds_at, which refusals 3 and 25 cite, are of places in a state's words.
 pub fn are_zero(balances: &[u64], from: usize, n: usize) -> bool
     requires { from + n ≤ length balances.now }
     ensures { result ≡ zeros_at balances.now from n }
 {
-    let end = from + n;
-    let mut i = from;
-    while i < end {
-        if balances[i] != 0 {
-            return false;
-        }
-        i += 1;
-    }
-    true
+    balances[from..from + n].iter().all(|b| *b == 0)
 }
 
 // The numbers copied to a place of a longer list.
@@ -44,10 +31,8 @@ pub fn copy_numbers(xs: &[u64], at: usize, out: &mut [u64])
     ensures { out.new ≡ take at out.old ++ (xs.now
         ++ drop (at + length xs.now) out.old) }
 {
-    let n = xs.len();
-    let mut i = 0;
-    while i < n {
-        out[at + i] = xs[i];
-        i += 1;
+    // Kept: one by one: into a lent list, copy_from_slice of no fixed length asks for memmove, beyond docs/DECISIONS.md, 55.
+    for (i, x) in xs.iter().enumerate() {
+        out[at + i] = *x;
     }
 }

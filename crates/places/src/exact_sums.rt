@@ -1,8 +1,5 @@
-// Sums of amounts and balances that may pass 64 bits, exact whatever the numbers are. The numbers stand at n places from a place
-// `from` on.
-ghost use Rattle.std.specs.Prelude.{ℕ, ◌+◌, ◌*◌, ◌/◌, ◌%◌, ◌^◌, ◌<◌, ◌≤◌, ◌≡◌, length, get_or};
-ghost use Rattle.places.specs.ExactSums.{Added, wide};
-ghost use Rattle.places.specs.OverPlaces.{sum_at};
+// Sums of amounts that may pass 64 bits, exact whatever the numbers are.
+ghost use Rattle.std.specs.Prelude.{◌+◌, ◌*◌, ◌/◌, ◌%◌, ◌^◌, ◌<◌, ◌≡◌};
 
 use records::Record;
 
@@ -12,16 +9,31 @@ pub const HALF: u64 = 4294967296;
 // 2^31: as many times HALF is 2^63.
 const HALVES_OF_HIGH: u64 = 2147483648;
 
-// A sum that may pass 64 bits: high * 2^63 + low, with low below 2^63.
+// A sum that may pass 64 bits: high * 2^63 + low.
 #[derive(Clone, Copy)]
 pub struct Wide {
     pub high: u64,
     pub low: u64,
+    pub ghost low_fits: { low < 2 ^ 63 },
+}
+
+// The sum of no number.
+impl Default for Wide {
+    ghost use Rattle.places.specs.ExactSums.{IsNoSum};
+
+    ghost is_default = { IsNoSum };
+
+    fn default() -> Wide {
+        Wide { high: 0, low: 0 }
+    }
 }
 
 impl Wide {
+    ghost use Rattle.places.specs.ExactSums.{Added, wide};
+
+    // A number below 2^63 more.
     fn add_half(self, x: u64) -> Wide
-        requires { (self.low < 2 ^ 63) × (x < 2 ^ 63) × (self.high < 65536) }
+        requires { (x < 2 ^ 63) × (self.high < 65536) }
         ensures { Added self x 1 result }
     {
         let sum = self.low + x;
@@ -39,7 +51,7 @@ impl Wide {
 
     // One number more.
     pub fn add(self, x: u64) -> Wide
-        requires { (self.low < 2 ^ 63) × (self.high < 65535) }
+        requires { self.high < 65535 }
         ensures { Added self x 2 result }
     {
         if Record::MAX_AMOUNT < x {
@@ -54,8 +66,8 @@ impl Wide {
 
     // high * 2^32 + low more: sums of the halves of numbers.
     pub fn add_halves(self, high: u64, low: u64) -> Wide
-        requires { (self.low < 2 ^ 63) × (low < 2 ^ 63) × (self.high * 2 ^ 31 + high < 65535 * 2 ^ 31) }
-        ensures { (wide result ≡ wide self + (high * 2 ^ 32 + low)) × (result.low < 2 ^ 63) }
+        requires { (low < 2 ^ 63) × (self.high * 2 ^ 31 + high < 65535 * 2 ^ 31) }
+        ensures { wide result ≡ wide self + (high * 2 ^ 32 + low) }
     {
         let w = Wide {
             high: self.high + high / HALVES_OF_HIGH,
@@ -67,7 +79,7 @@ impl Wide {
 }
 
 // Two sums of the halves of numbers, by 2^32.
-#[derive(Clone, Copy)]
+#[derive(Clone, Copy, Default)]
 pub struct Halved {
     pub high: u64,
     pub low: u64,
@@ -87,26 +99,8 @@ impl Halved {
 }
 
 // What was sent and what was received.
-#[derive(Clone, Copy)]
+#[derive(Clone, Copy, Default)]
 pub struct Flows {
     pub sent: Halved,
     pub received: Halved,
-}
-
-// The balances added.
-pub fn add_balances(balances: &[u64], from: usize, n: usize, start: Wide) -> Wide
-    requires { (from + n ≤ length balances.now) × (start.low < 2 ^ 63) × (start.high + 2 * n < 65535) }
-    ensures { Added start (sum_at (λ (i : ℕ). get_or balances.now i 0) from n) (2 * n) result }
-{
-    let mut high: u64 = 0;
-    let mut low: u64 = 0;
-    let end = from + n;
-    let mut i = from;
-    while i < end {
-        let b = balances[i];
-        high += b / HALF;
-        low += b % HALF;
-        i += 1;
-    }
-    start.add_halves(high, low)
 }

@@ -1,5 +1,6 @@
 // An index of a ledger's numbers beside its table, so that the place of a number is found mostly without a scan: the chain of a number,
 // and a place as the index keeps it. What walks the chains is in crates/table.
+// Kept: chains of places in an array and no map: the library allocates nothing (docs/DECISIONS.md, 55).
 ghost use Rattle.std.specs.Prelude.{◌+◌, ◌%◌, ◌<◌, ◌≡◌};
 ghost use Rattle.ledgers.specs.Limits.{capacity};
 ghost use Rattle.places.specs.NumberIndex.{chain_count};

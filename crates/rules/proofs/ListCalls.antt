@@ -1,7 +1,7 @@
 -- A call with a list, one record after the other: what a loop over the list's bytes cites. Assumes nothing.
 use Rattle.wire.proofs.Prelude.{List, [], ◌++◌, ◌+◌, ◌<◌, ◌∷◌, ◌≡◌, ◌≤◌, add-suc, add-zero, ap, arith, drop, inl, inr, length, length-drop}
 use Rattle.wire.proofs.Prelude.{refl, suc, suc-add, take, zero, zero-add, ℕ}
-use Rattle.answers.specs.declared.Answer.TheVariants.{Passed, Refused}
+use Rattle.answers.specs.Answers.{Passed, Refused}
 use Rattle.rules.proofs.Lists.{zero_or_more}
 use Rattle.rules.specs.Calls.{Call, Checker, InTurn, call, call_list, call_one, handed, if_accepted, list, one, records_in, state_after}
 use Rattle.rules.specs.Calls.{ListsInTurn}

@@ -1,7 +1,7 @@
 -- No call in an accepted state answers 3. Assumes nothing.
 use Rattle.wire.proofs.Prelude.{List, ◌∙◌, ◌≡◌, refl, true, ℕ}
 use Rattle.answers.specs.Answers.{answer}
-use Rattle.answers.specs.declared.Answer.TheVariants.{Refused}
+use Rattle.answers.specs.Answers.{Refused}
 use Rattle.rules.proofs.Numbers.{Other, other_numeral, others}
 use Rattle.rules.proofs.Runs.{never_both, outcome, passes, refuses}
 use Rattle.rules.specs.Calls.{Call, Checker, call}

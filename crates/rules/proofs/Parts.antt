@@ -3,8 +3,8 @@ use Rattle.wire.proofs.Prelude.{Bool, List, [], ◌+◌, ◌-◌, ◌<◌, ◌�
 use Rattle.wire.proofs.Prelude.{false, length, length-drop, min, min-zero, refl, suc, suc-min-suc, sym, take}
 use Rattle.wire.proofs.Prelude.{true, zero, zero-min, ℕ}
 use Rattle.answers.specs.Answers.{answer}
-use Rattle.answers.specs.declared.Answer.{Answer}
-use Rattle.answers.specs.declared.Answer.TheVariants.{Passed, Refused}
+use Rattle.answers.specs.Answers.{Answer}
+use Rattle.answers.specs.Answers.{Passed, Refused}
 use Rattle.records.proofs.Formed.{read_formed}
 use Rattle.records.specs.Records.{formed, reading, record_in, words_of}
 use Rattle.records.specs.declared.Words.{Words}

@@ -1,7 +1,7 @@
 -- The records that calls of bytes hand in and pass are bytes, and what they read as can be read. Assumes nothing.
 use Rattle.wire.proofs.Prelude.{List, [], ◌++◌, ◌<◌, ◌∷◌, ◌≡◌, ap, arith, drop, inl, inr, length, suc, sym, zero, ℕ, ⊎_elim}
-use Rattle.answers.specs.declared.Answer.{Answer}
-use Rattle.answers.specs.declared.Answer.TheVariants.{Passed, Refused}
+use Rattle.answers.specs.Answers.{Answer}
+use Rattle.answers.specs.Answers.{Passed, Refused}
 use Rattle.ledgers.specs.Ledgers.{ledger_of}
 use Rattle.records.proofs.Exactly.{encoding_reads, reads_exactly}
 use Rattle.records.specs.Records.{EncodingReads, Readable, ReadsExactly, encoding, reading}

@@ -2,7 +2,7 @@
 -- records pass in turn. Assumes nothing.
 use Rattle.wire.proofs.Prelude.{List, [], ◌++◌, ◌∙◌, ◌∷◌, ◌≡◌, append_assoc, append-nil, arith, dichotomy, inl, inr, refl, suc, sym, true}
 use Rattle.wire.proofs.Prelude.{ℕ}
-use Rattle.answers.specs.declared.Answer.TheVariants.{Passed, Refused}
+use Rattle.answers.specs.Answers.{Passed, Refused}
 use Rattle.rules.proofs.ListCalls.{call_list_lem, list_all}
 use Rattle.rules.proofs.Lists.{never_both_tests, zero_or_more}
 use Rattle.rules.specs.Calls.{Call, Checker, InTurn, Result, call, call_list, call_one, handed, if_passed, one, run, state_after}

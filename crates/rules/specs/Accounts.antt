@@ -1,7 +1,7 @@
 -- Which account of a record is not open (document 02, U1): what 22 and 51 say of the record that got them. Assumes nothing.
 use Rattle.std.specs.Prelude.{◌<◌, ◌≤◌, ℕ, ◌↔◌, ◌≡◌}
-use Rattle.answers.specs.declared.Answer.{Answer}
-use Rattle.answers.specs.declared.Answer.TheVariants.{Refused}
+use Rattle.answers.specs.Answers.{Answer}
+use Rattle.answers.specs.Answers.{Refused}
 use Rattle.ledgers.specs.Ledgers.{receiver_ledger, sender_ledger}
 use Rattle.rules.specs.Rules.{Ledger, Record}
 

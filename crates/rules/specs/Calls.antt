@@ -2,8 +2,8 @@
 -- both validators. A comment in brackets names the sentence of document 01 that a definition renders. Assumes nothing.
 use Rattle.std.specs.Prelude.{ℕ, zero, suc, ◌≡◌, Bool, true, false, List, [], ◌∷◌, ◌++◌, length}
 use Rattle.answers.specs.Answers.{answer, unless_refused}
-use Rattle.answers.specs.declared.Answer.{Answer}
-use Rattle.answers.specs.declared.Answer.TheVariants.{Passed, Refused}
+use Rattle.answers.specs.Answers.{Answer}
+use Rattle.answers.specs.Answers.{Passed, Refused}
 use Rattle.ledgers.specs.Ledgers.{ledger_of}
 use Rattle.records.specs.Records.{reading}
 use Rattle.rules.specs.Lists.{cut}

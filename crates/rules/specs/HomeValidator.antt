@@ -2,7 +2,7 @@
 -- what is claimed of it: the second half of demand 3. Assumes nothing.
 use Rattle.std.specs.Prelude.{ℕ, ◌+◌, ◌-◌, ◌^◌, ◌≤◌, suc, ◌<◌, ◌≡◌, Bool, true, false, cond, List, [], ◌∷◌, ◌++◌, ◌↔◌, eqb, ltb, leb, length}
 use Rattle.answers.specs.Answers.{or_else, refuse}
-use Rattle.answers.specs.declared.Answer.TheVariants.{Passed, Refused}
+use Rattle.answers.specs.Answers.{Passed, Refused}
 use Rattle.ledgers.specs.Ledgers.{ledger_of}
 use Rattle.records.specs.Records.{reading, reading_refusal}
 use Rattle.rules.specs.Calls.{Call, CallBytes, Checker, KeepsAccepted, call, handed, one, passed_records, records_on, run}

@@ -2,7 +2,7 @@
 -- first half of demand 3. The capacity, the records that it holds of a ledger, is a parameter. Assumes nothing.
 use Rattle.std.specs.Prelude.{ℕ, suc, ◌+◌, ◌≤◌, ◌<◌, ◌≡◌, Bool, true, false, not, ◌||◌, List, [], ◌∷◌, ◌↔◌, eqb, ltb, leb, length}
 use Rattle.answers.specs.Answers.{or_else, refuse}
-use Rattle.answers.specs.declared.Answer.TheVariants.{Passed, Refused}
+use Rattle.answers.specs.Answers.{Passed, Refused}
 use Rattle.ledgers.specs.Ledgers.{ledger_of}
 use Rattle.ledgers.specs.Limits.{account_limit, max_amount}
 use Rattle.records.specs.Records.{reading}

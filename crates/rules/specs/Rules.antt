@@ -14,8 +14,8 @@ pub use Rattle.ledgers.specs.declared.Ledger.TheVariants.{Far, Home}
 pub use Rattle.ledgers.specs.declared.Kind.{Kind}
 pub use Rattle.ledgers.specs.declared.Kind.TheVariants.{Local, Receiving, Sending}
 pub use Rattle.records.specs.declared.Record.{Record}
-pub use Rattle.records.specs.declared.Reading.{Reading}
-pub use Rattle.records.specs.declared.Reading.TheVariants.{Read, Unreadable}
+pub use Rattle.records.specs.Records.{Reading}
+pub use Rattle.records.specs.Records.{Read, Unreadable}
 pub use Rattle.tariffs.specs.declared.Tariff.{Tariff}
 
 -- ## The state

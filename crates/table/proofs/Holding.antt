@@ -1,14 +1,14 @@
 -- Words that pass the tests by limits are those that a ledger may hold. Assumes nothing.
 use Rattle.wire.proofs.Prelude.{Bool, List, [], ◌%◌, ◌&&◌, ◌*◌, ◌+◌, ◌/◌, ◌<◌, ◌^◌, ◌∙◌, ◌∷◌, ◌≡◌, ◌≤◌, ap, arith, cond, div-add-mod}
-use Rattle.wire.proofs.Prelude.{eq-eqb, eqb, eqb-true, false, get_or, le-leb, leb, leb-true, lt-ltb, ltb, ltb-true, refl, subst, sym, true}
-use Rattle.wire.proofs.Prelude.{zero, ℕ}
+use Rattle.wire.proofs.Prelude.{eq-eqb, eqb, eqb-true, false, get_or, le-leb, leb, leb-true, lt-ltb, ltb, ltb-true, refl, sym, true}
+use Rattle.wire.proofs.Prelude.{ℕ}
 use Rattle.ledgers.specs.Ledgers.{counterpart, kind_at, ledger_at, ledger_byte, receiver_ledger, sender_ledger}
 use Rattle.ledgers.specs.Limits.{account_limit, max_amount}
 use Rattle.records.proofs.Exactly.{kind_ledger, ledger_bound}
 use Rattle.records.proofs.Formed.{facts_formed, formed_facts}
 use Rattle.records.specs.Records.{formed, reading_words, record_in, within}
 use Rattle.records.specs.declared.Words.{Words}
-use Rattle.rules.proofs.Bytes.{at_byte, byte_at, byte_only, receiver_byte, same_own, sender_byte}
+use Rattle.rules.proofs.Bytes.{at_byte, byte_only, receiver_byte, same_own, sender_byte}
 use Rattle.rules.proofs.Lists.{never_both_tests}
 use Rattle.rules.proofs.PairAccepted.{allowed_held, held_allowed_lem}
 use Rattle.rules.specs.Lists.{any}
@@ -194,12 +194,11 @@ module _ (L : Ledger) (own other : ℕ) (ho : own ≤ account_limit) (ht : other
       same_tests _ _ (λ h. of_holds L (accounts_by L own other) w (below_holds h))
       (λ h. holds_below (holds_of L (accounts_by L own other) w h))
 
--- so they are with the ledger's byte and the limits in hand
-pub below_at : (l own other : ℕ) (bases senders receivers : List ℕ) (w : Words) (d : ℕ) → l ≤ 1 → own ≤ account_limit
-    → other ≤ account_limit → bases ≡ head_bases l → senders ≡ sender_limits own other → receivers ≡ receiver_limits own other
+-- so they are with the limits in hand
+pub below_at : (L : Ledger) (own other : ℕ) (bases senders receivers : List ℕ) (w : Words) (d : ℕ) → own ≤ account_limit
+    → other ≤ account_limit → bases ≡ head_bases (ledger_byte L) → senders ≡ sender_limits own other → receivers ≡ receiver_limits own other
     → w.head < 2 ^ 64 → w.tail < 2 ^ 64 → d < 2 ^ 64 → (d + get_or bases (w.head / 2 ^ 56 % 4) 0) % 2 ^ 64 ≡ w.head
-    → below d senders receivers w ≡ may_hold (ledger_at l) (accounts_by (ledger_at l) own other) (reading_words w)
-below_at l own other bases senders receivers w d hl ho ht eb es er hh hv hd e =
+    → below d senders receivers w ≡ may_hold L (accounts_by L own other) (reading_words w)
+below_at L own other bases senders receivers w d ho ht eb es er hh hv hd e =
     rw (es, er)
-    (below_is (ledger_at l) own other ho ht w hh hv d hd
-    (ap (λ (b : List ℕ). (d + get_or b (w.head / 2 ^ 56 % 4) 0) % 2 ^ 64) (ap head_bases (byte_at l hl) ∙ sym eb) ∙ e))
+    (below_is L own other ho ht w hh hv d hd (ap (λ (b : List ℕ). (d + get_or b (w.head / 2 ^ 56 % 4) 0) % 2 ^ 64) (sym eb) ∙ e))

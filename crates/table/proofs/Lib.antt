@@ -4,7 +4,6 @@ pub mod Limits
 pub mod Holding
 pub mod Records
 pub mod Numbers
-pub mod Arriving
 pub mod Scanning
 pub mod Walking
 pub mod Crossings

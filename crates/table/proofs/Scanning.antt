@@ -1,11 +1,9 @@
 -- Tests of four places at a time. Assumes nothing.
-use Rattle.wire.proofs.Prelude.{Bool, List, ◌*◌, ◌+◌, ◌-◌, ◌<◌, ◌||◌, ◌∙◌, ◌≡◌, ap, ap₂, arith, eqb, false, get_or, or_assoc, or-false}
+use Rattle.wire.proofs.Prelude.{Bool, List, ◌*◌, ◌+◌, ◌-◌, ◌<◌, ◌||◌, ◌∙◌, ◌≡◌, ap, ap₂, arith, eqb, eqb-false, false, get_or, or_assoc, or-false}
 use Rattle.wire.proofs.Prelude.{refl, suc, sym, true, zero, ℕ}
 use Rattle.places.specs.OverPlaces.{any_at}
 use Rattle.rules.proofs.Lists.{or_neither}
-use Rattle.table.proofs.Arriving.{other_number}
-use Rattle.table.specs.Table.{arrival_in, head_at, numbered_at, sent_at, used_at}
-use Rattle.wire.proofs.Lists.{every_not}
+use Rattle.table.specs.Table.{number_at, numbered_at}
 
 -- four tests and a rest
 regroup : (a b c d r : Bool) → (a || (b || (c || (d || r)))) ≡ ((a || (b || (c || (d || false)))) || r)
@@ -61,20 +59,15 @@ module _ (x : ℕ) (s : List ℕ) (from : ℕ) where
       (or_assoc (numbered_at x s from i) (numbered_at x s from (i + 1)) (numbered_at x s from (i + 2) || numbered_at x s from (i + 3))
       ∙ sym (four_are (numbered_at x s from) i))
 
-  -- where no place has the number, none meets a test that asks for it
-  pub unnumbered : (p : ℕ → Bool) → ((j : ℕ) → numbered_at x s from j ≡ false → p j ≡ false) → (i n : ℕ)
+  -- where no place has the number, none meets a test that only places with it meet
+  pub unnumbered : (p : ℕ → Bool) (y : ℕ) → x ≡ y → ((j : ℕ) → p j ≡ true → y ≡ number_at s from j) → (i n : ℕ)
       → any_at (numbered_at x s from) i n ≡ false → any_at p i n ≡ false
   unfolding any_at
-  unnumbered p asks i zero h = refl
-  unnumbered p asks i (suc n) h =
+  unnumbered p y e only i zero h = refl
+  unnumbered p y e only i (suc n) h =
       let u = or_neither (numbered_at x s from i) (any_at (numbered_at x s from) (suc i) n) h in
-      ap₂ ◌||◌ (asks i u.0) (unnumbered p asks (suc i) n u.1)
-
-  -- one for the number in a class
-  pub unused : (arrival : Bool) (j : ℕ) → numbered_at x s from j ≡ false → used_at arrival x s from j ≡ false
-  unused arrival j h = sym (other_number arrival (arrival_in (head_at s from j)) (numbered_at x s from j) h)
-
-  -- and one for a number, a head and an amount
-  pub unsent : (head amount j : ℕ) → numbered_at x s from j ≡ false → sent_at x head amount s from j ≡ false
-  unfolding sent_at
-  unsent head amount j h = every_not 0 _ h
+      ap₂ ◌||◌ (without (p i) (only i) u.0) (unnumbered p y e only (suc i) n u.1)
+    where
+      without : (t : Bool) → (t ≡ true → y ≡ number_at s from i) → numbered_at x s from i ≡ false → t ≡ false
+      without false o q = refl
+      without true o q = absurd (eqb-false _ _ q (e ∙ o refl))

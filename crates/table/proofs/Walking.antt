@@ -1,21 +1,9 @@
 -- Walks down the chain of a number of a table, for a test that only places with the number meet. Assumes nothing.
-use Rattle.wire.proofs.Prelude.{Bool, List, ◌%◌, ◌+◌, ◌-◌, ◌<◌, ◌≡◌, eqb, eqb-true, false, get_or, true, ℕ}
-use Rattle.places.proofs.Walks.{WalkOver, over_end, over_first, over_found, over_lower, over_next}
+use Rattle.wire.proofs.Prelude.{Bool, List, ◌%◌, ◌+◌, ◌-◌, ◌<◌, ◌≡◌, false, get_or, refl, sym, true, ℕ}
+use Rattle.places.proofs.Walks.{WalkOver, over_end, over_first, over_found, over_next}
 use Rattle.places.specs.NumberIndex.{chain_count}
 use Rattle.places.specs.OverPlaces.{any_at}
-use Rattle.rules.specs.Lists.{same_truth}
-use Rattle.table.specs.Table.{IndexOf, arrival_in, head_at, number_at, sent_at, used_at}
-use Rattle.wire.proofs.Lists.{and_both, every_first}
-
--- a place with a number in a class has the number
-pub used_numbered : (arrival : Bool) (x : ℕ) (s : List ℕ) (from j : ℕ) → used_at arrival x s from j ≡ true → x ≡ number_at s from j
-used_numbered arrival x s from j h =
-    eqb-true x (number_at s from j) (and_both (same_truth arrival (arrival_in (head_at s from j))) (eqb x (number_at s from j)) h).1
-
--- and so has a place with a number, a head and an amount
-pub sent_numbered : (x head amount : ℕ) (s : List ℕ) (from j : ℕ) → sent_at x head amount s from j ≡ true → x ≡ number_at s from j
-unfolding sent_at
-sent_numbered x head amount s from j h = eqb-true x (number_at s from j) (every_first _ _ h).0
+use Rattle.table.specs.Table.{IndexOf, number_at}
 
 -- a walk for a test of places with number x
 abbrev pub WalkFor : List ℕ → ℕ → ℕ → (ℕ → Bool) → ℕ → ℕ → Type 0
@@ -38,10 +26,6 @@ module _ (s : List ℕ) (from : ℕ) (index : List ℕ) (base n : ℕ) (c : Inde
     pub walk_next : (to : ℕ) → 0 < at → p (at - 1) ≡ false → to ≡ get_or index (base + chain_count + (at - 1)) 0 → WalkFor s from n p x to
     walk_next = over_next (number_at s from) heads nexts n c p x has at w
 
-    -- to a lower place
-    pub walk_lower : (to : ℕ) → 0 < at → to ≡ get_or index (base + chain_count + (at - 1)) 0 → to < at
-    walk_lower = over_lower (number_at s from) heads nexts n c p x has at w
-
     -- it finds a place
     pub walk_found : 0 < at → p (at - 1) ≡ true → any_at p 0 n ≡ true
     walk_found = over_found (number_at s from) heads nexts n c p x has at w
@@ -49,3 +33,7 @@ module _ (s : List ℕ) (from : ℕ) (index : List ℕ) (base n : ℕ) (c : Inde
     -- or none meets the test
     pub walk_end : at ≡ 0 → any_at p 0 n ≡ false
     walk_end = over_end (number_at s from) heads nexts n c p x has at w
+
+  -- none meets it where the chain is empty
+  pub chain_empty : (h : ℕ) → h ≡ x % chain_count → get_or index (base + h) 0 ≡ 0 → any_at p 0 n ≡ false
+  chain_empty h q z = walk_end 0 (walk_first 0 h q (sym z)) refl

@@ -1,8 +1,8 @@
 -- A ledger's table in the words of a state: the record at place i is kept as the four words of its 32 bytes, from word `from + 4 * i` on,
 -- and is what they read as. Published contracts cite the first two parts alone. Assumes nothing.
-use Rattle.std.specs.Prelude.{◌≡◌, ℕ, ◌+◌, ◌*◌, ◌%◌, ◌^◌, ◌<◌, Bool, false, cond, not, ◌&&◌, ◌||◌, List, [], ◌∷◌, take, drop, ◌==◌, slice_index, slice_set}
-use Rattle.ledgers.specs.Ledgers.{kind_at, ledger_at}
-use Rattle.ledgers.specs.Limits.{capacity}
+use Rattle.std.specs.Prelude.{◌≡◌, ℕ, ◌+◌, ◌*◌, ◌%◌, ◌^◌, ◌<◌, ◌≤◌, length, Bool, false, cond, not, ◌&&◌, ◌||◌, List, [], ◌∷◌, take, drop, ◌==◌, slice_index, slice_set}
+use Rattle.ledgers.specs.Ledgers.{kind_at, ledger_at, ledger_byte}
+use Rattle.ledgers.specs.Limits.{account_limit, capacity}
 use Rattle.ledgers.specs.declared.Ledger.{Ledger}
 use Rattle.ledgers.specs.declared.Ledger.TheVariants.{Far, Home}
 use Rattle.places.specs.ExactSums.{Halves}
@@ -11,8 +11,8 @@ use Rattle.places.specs.NumberIndex.{Chains, chain_count}
 use Rattle.places.specs.OverPlaces.{any_at, list_at, sum_at}
 use Rattle.places.specs.declared.exact_sums.Flows.{Flows}
 use Rattle.records.specs.Records.{reading_words, record_in, within}
-use Rattle.records.specs.declared.Reading.{Reading}
-use Rattle.records.specs.declared.Reading.TheVariants.{Read, Unreadable}
+use Rattle.records.specs.Records.{Reading}
+use Rattle.records.specs.Records.{Read, Unreadable}
 use Rattle.records.specs.declared.Record.{Record}
 use Rattle.records.specs.declared.Words.{Words}
 use Rattle.rules.specs.Lists.{same_truth}
@@ -94,6 +94,15 @@ sender_limits own other = 0 ∷ own * 2 ^ 32 ∷ own * 2 ^ 32 ∷ other * 2 ^ 32
 abbrev pub receiver_limits : ℕ → ℕ → List ℕ
 receiver_limits own other = 0 ∷ own ∷ other ∷ own ∷ []
 
+-- the arrays of limits of a ledger, for its own number of accounts and the other ledger's
+abbrev pub LimitsOf : Ledger → ℕ → ℕ → List ℕ → List ℕ → List ℕ → Type 0
+LimitsOf l own other bases senders receivers =
+    (own ≤ account_limit)
+    × (other ≤ account_limit)
+    × (bases ≡ head_bases (ledger_byte l))
+    × (senders ≡ sender_limits own other)
+    × (receivers ≡ receiver_limits own other)
+
 -- ## For inner functions: numbers
 
 -- the number of the record at a place
@@ -128,6 +137,11 @@ index_length = chain_count + capacity
 abbrev pub IndexOf : List ℕ → ℕ → List ℕ → ℕ → ℕ → Type 0
 IndexOf s from index base n =
     Chains (number_at s from) (λ (h : ℕ). slice_index index (base + h)) (λ (k : ℕ). slice_index index (base + chain_count + k)) n
+
+-- n records from a word on, and the index of their numbers from an element on
+abbrev pub Indexed : List ℕ → ℕ → ℕ → List ℕ → ℕ → Type 0
+Indexed s from n index base =
+    (from + 4 * n ≤ length s) × (base + chain_count + n ≤ length index) × IndexOf s from index base n
 
 -- the index of no number: its elements are zero
 abbrev pub EmptyIndex : List ℕ → ℕ → Type 0

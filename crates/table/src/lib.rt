@@ -1,27 +1,36 @@
 // A ledger's table: held records of four words each, from a word of the state on, and the index of their numbers.
+// Kept: words, a start and a count, and no slices: the layouts and PairReady cite records_from and IndexOf over a state's words.
 #![tactic(auto)]
 
-ghost use Rattle.std.specs.Prelude.{◌≡◌, ◌+◌, ◌-◌, ◌*◌, ◌/◌, ◌%◌, ◌^◌, ◌<◌, ◌≤◌, true, not, ◌&&◌, length, if◌then◌else◌, slice_index, slice_index_or};
-ghost use Rattle.ledgers.specs.Ledgers.{ledger_at};
+ghost use Rattle.std.specs.Prelude.{◌≡◌, ◌+◌, ◌-◌, ◌*◌, ◌/◌, ◌%◌, ◌^◌, ◌<◌, ◌≤◌, ℕ, Bool, List, true, not, ◌&&◌, length, if◌then◌else◌};
+ghost use Rattle.std.specs.Prelude.{slice_index, slice_index_or, is_some, IfSome};
+ghost use Rattle.ledgers.specs.Ledgers.{ledger_byte};
 ghost use Rattle.ledgers.specs.Limits.{account_limit, capacity, max_amount};
 ghost use Rattle.places.specs.Amounts.{credit_by, debit_by, payee_by};
 ghost use Rattle.places.specs.NumberIndex.{Kept, chain_count};
 ghost use Rattle.places.specs.OverPlaces.{all_at, any_at, apart_at};
 ghost use Rattle.records.specs.Records.{reading_words};
 ghost use Rattle.rules.specs.Lists.{lowered, raised};
-ghost use Rattle.table.specs.Table.{accounts_by, head_bases, may_hold, may_hold_at, receiver_limits, sender_limits, words_at};
+ghost use Rattle.std.proofs.Props.{props};
+ghost use Rattle.table.specs.Table.{accounts_by, may_hold, may_hold_at, number_at, words_at};
+ghost use Rattle.table.specs.Table.{Indexed, LimitsOf};
+ghost use Rattle.table.specs.Sought.{sent_numbered, used_numbered};
 ghost use Rattle.table.specs.Table.{EmptyIndex, FlowsAt, IndexOf, arrival_in, backed_at, backed_by, flow_by, numbered_at};
 ghost use Rattle.table.specs.Table.{sending_head, sent_at, shared_at, stored, used_at, with_number, with_words};
 ghost use Rattle.tariffs.specs.Tariffs.{parts};
 
-use ledgers::Ledger;
-use places::{
-    CHAINS, Flows, HALF, Halved, as_index, charge_by, given_by, low_bits, next_place, payee_by,
-    taken_by,
-};
+use ledgers::{Kind, Ledger};
+use places::{CHAINS, Flows, HALF, charge_by, given_by, low_bits, next_place, payee_by, taken_by};
 use records::{FIRST_BYTE, FIRST_TWO_BYTES, Record, Words};
-use std::num::wrapping_sub_u64;
 use tariffs::Tariff;
+
+// The bytes of the kinds, as a head has them.
+// Kept: a head's kind is told as a number: arrival_in, flow_by and backed_by speak of any word, and no Kind has another byte.
+const LOCAL: u64 = Kind::LOCAL as u64;
+
+const SENDING: u64 = Kind::SENDING as u64;
+
+const RECEIVING: u64 = Kind::RECEIVING as u64;
 
 // ## Refusal 3 of one record
 
@@ -39,34 +48,6 @@ pub fn words_at(words: &[u64], from: usize, i: usize) -> Words
     }
 }
 
-// Of each kind the head of a record of the ledger with no accounts yet.
-fn head_bases(l: u64) -> [u64; 4]
-    requires { l ≤ 1 }
-    ensures { result ≡ head_bases l }
-{
-    [
-        0,
-        FIRST_BYTE + l * FIRST_TWO_BYTES,
-        2 * FIRST_BYTE + l * FIRST_TWO_BYTES,
-        3 * FIRST_BYTE + l * FIRST_TWO_BYTES,
-    ]
-}
-
-// Of each kind how far above it a head is whose sender is the first account that is not open.
-fn sender_limits(own: u64, other: u64) -> [u64; 4]
-    requires { (own ≤ account_limit) × (other ≤ account_limit) }
-    ensures { result ≡ sender_limits own other }
-{
-    [0, own * HALF, own * HALF, other * HALF]
-}
-
-// Of each kind the first receiver's account that is not open.
-fn receiver_limits(own: u64, other: u64) -> [u64; 4]
-    ensures { result ≡ receiver_limits own other }
-{
-    [0, own, other, own]
-}
-
 // The kind of a head, of four.
 fn kind_in(head: u64) -> usize
     ensures { result ≡ head / 72057594037927936 % 4 }
@@ -81,36 +62,65 @@ fn receiver_in(head: u64) -> u64
     head % 65536 * 65536 + head / 65536 % 65536
 }
 
-// Whether a ledger may hold the record in words. A head below the limit above the base of its kind, counted round 2^64, has a right kind,
-// the ledger's byte and an open sender; below the other limit it has an open receiver and zero bytes.
-fn may_hold<'a>(
-    bases: &'a [u64; 4],
-    senders: &'a [u64; 4],
-    receivers: &'a [u64; 4],
-    l: u64,
-    own: u64,
-    other: u64,
-    w: Words,
-) -> bool
-    requires { (l ≤ 1) × (own ≤ account_limit) × (other ≤ account_limit) × (bases.now ≡ head_bases l)
-        × (senders.now ≡ sender_limits own other) × (receivers.now ≡ receiver_limits own other) × (w.head < 2 ^ 64) × (w.tail < 2 ^ 64) }
-    ensures { result ≡ may_hold (ledger_at l) (accounts_by (ledger_at l) own other) (reading_words w) }
-{
-    let head = w.head;
-    let kind = kind_in(head);
-    if senders[kind] <= wrapping_sub_u64(head, bases[kind]) {
-        return false;
+// Of each kind the limits of a head of a ledger, by its own number of accounts and by the other ledger's.
+#[derive(Clone, Copy)]
+pub struct HeadLimits {
+    pub ledger: Ledger,
+    pub own: u64,
+    pub other: u64,
+    // Kept: three arrays by kind, which only new and may_hold see; a struct of three for each kind has the same twelve numbers.
+    // The head with no accounts yet.
+    bases: [u64; 4],
+    // How far above it a head is whose sender is the first account that is not open.
+    senders: [u64; 4],
+    // The first receiver's account that is not open.
+    receivers: [u64; 4],
+    ghost made: { LimitsOf ledger own other bases senders receivers } by { Prim.hlevel props },
+}
+
+impl HeadLimits {
+    // Those of a ledger, where it and the other one have so many accounts.
+    pub fn new(ledger: Ledger, own: u64, other: u64) -> HeadLimits
+        requires { (own ≤ account_limit) × (other ≤ account_limit) }
+        ensures { (result.ledger ≡ ledger) × (result.own ≡ own) × (result.other ≡ other) }
+    {
+        let byte = u64::from(u8::from(ledger)) * FIRST_TWO_BYTES;
+        HeadLimits {
+            ledger,
+            own,
+            other,
+            bases: [
+                0,
+                LOCAL * FIRST_BYTE + byte,
+                SENDING * FIRST_BYTE + byte,
+                RECEIVING * FIRST_BYTE + byte,
+            ],
+            senders: [0, own * HALF, own * HALF, other * HALF],
+            receivers: [0, own, other, own],
+        }
     }
-    if receivers[kind] <= receiver_in(head) {
-        return false;
+
+    // Whether the ledger may hold the record in words. A head below the limit above the base of its kind, counted round 2^64, has a right
+    // kind, the ledger's byte and an open sender; below the other limit it has an open receiver and zero bytes.
+    fn may_hold(&self, w: Words) -> bool
+        ensures { result ≡ may_hold self.now.ledger (accounts_by self.now.ledger self.now.own self.now.other) (reading_words w) }
+    {
+        let head = w.head;
+        let kind = kind_in(head);
+        if self.senders[kind] <= head.wrapping_sub(self.bases[kind]) {
+            return false;
+        }
+        if self.receivers[kind] <= receiver_in(head) {
+            return false;
+        }
+        if w.amount == 0 {
+            return false;
+        }
+        if Record::MAX_AMOUNT < w.amount {
+            return false;
+        }
+        w.tail == FIRST_BYTE
     }
-    if w.amount == 0 {
-        return false;
-    }
-    if Record::MAX_AMOUNT < w.amount {
-        return false;
-    }
-    w.tail == FIRST_BYTE
 }
 
 // ## Numbers
@@ -118,33 +128,89 @@ fn may_hold<'a>(
 // The elements of the index of a ledger's numbers: the heads of the chains, then the places.
 pub const INDEX: usize = CHAINS + Ledger::CAPACITY;
 
-// The steps down a chain after which the places are scanned instead.
-const STEPS: usize = 3;
+// The places of a chain that are looked at before all records are scanned instead.
+const LOOKS: usize = 4;
 
-// Whether the record with a head is an arrival: of a kind other than 1 and 2, which in a held record is 3.
+// Whether the record with a head is an arrival: of a kind that is neither a local's nor a sending's, in a held record an arrival's.
 fn is_arrival(head: u64) -> bool
     ensures { result ≡ arrival_in head }
 {
     let kind = head / FIRST_BYTE % 256;
-    if kind == 1 {
-        return false;
-    }
-    kind != 2
+    kind != LOCAL && kind != SENDING
 }
 
-// Whether the record at a place has the number, and is an arrival or not as asked: the numbers of arrivals are counted apart.
-fn used_at(words: &[u64], from: usize, i: usize, arrival: bool, x: u64) -> bool
-    requires { from + 4 * i + 4 ≤ length words.now }
-    ensures { result ≡ used_at arrival x words.now from i }
-{
-    let at = from + 4 * i;
-    if x != words[at + 1] {
-        return false;
+// What is looked for among records, which only those with the number looked for have.
+trait Sought: Copy {
+    // The number, and whether the record at a place has what is looked for.
+    ghost number: { Self → ℕ };
+
+    ghost has: { Self → List ℕ → ℕ → ℕ → Bool };
+
+    // The number.
+    fn number(self) -> u64
+        ensures { result ≡ number self };
+
+    // Whether the record at a place has it.
+    fn is_at(self, words: &[u64], from: usize, i: usize) -> bool
+        requires { from + 4 * i + 4 ≤ length words.now }
+        ensures { result ≡ has self words.now from i };
+
+    // What has it has the number.
+    ghost numbered: { (x : Self) (s : List ℕ) (from i : ℕ) → has x s from i ≡ true → number x ≡ number_at s from i };
+}
+
+// A number, of an arrival or of none: the numbers of arrivals are counted apart.
+#[derive(Clone, Copy)]
+struct Used {
+    arrival: bool,
+    number: u64,
+}
+
+impl Sought for Used {
+    ghost number = { λ x. x.number };
+
+    ghost has = { λ x. used_at x.arrival x.number };
+
+    ghost numbered = { λ x. used_numbered x.arrival x.number };
+
+    // Kept: number is a line in each impl, since a trait has no fields.
+    fn number(self) -> u64 {
+        self.number
     }
-    arrival == is_arrival(words[at])
+
+    fn is_at(self, words: &[u64], from: usize, i: usize) -> bool {
+        let at = from + 4 * i;
+        self.number == words[at + 1] && self.arrival == is_arrival(words[at])
+    }
+}
+
+// The number, the head and the amount of a record.
+#[derive(Clone, Copy)]
+struct Sent {
+    number: u64,
+    head: u64,
+    amount: u64,
+}
+
+impl Sought for Sent {
+    ghost number = { λ x. x.number };
+
+    ghost has = { λ x. sent_at x.number x.head x.amount };
+
+    ghost numbered = { λ x. sent_numbered x.number x.head x.amount };
+
+    fn number(self) -> u64 {
+        self.number
+    }
+
+    fn is_at(self, words: &[u64], from: usize, i: usize) -> bool {
+        let at = from + 4 * i;
+        self.number == words[at + 1] && self.head == words[at] && self.amount == words[at + 2]
+    }
 }
 
 // Whether one of four records from place i on has the number, in whichever class.
+// Kept: four comparisons and no loop: with a branch for each place the scan's time missed its bar (docs/SPEED.md).
 fn numbered_in_four(words: &[u64], from: usize, i: usize, x: u64) -> bool
     requires { from + 4 * i + 16 ≤ length words.now }
     ensures { result ≡ any_at (numbered_at x words.now from) i 4 }
@@ -155,104 +221,107 @@ fn numbered_in_four(words: &[u64], from: usize, i: usize, x: u64) -> bool
     first | last
 }
 
-// Whether one of four records from place i on has the number in the class asked for.
-fn used_in_four(words: &[u64], from: usize, i: usize, arrival: bool, x: u64) -> bool
-    requires { from + 4 * i + 16 ≤ length words.now }
-    ensures { result ≡ any_at (used_at arrival x words.now from) i 4 }
-{
-    if !numbered_in_four(words, from, i, x) {
-        return false;
-    }
-    if used_at(words, from, i, arrival, x) {
-        return true;
-    }
-    if used_at(words, from, i + 1, arrival, x) {
-        return true;
-    }
-    if used_at(words, from, i + 2, arrival, x) {
-        return true;
-    }
-    used_at(words, from, i + 3, arrival, x)
-}
-
-// Whether one of the records from place k on, before place n, has the number in the class asked for.
-fn scanned_from(words: &[u64], from: usize, k: usize, n: usize, arrival: bool, x: u64) -> bool
+// Whether one of the records from place k on, before place n, has what is looked for.
+fn scanned_from<S: Sought>(words: &[u64], from: usize, k: usize, n: usize, sought: S) -> bool
     requires { (from + 4 * n ≤ length words.now) × (k ≤ n) }
-    ensures { result ≡ any_at (used_at arrival x words.now from) k (n - k) }
+    ensures { result ≡ any_at (S.has sought words.now from) k (n - k) }
 {
-    let mut i = k;
-    while i < n {
-        if used_at(words, from, i, arrival, x) {
+    for i in k..n {
+        if sought.is_at(words, from, i) {
             return true;
         }
-        i += 1;
     }
     false
 }
 
-// Whether one of n records has the number in the class asked for, by a scan of four places at a time.
-fn scanned(words: &[u64], from: usize, n: usize, arrival: bool, x: u64) -> bool
-    requires { from + 4 * n ≤ length words.now }
-    ensures { result ≡ any_at (used_at arrival x words.now from) 0 n }
+// Whether one of four records from place i on has it: most often none has even the number.
+fn is_in_four<S: Sought>(words: &[u64], from: usize, i: usize, sought: S) -> bool
+    requires { from + 4 * i + 16 ≤ length words.now }
+    ensures { result ≡ any_at (S.has sought words.now from) i 4 }
 {
+    if !numbered_in_four(words, from, i, sought.number()) {
+        return false;
+    }
+    scanned_from(words, from, i, i + 4, sought)
+}
+
+// Whether one of n records has it, by a scan of four places at a time.
+fn scanned<S: Sought>(words: &[u64], from: usize, n: usize, sought: S) -> bool
+    requires { from + 4 * n ≤ length words.now }
+    ensures { result ≡ any_at (S.has sought words.now from) 0 n }
+{
+    // Kept: a for over n / 4 was tried: 1.4 of this time (the bar is 1.05) where all numbers share their low bits.
     let mut i = 0;
     while i + 3 < n {
-        if used_in_four(words, from, i, arrival, x) {
+        if is_in_four(words, from, i, sought) {
             return true;
         }
         i += 4;
     }
-    scanned_from(words, from, i, n, arrival, x)
+    scanned_from(words, from, i, n, sought)
 }
 
-// Whether one of n records has the number in the class asked for, by a walk down its chain.
-fn walked<'a>(
-    words: &'a [u64],
-    index: &'a [u16],
+// Whether one of so many records has what is looked for, by a walk down the chain of its number.
+// Kept: five values and no Held, in a call of its own: laid into loops that seldom need it, it took up to 1.4 of the time (the bar is 1.05).
+#[inline(never)]
+fn walk<S: Sought>(
+    words: &[u64],
     from: usize,
+    count: usize,
+    index: &[u16],
     base: usize,
-    n: usize,
-    arrival: bool,
-    x: u64,
+    sought: S,
 ) -> bool
-    requires { (from + 4 * n ≤ length words.now) × (base + chain_count + n ≤ length index.now)
-        × IndexOf words.now from index.now base n }
-    ensures { result ≡ any_at (used_at arrival x words.now from) 0 n }
+    requires { Indexed words.now from count index.now base }
+    ensures { result ≡ any_at (S.has sought words.now from) 0 count }
 {
-    let mut at = as_index(index[base + low_bits(x)]);
-    let mut steps = 0;
-    while 0 < at {
+    let mut at = usize::from(index[base + low_bits(sought.number())]);
+    for _ in 0..LOOKS {
+        if at == 0 {
+            return false;
+        }
         let j = at - 1;
-        if used_at(words, from, j, arrival, x) {
+        if sought.is_at(words, from, j) {
             return true;
         }
-        if STEPS <= steps {
-            return scanned(words, from, n, arrival, x);
-        }
-        at = as_index(index[base + CHAINS + j]);
-        steps += 1;
+        at = usize::from(index[base + CHAINS + j]);
     }
-    false
+    scanned(words, from, count, sought)
 }
 
-// Whether one of n records has the number, among arrivals or among locals and sendings. Most often its chain is empty.
-pub fn is_used<'a>(
-    words: &'a [u64],
-    index: &'a [u16],
-    from: usize,
-    base: usize,
-    n: usize,
-    arrival: bool,
-    x: u64,
-) -> bool
-    requires { (from + 4 * n ≤ length words.now) × (base + chain_count + n ≤ length index.now)
-        × IndexOf words.now from index.now base n }
-    ensures { result ≡ any_at (used_at arrival x words.now from) 0 n }
-{
-    if index[base + low_bits(x)] == 0 {
-        return false;
+// The records that a ledger holds, so many from a word on, and the index of their numbers from an element on. Its methods are laid where
+// they are called: a pointer to it in memory would have a state that is handed in by value copied once more.
+#[derive(Clone, Copy)]
+pub struct Held<'a> {
+    pub words: &'a [u64],
+    pub from: usize,
+    pub count: usize,
+    pub index: &'a [u16],
+    pub base: usize,
+    pub ghost indexed: { Indexed words.now from count index.now base } by { Prim.hlevel props },
+}
+
+impl<'a> Held<'a> {
+    // Whether one of the records has what is looked for, by a walk down the chain of its number.
+    #[inline(always)]
+    fn walked<S: Sought>(self, sought: S) -> bool
+        ensures { result ≡ any_at (S.has sought self.entry.words.now self.entry.from) 0 self.entry.count }
+    {
+        walk(
+            self.words, self.from, self.count, self.index, self.base, sought,
+        )
     }
-    walked(words, index, from, base, n, arrival, x)
+
+    // Whether one of the records has the number, among arrivals or among locals and sendings. Most often its chain is empty.
+    #[inline(always)]
+    pub fn is_used(self, arrival: bool, number: u64) -> bool
+        ensures { result ≡ any_at (used_at arrival number self.entry.words.now self.entry.from) 0 self.entry.count }
+    {
+        if self.index[self.base + low_bits(number)] == 0 {
+            return false;
+        }
+        self.walked(Used { arrival, number })
+    }
 }
 
 // The number of the record at place n joins the index of those before it.
@@ -265,228 +334,79 @@ pub fn add_number(index: &mut [u16], base: usize, n: usize, x: u64)
     index[h] = next_place(n);
 }
 
-// Whether none of n records has the number in the class asked for; where so, it joins their index as that of the next place, whose element
-// is still zero.
+// Whether none of n records has the number; where so, it joins their index as that of the next place, whose element is still zero.
 fn add_if_unused<'a, 'b>(
     words: &'a [u64],
-    index: &'b mut [u16],
     from: usize,
-    base: usize,
     n: usize,
-    arrival: bool,
-    x: u64,
+    index: &'b mut [u16],
+    base: usize,
+    used: Used,
 ) -> bool
-    requires { (from + 4 * n ≤ length words.now) × (base + chain_count + n < length index.old) × (n < capacity)
-        × IndexOf words.now from index.old base n × (slice_index index.old (base + chain_count + n) ≡ 0) }
-    ensures answers { result ≡ not (any_at (used_at arrival x words.now from) 0 n) }
-    ensures leaves { index.new ≡ (if result then with_number index.old base n x else index.old) }
+    requires { Indexed words.now from n index.old base × (base + chain_count + n < length index.old) × (n < capacity)
+        × (slice_index index.old (base + chain_count + n) ≡ 0) }
+    ensures answers { result ≡ not (any_at (used_at used.arrival used.number words.now from) 0 n) }
+    ensures leaves { index.new ≡ (if result then with_number index.old base n used.number else index.old) }
 {
-    let h = base + low_bits(x);
+    let h = base + low_bits(used.number);
     if index[h] == 0 {
         index[h] = next_place(n); // the first of its chain
         return true;
     }
-    if walked(words, index, from, base, n, arrival, x) {
+    let held = Held {
+        words,
+        from,
+        count: n,
+        index: &*index,
+        base,
+    };
+    if held.walked(used) {
         return false;
     }
-    add_number(index, base, n, x);
+    add_number(index, base, n, used.number);
     true
 }
 
-// Whether a ledger may hold each of n records and no two of a class share a number; where so, their index is made in place of an empty one.
+// Whether a ledger with these limits may hold each of n records and no two of a class share a number; where so, their index is made in
+// place of an empty one.
 pub fn hold_indexed<'a, 'b>(
     words: &'a [u64],
-    index: &'b mut [u16],
     from: usize,
-    base: usize,
     n: usize,
-    l: u64,
-    own: u64,
-    other: u64,
+    index: &'b mut [u16],
+    base: usize,
+    limits: HeadLimits,
 ) -> bool
     requires { (from + 4 * n ≤ length words.now) × (base + chain_count + n ≤ length index.old) × (n ≤ capacity)
-        × EmptyIndex index.old base × (l ≤ 1) × (own ≤ account_limit) × (other ≤ account_limit) }
-    ensures holds { result ≡ (all_at (may_hold_at words.now from (ledger_at l) (accounts_by (ledger_at l) own other)) 0 n
-        && apart_at (shared_at words.now from) 0 n) }
+        × EmptyIndex index.old base }
+    ensures holds { result ≡ (all_at (may_hold_at words.now from limits.ledger
+        (accounts_by limits.ledger limits.own limits.other)) 0 n && apart_at (shared_at words.now from) 0 n) }
     ensures indexed { result ≡ true → IndexOf words.now from index.new base n }
     ensures others { Kept base (base + chain_count + n) index.old index.new }
 {
-    let bases = head_bases(l);
-    let senders = sender_limits(own, other);
-    let receivers = receiver_limits(own, other);
-    let mut i = 0;
-    while i < n {
+    for i in 0..n {
         let w = words_at(words, from, i);
-        if !may_hold(&bases, &senders, &receivers, l, own, other, w) {
+        if !limits.may_hold(w) {
             return false;
         }
-        if !add_if_unused(words, index, from, base, i, is_arrival(w.head), w.number) {
+        let used = Used {
+            arrival: is_arrival(w.head),
+            number: w.number,
+        };
+        if !add_if_unused(words, from, i, index, base, used) {
             return false;
         }
-        i += 1;
     }
     true
 }
 
 // ## Arrivals and their sendings
 
-// The head of an arrival's sending, by the byte of the ledger that holds the sending and the arrival's own head.
-pub fn sending_head(o: u64, head: u64) -> u64
-    requires { o ≤ 1 }
-    ensures { result ≡ sending_head o head }
+// The head of an arrival's sending, by the ledger that holds the sending and the arrival's own head.
+pub fn sending_head(o: Ledger, head: u64) -> u64
+    ensures { result ≡ sending_head (ledger_byte o) head }
 {
-    2 * FIRST_BYTE + o * FIRST_TWO_BYTES + head % FIRST_TWO_BYTES
-}
-
-// Whether the record at a place has a number, a head and an amount.
-fn sent_at(words: &[u64], from: usize, i: usize, number: u64, head: u64, amount: u64) -> bool
-    requires { from + 4 * i + 4 ≤ length words.now }
-    ensures { result ≡ sent_at number head amount words.now from i }
-{
-    let at = from + 4 * i;
-    if number != words[at + 1] {
-        return false;
-    }
-    if head != words[at] {
-        return false;
-    }
-    amount == words[at + 2]
-}
-
-// Whether one of four records from place i on has them.
-fn sent_in_four(words: &[u64], from: usize, i: usize, number: u64, head: u64, amount: u64) -> bool
-    requires { from + 4 * i + 16 ≤ length words.now }
-    ensures { result ≡ any_at (sent_at number head amount words.now from) i 4 }
-{
-    if !numbered_in_four(words, from, i, number) {
-        return false;
-    }
-    if sent_at(words, from, i, number, head, amount) {
-        return true;
-    }
-    if sent_at(words, from, i + 1, number, head, amount) {
-        return true;
-    }
-    if sent_at(words, from, i + 2, number, head, amount) {
-        return true;
-    }
-    sent_at(words, from, i + 3, number, head, amount)
-}
-
-// Whether one of the records from place k on, before place n, has them.
-fn scanned_sent_from(
-    words: &[u64],
-    from: usize,
-    k: usize,
-    n: usize,
-    number: u64,
-    head: u64,
-    amount: u64,
-) -> bool
-    requires { (from + 4 * n ≤ length words.now) × (k ≤ n) }
-    ensures { result ≡ any_at (sent_at number head amount words.now from) k (n - k) }
-{
-    let mut i = k;
-    while i < n {
-        if sent_at(words, from, i, number, head, amount) {
-            return true;
-        }
-        i += 1;
-    }
-    false
-}
-
-// Whether one of n records has them, by a scan of four places at a time.
-fn scanned_sent(words: &[u64], from: usize, n: usize, number: u64, head: u64, amount: u64) -> bool
-    requires { from + 4 * n ≤ length words.now }
-    ensures { result ≡ any_at (sent_at number head amount words.now from) 0 n }
-{
-    let mut i = 0;
-    while i + 3 < n {
-        if sent_in_four(words, from, i, number, head, amount) {
-            return true;
-        }
-        i += 4;
-    }
-    scanned_sent_from(words, from, i, n, number, head, amount)
-}
-
-// Whether one of n records has a number, a head and an amount.
-pub fn is_sent<'a>(
-    words: &'a [u64],
-    index: &'a [u16],
-    from: usize,
-    base: usize,
-    n: usize,
-    number: u64,
-    head: u64,
-    amount: u64,
-) -> bool
-    requires { (from + 4 * n ≤ length words.now) × (base + chain_count + n ≤ length index.now)
-        × IndexOf words.now from index.now base n }
-    ensures { result ≡ any_at (sent_at number head amount words.now from) 0 n }
-{
-    let mut at = as_index(index[base + low_bits(number)]);
-    let mut steps = 0;
-    while 0 < at {
-        let j = at - 1;
-        if sent_at(words, from, j, number, head, amount) {
-            return true;
-        }
-        if STEPS <= steps {
-            return scanned_sent(words, from, n, number, head, amount);
-        }
-        at = as_index(index[base + CHAINS + j]);
-        steps += 1;
-    }
-    false
-}
-
-// Whether words are of no arrival, or its sending is among the n records of the ledger with byte o, whose index this is.
-pub fn is_backed<'a>(
-    words: &'a [u64],
-    index: &'a [u16],
-    o: u64,
-    others: usize,
-    base: usize,
-    n: usize,
-    w: Words,
-) -> bool
-    requires { (others + 4 * n ≤ length words.now) × (base + chain_count + n ≤ length index.now)
-        × IndexOf words.now others index.now base n × (o ≤ 1) }
-    ensures { result ≡ backed_by words.now o others n w }
-{
-    if w.head / FIRST_BYTE % 256 != 3 {
-        return true;
-    }
-    let head = sending_head(o, w.head);
-    is_sent(words, index, others, base, n, w.number, head, w.amount)
-}
-
-// Whether words are at once seen to be of no arrival, or its sending to be the first of its number's chain, as it is most often.
-fn is_backed_first<'a>(
-    words: &'a [u64],
-    index: &'a [u16],
-    o: u64,
-    others: usize,
-    base: usize,
-    n: usize,
-    w: Words,
-) -> bool
-    requires { (others + 4 * n ≤ length words.now) × (base + chain_count + n ≤ length index.now)
-        × IndexOf words.now others index.now base n × (o ≤ 1) }
-    ensures { result ≡ true → backed_by words.now o others n w ≡ true }
-{
-    let kind = w.head / FIRST_BYTE % 256;
-    if kind != 3 {
-        return true;
-    }
-    let at = as_index(index[base + low_bits(w.number)]);
-    if at == 0 {
-        return false;
-    }
-    let head = sending_head(o, w.head);
-    sent_at(words, others, at - 1, w.number, head, w.amount)
+    SENDING * FIRST_BYTE + u64::from(u8::from(o)) * FIRST_TWO_BYTES + head % FIRST_TWO_BYTES
 }
 
 // The amount of words more, in what was sent or in what was received, by their kind.
@@ -499,13 +419,13 @@ fn add_flow(f: Flows, w: Words) -> Flows
     let kind = w.head / FIRST_BYTE % 256;
     let sent = f.sent;
     let received = f.received;
-    if kind == 2 {
+    if kind == SENDING {
         return Flows {
             sent: sent.add(w.amount),
             received,
         };
     }
-    if kind == 3 {
+    if kind == RECEIVING {
         return Flows {
             sent,
             received: received.add(w.amount),
@@ -514,57 +434,80 @@ fn add_flow(f: Flows, w: Words) -> Flows
     f
 }
 
-// Whether each arrival among records has its sending, and where so, what they sent and what they received.
-#[derive(Clone, Copy)]
-pub struct Crossed {
-    pub backed: bool,
-    pub flows: Flows,
-}
-
-// Those of m records, with the sendings among the n records of the ledger with byte o, whose index this is.
-pub fn add_crossings<'a>(
-    words: &'a [u64],
-    index: &'a [u16],
-    from: usize,
-    m: usize,
-    o: u64,
-    others: usize,
-    base: usize,
-    n: usize,
-) -> Crossed
-    requires { (from + 4 * m ≤ length words.now) × (others + 4 * n ≤ length words.now) × (m ≤ capacity)
-        × (base + chain_count + n ≤ length index.now) × IndexOf words.now others index.now base n × (o ≤ 1) }
-    ensures backed { result.backed ≡ all_at (backed_at words.now from o others n) 0 m }
-    ensures sums { result.backed ≡ true → FlowsAt words.now from m result.flows }
-{
-    let mut flows = Flows {
-        sent: Halved { high: 0, low: 0 },
-        received: Halved { high: 0, low: 0 },
-    };
-    let mut i = 0;
-    while i < m {
-        let w = words_at(words, from, i);
-        if !is_backed_first(words, index, o, others, base, n, w) {
-            let v = words_at(words, from, i); // of its own, so that no other words are stored
-            if !is_backed(words, index, o, others, base, n, v) {
-                return Crossed {
-                    backed: false,
-                    flows,
-                };
-            }
-        }
-        flows = add_flow(flows, w);
-        i += 1;
+// Arrivals among other records, and their sendings among these.
+impl<'a> Held<'a> {
+    // Whether one of the records has a number, a head and an amount.
+    #[inline(always)]
+    pub fn is_sent(self, number: u64, head: u64, amount: u64) -> bool
+        ensures { result ≡ any_at (sent_at number head amount self.entry.words.now self.entry.from) 0 self.entry.count }
+    {
+        self.walked(Sent {
+            number,
+            head,
+            amount,
+        })
     }
-    Crossed {
-        backed: true,
-        flows,
+
+    // Whether words are of no arrival, or its sending is among the records.
+    #[inline(always)]
+    pub fn is_backed(self, o: Ledger, w: Words) -> bool
+        ensures { result ≡ backed_by self.entry.words.now (ledger_byte o) self.entry.from self.entry.count w }
+    {
+        if w.head / FIRST_BYTE % 256 != RECEIVING {
+            return true;
+        }
+        let head = sending_head(o, w.head);
+        self.is_sent(w.number, head, w.amount)
+    }
+
+    // Whether words are at once seen to be of no arrival, or its sending to be the first of its number's chain, as it is most often.
+    #[inline(always)]
+    fn is_backed_first(self, o: Ledger, w: Words) -> bool
+        ensures { result ≡ true → backed_by self.entry.words.now (ledger_byte o) self.entry.from self.entry.count w ≡ true }
+    {
+        let kind = w.head / FIRST_BYTE % 256;
+        if kind != RECEIVING {
+            return true;
+        }
+        let at = usize::from(self.index[self.base + low_bits(w.number)]);
+        if at == 0 {
+            return false;
+        }
+        let sent = Sent {
+            number: w.number,
+            head: sending_head(o, w.head),
+            amount: w.amount,
+        };
+        sent.is_at(self.words, self.from, at - 1)
+    }
+
+    // What m other records, from a word on, sent and received, where each arrival among them has its sending among these.
+    #[inline(always)]
+    pub fn crossings(self, o: Ledger, from: usize, m: usize) -> Option<Flows>
+        requires { (from + 4 * m ≤ length self.words.now) × (m ≤ capacity) }
+        ensures backed { is_some result
+            ≡ all_at (backed_at self.entry.words.now from (ledger_byte o) self.entry.from self.entry.count) 0 m }
+        ensures sums { IfSome result (λ flows. FlowsAt self.entry.words.now from m flows) }
+    {
+        let mut flows = Flows::default();
+        for i in 0..m {
+            let w = words_at(self.words, from, i);
+            if !self.is_backed_first(o, w) {
+                let v = words_at(self.words, from, i); // read again, so that w need not stand in memory for a rare case
+                if !self.is_backed(o, v) {
+                    return None;
+                }
+            }
+            flows = add_flow(flows, w);
+        }
+        Some(flows)
     }
 }
 
 // ## A passed record
 
 // An amount taken from one word, and one given to another.
+#[tactic(auto, unfolding(rules::specs::Lists::lowered, rules::specs::Lists::raised))]
 fn move_amounts(words: &mut [u64], from: usize, to: usize, taken: u64, given: u64)
     requires { (from < length words.old) × (to < length words.old) × (taken ≤ slice_index words.old from)
         × (slice_index (lowered words.old from taken) to + given < 2 ^ 64) }
@@ -585,8 +528,8 @@ fn put_words(words: &mut [u64], at: usize, w: Words)
     words[at + 3] = w.tail;
 }
 
-// All that a passed record writes to its ledger: what it takes and gives in the balances, a sending's charge too, and its own words from word
-// `at` on.
+// All that a passed record writes to its ledger: what it takes and gives in the balances, a sending's charge too, and its own words
+// from word `at` on.
 pub fn store(words: &mut [u64], balances: usize, at: usize, tariff: Tariff, w: Words, r: Record)
     requires { (balances + r.sender < length words.old)
         × (balances + payee_by tariff.account r.kind r.receiver < length words.old) × (at + 4 ≤ length words.old)
@@ -598,7 +541,7 @@ pub fn store(words: &mut [u64], balances: usize, at: usize, tariff: Tariff, w: W
 {
     let kind = r.kind;
     let charge = charge_by(tariff.rate, kind, r.amount);
-    let from = balances + as_index(r.sender);
+    let from = balances + usize::from(r.sender);
     let to = balances + payee_by(tariff.account, kind, r.receiver);
     let taken = taken_by(kind, r.amount) + charge;
     let given = given_by(kind, r.amount) + charge;
