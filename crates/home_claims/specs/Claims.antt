@@ -2,18 +2,17 @@
 -- of a record's accounts, what the charge does to accounts, and what the places left say of 41. Assumes nothing.
 use Rattle.std.specs.Prelude.{◌+◌, ◌<◌, ◌≤◌, suc, ℕ, false, true, List, ◌++◌, ◌∷◌, ◌↔◌, ◌≡◌, length}
 use Rattle.answers.specs.Answers.{answer}
-use Rattle.answers.specs.declared.Answer.TheVariants.{Passed, Refused}
+use Rattle.answers.specs.Answers.{Passed, Refused}
 use Rattle.home_core.specs.Layout.{accepts_home, home_words_checker}
-use Rattle.home_validator.specs.Figures.{home_figures_of, home_places_of}
+use Rattle.home_validator.specs.Figures.{HomePlaces, home_figures_of, home_places_of}
 use Rattle.home_validator.specs.State.{home_checker, home_opened_state, home_view_of_state, home_zero_state}
 use Rattle.home_validator.specs.declared.HomeValidator.{HomeValidator}
-use Rattle.home_validator.specs.declared.asked.HomePlaces.{HomePlaces}
 use Rattle.ledgers.specs.Ledgers.{ledger_of}
 use Rattle.ledgers.specs.Limits.{capacity}
 use Rattle.ledgers.specs.declared.Kind.TheVariants.{Receiving, Sending}
 use Rattle.ledgers.specs.declared.Ledger.TheVariants.{Home}
 use Rattle.records.specs.Records.{reading}
-use Rattle.records.specs.declared.Reading.TheVariants.{Read, Unreadable}
+use Rattle.records.specs.Records.{Read, Unreadable}
 use Rattle.records.specs.declared.Record.{Record}
 use Rattle.rules.specs.Accounts.{AccountsOpen, TellsAccount}
 use Rattle.rules.specs.Calls.{Call, CallBytes, ListsInTurn, RefusedUnaltered, call, handed, one, passed_records, records_on, run}

@@ -7,8 +7,8 @@ use Rattle.ledgers.specs.Limits.{account_limit, capacity}
 use Rattle.places.specs.LedgerBalances.{zero_filled, zeros_at}
 use Rattle.places.specs.OverPlaces.{all_at}
 use Rattle.records.specs.Records.{formed, reading, words_of}
-use Rattle.records.specs.declared.Reading.{Reading}
-use Rattle.records.specs.declared.Reading.TheVariants.{Read, Unreadable}
+use Rattle.records.specs.Records.{Reading}
+use Rattle.records.specs.Records.{Read, Unreadable}
 use Rattle.records.specs.declared.Record.{Record}
 use Rattle.records.specs.declared.Words.{Words}
 use Rattle.rules.specs.Calls.{Checker}

@@ -2,13 +2,11 @@
 use Rattle.wire.proofs.Prelude.{List, ◌+◌, ◌-◌, ◌≡◌, ◌≤◌, arith, drop, false, length, sym, take, true, ℕ}
 use Rattle.answers.specs.Answers.{answer}
 use Rattle.answers.specs.Balances.{balance_among}
-use Rattle.answers.specs.declared.Answer.{Answer}
-use Rattle.answers.specs.declared.Answer.TheVariants.{Passed}
+use Rattle.answers.specs.Answers.{Answer}
+use Rattle.answers.specs.Answers.{Passed}
 use Rattle.home_core.proofs.Accept.{length_held, sound_of}
 use Rattle.home_core.specs.Layout.{accepts_home, home_balances_word, home_count_of, home_supply_of, home_view_of, home_accounts_of, pool_of}
-use Rattle.home_validator.specs.Figures.{home_balance_of, home_figures_of, home_places_of}
-use Rattle.home_validator.specs.declared.asked.HomeFigures.{HomeFigures}
-use Rattle.home_validator.specs.declared.asked.HomePlaces.{HomePlaces}
+use Rattle.home_validator.specs.Figures.{HomeFigures, HomePlaces, home_balance_of, home_figures_of, home_places_of}
 use Rattle.ledgers.specs.Limits.{capacity}
 use Rattle.rules.proofs.HomeAccepted.{home_accepts_facts}
 use Rattle.rules.specs.Lists.{total}

@@ -1,6 +1,6 @@
 -- A call over the state is the call over its words. Assumes nothing.
 use Rattle.wire.proofs.Prelude.{List, ◌∙◌, ◌≡◌, ap, refl, sym, ℕ}
-use Rattle.answers.specs.declared.Answer.{Answer}
+use Rattle.answers.specs.Answers.{Answer}
 use Rattle.home_core.specs.Layout.{home_words_checker}
 use Rattle.home_validator.specs.State.{home_checker}
 use Rattle.home_validator.specs.declared.HomeValidator.{HomeValidator}

@@ -3,7 +3,7 @@
 -- of 41. Assumes nothing.
 use Rattle.std.specs.Prelude.{◌+◌, ◌-◌, ◌<◌, ◌^◌, ◌≤◌, suc, ℕ, false, true, List, ◌↔◌, ◌≡◌, length}
 use Rattle.answers.specs.Answers.{answer}
-use Rattle.answers.specs.declared.Answer.TheVariants.{Passed, Refused}
+use Rattle.answers.specs.Answers.{Passed, Refused}
 use Rattle.ledgers.specs.Ledgers.{counterpart, ledger_of}
 use Rattle.ledgers.specs.Limits.{capacity}
 use Rattle.ledgers.specs.declared.Ledger.{Ledger}
@@ -12,9 +12,9 @@ use Rattle.pair_core.specs.Layout.{accepts_pair, pair_words_checker}
 use Rattle.pair_validator.specs.Figures.{pair_figures_of, pair_places_of}
 use Rattle.pair_validator.specs.State.{pair_checker, pair_opened_state, pair_view_of_state, pair_zero_state}
 use Rattle.pair_validator.specs.declared.PairValidator.{PairValidator}
-use Rattle.pair_validator.specs.declared.asked.PairPlaces.{PairPlaces}
+use Rattle.pair_validator.specs.Figures.{PairPlaces}
 use Rattle.records.specs.Records.{encoding, reading}
-use Rattle.records.specs.declared.Reading.TheVariants.{Read, Unreadable}
+use Rattle.records.specs.Records.{Read, Unreadable}
 use Rattle.records.specs.declared.Record.{Record}
 use Rattle.rules.specs.Accounts.{AccountsOpen, TellsAccount}
 use Rattle.rules.specs.Arrivals.{Flying, receiving_of}

@@ -1,11 +1,11 @@
 -- What is tested of the words is what refusal 3 asks of both ledgers. Assumes nothing.
-use Rattle.wire.proofs.Prelude.{Bool, List, [], ◌&&◌, ◌+◌, ◌<◌, ◌^◌, ◌∙◌, ◌∷◌, ◌≡◌, arith, eq-eqb, eqb, eqb-true, false, get_or, inl, inr, length, refl}
+use Rattle.wire.proofs.Prelude.{Bool, List, [], ◌&&◌, ◌+◌, ◌<◌, ◌^◌, ◌∙◌, ◌∷◌, ◌≡◌, arith, eq-eqb, eqb, eqb-true, false, get_or, inl, length, refl}
 use Rattle.wire.proofs.Prelude.{sym, true, ℕ}
 use Rattle.ledgers.specs.Ledgers.{counterpart, ledger_byte}
 use Rattle.ledgers.specs.Limits.{capacity}
 use Rattle.pair_core.proofs.Ledgers.{PairBounds, accounts_same, balances_within, bounds_of, by_byte, by_ledger, byte_below}
 use Rattle.pair_core.proofs.Ledgers.{length_balances, length_held, of_bounds, state_on, tariff_fits_lem}
-use Rattle.pair_core.specs.Layout.{PairReady, accepts_pair, accounts_on, balances_start, count_on, formed_on, index_on}
+use Rattle.pair_core.specs.Layout.{InBounds, accepts_pair, accounts_on, balances_start, count_on, formed_on, index_on}
 use Rattle.pair_core.specs.Layout.{ledger_on}
 use Rattle.pair_core.specs.Layout.{pair_bounds, pair_supply_of, pair_view_of, pair_words, records_start, zero_beyond}
 use Rattle.pair_core.specs.Testing.{backed_on, balance_sum, flow_sum, held_on, sums_agree}
@@ -16,7 +16,6 @@ use Rattle.places.specs.OverPlaces.{all_at, apart_at}
 use Rattle.records.specs.Records.{formed}
 use Rattle.rules.proofs.Clashes.{distinct_unshared, unshared_distinct}
 use Rattle.rules.proofs.Ledgers.{Clean, crossing}
-use Rattle.rules.proofs.Lists.{never_both_tests}
 use Rattle.rules.proofs.PairAccepted.{AcceptedFacts, LedgerFacts, accepts_facts, facts_accepts}
 use Rattle.rules.specs.Lists.{all, total}
 use Rattle.rules.specs.PairValidator.{matched, pair_accepts, stands_under}
@@ -290,10 +289,9 @@ accepts_is s small = same_tests (tests_of s) (accepts_pair s) there back
         (facts_tested s z (bounds_of s b.0) small (by_ledger _ c.0 d.0) (by_ledger _ e.0 f.0)
         (accepts_facts capacity (pair_view_of s) g.0))
 
--- where one of the tests fails the state is refused, and nothing is asked of an index but its length
-pub tests_refused : (s : List ℕ) → ((i : ℕ) → get_or s i 0 < 2 ^ 64) → tests_of s ≡ false → {index : List ℕ} {n m : ℕ} → n ≡ m
-    → (false ≡ accepts_pair s) × ((false ≡ true → PairReady s index) × (n ≡ m))
-tests_refused s small h e = (sym h ∙ accepts_is s small, (λ q. absurd (never_both_tests (sym q)), e))
+-- where one of the tests fails the state is refused
+pub tests_refused : (s : List ℕ) → ((i : ℕ) → get_or s i 0 < 2 ^ 64) → tests_of s ≡ false → false ≡ accepts_pair s
+tests_refused s small h = sym h ∙ accepts_is s small
 
 -- ## The indexes, made one after the other
 
@@ -358,3 +356,9 @@ pub standing_on : (s : List ℕ) → PairSound s → ((i : ℕ) → get_or s i 0
 standing_on s o small L =
     standing_of s o.long o.bounds small L (o.reads (ledger_byte L) (byte_below L))
     (rw (state_on s L) at ((accepts_facts capacity (pair_view_of s) o.accepted).ledgers L).stand)
+
+-- an accepted state, of words of 64 bits, is in bounds
+pub in_bounds_of : (s : List ℕ) → accepts_pair s ≡ true → ((i : ℕ) → get_or s i 0 < 2 ^ 64) → InBounds s
+in_bounds_of s h small =
+    let o = sound_of s h in
+    record { long = o.long; small = small; bounded = of_bounds s o.bounds }

@@ -87,6 +87,17 @@ tariff_fits_lem s b =
     by_byte (λ (l : ℕ). tariff_allowed (tariff_on s l) (accounts_on s l) ≡ true) b.tariff_allowed
     (free_allowed (accounts_on s 1) (omega (arith, (accounts_fit s b 1 (omega arith)).0)))
 
+-- by a ledger itself: it has at most as many accounts, and holds at most as many records, as it can
+pub record LedgerFits (s : List ℕ) (L : Ledger) : Type 0 where
+  pub accounts : accounts_on s (ledger_byte L) ≤ account_limit
+  pub room : count_on s (ledger_byte L) ≤ capacity
+
+-- from the test
+pub ledger_fits : (s : List ℕ) → pair_bounds s ≡ true → (L : Ledger) → LedgerFits s L
+ledger_fits s h L =
+    let b = bounds_of s h in
+    record { accounts = (accounts_fit s b (ledger_byte L) (byte_below L)).1; room = b.room (ledger_byte L) (byte_below L) }
+
 -- ## As the rules see them
 
 -- a ledger by its byte

@@ -3,14 +3,14 @@
 -- of home and of far accounts, the numbers of held records of both, and home's tariff (document 02, U3): its rate and its account. Here
 -- stands what it is as the rules' state, what refusal 3 asks of it, and what a passed record makes of it. A ledger is named by its byte.
 -- Assumes nothing.
-use Rattle.std.specs.Prelude.{◌*◌, ◌+◌, ◌-◌, ◌<◌, suc, zero, ℕ, Bool, true, List, [], ◌++◌, ◌∷◌, ◌≡◌, eqb, leb, get_or, length, replicate, set}
+use Rattle.std.specs.Prelude.{◌*◌, ◌+◌, ◌-◌, ◌^◌, ◌<◌, suc, zero, ℕ, Bool, true, List, [], ◌++◌, ◌∷◌, ◌≡◌, eqb, leb, get_or, length, replicate, set}
 use Rattle.ledgers.specs.Ledgers.{ledger_byte, ledger_of}
 use Rattle.ledgers.specs.Limits.{account_limit, capacity}
 use Rattle.places.specs.LedgerBalances.{zero_filled, zeros_at}
 use Rattle.places.specs.OverPlaces.{all_at}
 use Rattle.records.specs.Records.{formed, reading, words_of}
-use Rattle.records.specs.declared.Reading.{Reading}
-use Rattle.records.specs.declared.Reading.TheVariants.{Read, Unreadable}
+use Rattle.records.specs.Records.{Reading}
+use Rattle.records.specs.Records.{Read, Unreadable}
 use Rattle.records.specs.declared.Record.{Record}
 use Rattle.records.specs.declared.Words.{Words}
 use Rattle.rules.specs.Calls.{Checker}
@@ -157,6 +157,12 @@ pair_zero_words = replicate pair_words 0
 -- where a ledger's index starts
 abbrev pub index_on : ℕ → ℕ
 index_on l = l * index_length
+
+-- words of a state, of 64 bits each, that are in bounds
+pub record InBounds (s : List ℕ) : Type 0 where
+  pub long : length s ≡ pair_words
+  pub small : (i : ℕ) → get_or s i 0 < 2 ^ 64
+  pub bounded : pair_bounds s ≡ true
 
 -- a state that is accepted, with the indexes of its numbers
 pub record PairReady (s index : List ℕ) : Type 0 where

@@ -1,21 +1,17 @@
 -- Laws of the totals, the figures, the balance of an account and the places left of accepted words. Assumes nothing.
 use Rattle.wire.proofs.Prelude.{List, ◌*◌, ◌+◌, ◌-◌, ◌<◌, ◌∙◌, ◌≡◌, ◌≤◌, arith, drop, false, get_or, le-ltb, leb-true, length, ltb, refl, suc}
 use Rattle.wire.proofs.Prelude.{sym, take, true, zero, ℕ}
-use Rattle.answers.specs.Answers.{answer}
 use Rattle.answers.specs.Balances.{balance_among, balance_refused}
-use Rattle.answers.specs.declared.Answer.{Answer}
-use Rattle.answers.specs.declared.Answer.TheVariants.{Passed}
+use Rattle.answers.specs.Answers.{Passed}
 use Rattle.ledgers.specs.Limits.{capacity, max_amount}
 use Rattle.pair_core.proofs.Accept.{sound_of}
 use Rattle.pair_core.proofs.Ledgers.{accounts_fit, balances_within, by_byte, length_held}
 use Rattle.pair_core.specs.Layout.{accepts_pair, accounts_on, balances_start, count_on, ledger_on, pair_supply_of, pair_view_of}
-use Rattle.pair_validator.specs.Figures.{balances_under, pair_balance_of, pair_figures_of, pair_places_of}
-use Rattle.pair_validator.specs.declared.asked.PairFigures.{PairFigures}
-use Rattle.pair_validator.specs.declared.asked.PairPlaces.{PairPlaces}
+use Rattle.pair_validator.specs.Figures.{PairFigures, PairPlaces, balances_under, pair_balance_of, pair_figures_of, pair_places_of}
 use Rattle.places.proofs.BalanceTotals.{balances_sum}
 use Rattle.places.proofs.ExactSums.{added_value}
 use Rattle.places.proofs.Openings.{low_is_wide}
-use Rattle.places.specs.ExactSums.{Added}
+use Rattle.places.specs.ExactSums.{Added, IsNoSum}
 use Rattle.places.specs.OverPlaces.{sum_at}
 use Rattle.places.specs.declared.exact_sums.Wide.{Wide}
 use Rattle.rules.proofs.PairAccepted.{accepts_facts}
@@ -25,11 +21,6 @@ use Rattle.rules.specs.Rules.{in_flight}
 use Rattle.table.specs.Table.{ledger_in}
 
 -- ## The places left
-
--- none are told of words that are not accepted
-pub pair_places_refused : (s : List ℕ) → accepts_pair s ≡ false → {a : Answer} → a ≡ answer 3 0
-    → ◌≡◌ {A = PairPlaces} (record { answer = a; home = 0; far = 0 }) (pair_places_of (accepts_pair s) s)
-pair_places_refused s h e = rw h (λ i. record { answer = e i; home = 0; far = 0 })
 
 module _ (s : List ℕ) (h : accepts_pair s ≡ true) where
   -- a ledger's count is within the capacity
@@ -69,13 +60,14 @@ module _ (s : List ℕ) (h : accepts_pair s ≡ true) where
       (omega (arith, pair_supply_shared))
 
   -- it is what the sum of its balances has in its low limb
-  pub pair_total : (l : ℕ) → l < 2 → {w : Wide} {n : ℕ}
-      → Added (record { high = 0; low = 0 }) (sum_at (λ (i : ℕ). get_or s i 0) (balances_start l) (accounts_on s l)) n w
+  pub pair_total : (l : ℕ) → l < 2 → {v w : Wide} {n : ℕ}
+      → IsNoSum v
+      → Added v (sum_at (λ (i : ℕ). get_or s i 0) (balances_start l) (accounts_on s l)) n w
       → w.low ≡ total (ledger_on s l).balances
   unfolding ledger_in
-  pair_total l q {w} a =
+  pair_total l q {v} {w} o a =
       let e = balances_sum s (balances_start l) (accounts_on s l) (pair_on_ledger l q).0 in
-      low_is_wide w (omega (arith, added_value a, e, total_most l q, supply_most)) ∙ added_value a ∙ sym e
+      low_is_wide w (omega (arith, added_value o a, e, total_most l q, supply_most)) ∙ added_value o a ∙ sym e
 
   -- the figures of accepted words, by both totals
   pub pair_figures_passed : (home far : ℕ) → home ≡ total (ledger_on s 0).balances → far ≡ total (ledger_on s 1).balances

@@ -1,6 +1,6 @@
 -- A call over the state is the call over its words. Assumes nothing.
 use Rattle.wire.proofs.Prelude.{List, ◌∙◌, ◌≡◌, ap, refl, sym, ℕ}
-use Rattle.answers.specs.declared.Answer.{Answer}
+use Rattle.answers.specs.Answers.{Answer}
 use Rattle.pair_core.specs.Layout.{pair_words_checker}
 use Rattle.pair_validator.specs.State.{pair_checker}
 use Rattle.pair_validator.specs.declared.PairValidator.{PairValidator}
