@@ -1,159 +1,144 @@
-// A listing's text, chunk by chunk, in a lent buffer: the state stands in lent words and is known to be accepted, each block is
-// hashed once, and nothing of the state is copied.
+// A listing's text, chunk by chunk, in fixed memory: the state stands in lent words and is known to be accepted, each block is hashed
+// once, and nothing of the state is copied.
 #![tactic(auto)]
 
-ghost use Rattle.std.specs.Prelude.{◌+◌, ◌*◌, ◌≤◌, ◌≡◌, length, take};
+pub mod cursor; // cursor.rt: where a listing stands
+
+ghost use Rattle.std.specs.Prelude.{◌+◌, ◌*◌, ◌++◌, ◌≤◌, ◌≡◌, length, true, OnErr, OnOk};
+ghost use Rattle.answers.specs.Refusals.{refused_by};
 ghost use Rattle.journal_blocks.specs.Blocks.{max_block, first_records, records_per_block};
 ghost use Rattle.listing.specs.Chunks.{after_chunk, chunk_room, chunk_size, chunk_text, state_figures};
 ghost use Rattle.listing.specs.Listing.{after_block, block_text, record_lines, state_listed};
-ghost use Rattle.listing_blocks.specs.Cursors.{CursorBounds, progress_of, progress_after};
-ghost use Rattle.listing_lines.specs.Lines.{TextPut, figures_room, figures_text, line_room};
+ghost use Rattle.listing_blocks.specs.Cursors.{goes, progress_of, progress_after};
+ghost use Rattle.listing_lines.specs.Lines.{figures_text, line_room};
 ghost use Rattle.pair_core.specs.Layout.{pair_words_checker};
-ghost use Rattle.pair_rows.specs.Rows.{RowReady};
+ghost use Rattle.pair_rows.specs.Rows.{FiguresReady};
 
-use answers::Answer;
+use answers::Refusal;
+use arrayvec::ArrayVec;
+pub use cursor::Cursor;
 use journal_blocks::{BLOCK_SIZE, stated_count};
 use journal_reader::{judge, judged_part};
 use listing_lines::{FIGURES, put_fault, put_figures, put_record};
 use pair_core::{INDEXES, WORDS};
-use pair_rows::{Row, next_row};
-use wire::part_end;
-
-// Where a listing stands: the index of the next record, the number of the next block and the count of the one before it, the end
-// of the text in the buffer, whether the listing goes on, and the last row.
-#[derive(Clone, Copy)]
-pub struct Cursor {
-    pub index: u64,
-    pub block: u64,
-    pub before: u64,
-    pub end: usize,
-    pub going: bool,
-    pub row: Row,
-}
+use pair_rows::{Figures, next_figures};
+use std::ops::ControlFlow;
 
 // ## A block of records
 
-// The text of a row's figures, put anew where its record has passed and else as it stands.
-fn put_figures_if(text: &mut [u8], n: usize, row: Row) -> usize
-    requires { (length text.old ≡ figures_room) × (n ≤ figures_room) }
-    ensures passed { row.refusal ≡ 0 → take result text.new ≡ figures_text row.home row.far row.flight }
-    ensures refused { (row.refusal ≡ 0 → ⊥) → take result text.new ≡ take n text.old }
-    ensures fits { (result ≤ figures_room) × (length text.new ≡ figures_room) }
+// The text of the figures, put anew where a record has passed and else as it stands.
+fn put_figures_if(text: &mut ArrayVec<u8, FIGURES>, judged: Result<(), Refusal>, figures: Figures)
+    ensures passed { OnOk judged (text.new.items ≡ figures_text figures.home figures.far figures.flight) }
+    ensures refused { OnErr judged (text.new.items ≡ text.old.items) }
 {
-    if row.refusal != 0 {
-        return n;
+    if judged.is_err() {
+        return;
     }
-    put_figures(text, 0, row.home, row.far, row.flight)
+    text.clear();
+    put_figures(text, figures.home, figures.far, figures.flight);
+}
+
+// The answer in a record's line: 0, or the refusal's number.
+// Kept: answers::number asks for an answer with a place, which a record's line has not; this is its match without one.
+fn answer_number(judged: Result<(), Refusal>) -> u64
+    ensures { result ≡ refused_by judged }
+{
+    match judged {
+        Ok(()) => 0,
+        Err(refusal) => u64::from(u32::from(refusal)),
+    }
 }
 
 // The lines of a block's first records.
-fn list_records<'a, 'b, 'c, 'd>(
+// Kept: words and index are lent side by side: one value would have to copy them in, or say in each contract that its loans stay the same.
+fn list_records<const N: usize>(
     cursor: Cursor,
-    block: &'a [u8],
+    block: &[u8],
     count: u64,
-    out: &'b mut [u8],
-    state: &'c mut [u64; WORDS],
-    index: &'d mut [u16; INDEXES],
+    out: &mut ArrayVec<u8, N>,
+    state: &mut [u64; WORDS],
+    index: &mut [u16; INDEXES],
 ) -> Cursor
-    requires { CursorBounds cursor × (cursor.block ≤ max_block) × (length block.now ≡ 512) × (count ≤ records_per_block)
-        × (cursor.end + records_per_block * line_room ≤ length out.old) × RowReady state.old index.old cursor.row }
-    ensures puts { TextPut out.old cursor.end (record_lines pair_words_checker state_figures state.old cursor.index
-        (first_records count block.now)) out.new result.end }
-    ensures stands { progress_of result state.new ≡ progress_after cursor count (state_listed pair_words_checker state.old
+    requires { (cursor.block ≤ max_block) × (length block.now ≡ 512) × (count ≤ records_per_block)
+        × (length out.old.items + records_per_block * line_room ≤ N) × FiguresReady state.old index.old cursor.figures }
+    ensures puts { out.new.items ≡ out.old.items ++ record_lines pair_words_checker state_figures state.old cursor.index
+        (first_records count block.now) }
+    ensures stands { progress_of result true state.new ≡ progress_after cursor count (state_listed pair_words_checker state.old
         (first_records count block.now)) }
-    ensures keeps { RowReady state.new index.new result.row × CursorBounds result
-        × (result.end ≤ cursor.end + records_per_block * line_room) }
+    ensures keeps { FiguresReady state.new index.new result.figures
+        × (length out.new.items ≤ length out.old.items + records_per_block * line_room) }
 {
-    let mut text = [0u8; FIGURES];
-    let mut row = cursor.row;
-    let mut n = put_figures(&mut text, 0, row.home, row.far, row.flight);
-    let mut i = 0;
-    let mut p = cursor.end;
-    while i < count {
+    let mut text = ArrayVec::new();
+    let mut figures = cursor.figures;
+    put_figures(&mut text, figures.home, figures.far, figures.flight);
+    for i in 0..count {
         let bytes = judged_part(block, i);
-        row = next_row(state, index, row, bytes);
-        n = put_figures_if(&mut text, n, row);
-        p = put_record(
+        let judged = next_figures(state, index, &mut figures, bytes);
+        put_figures_if(&mut text, judged, figures);
+        put_record(
             out,
-            p,
             cursor.index + i,
             bytes,
-            row.refusal as u64,
-            &text[..n],
+            answer_number(judged),
+            text.as_slice(),
         );
-        i += 1;
     }
     Cursor {
         index: cursor.index + count,
         block: cursor.block + 1,
         before: count,
-        end: p,
-        going: cursor.going,
-        row,
+        figures,
     }
 }
 
-// A block: its lines, or its fault.
-fn list_block<'a, 'b, 'c, 'd>(
-    cursor: Cursor,
-    block: &'a [u8],
-    out: &'b mut [u8],
-    state: &'c mut [u64; WORDS],
-    index: &'d mut [u16; INDEXES],
-) -> Cursor
-    requires { CursorBounds cursor × (cursor.end + records_per_block * line_room ≤ length out.old)
-        × RowReady state.old index.old cursor.row }
-    ensures puts { TextPut out.old cursor.end (block_text pair_words_checker state_figures (progress_of cursor state.old)
-        block.now) out.new result.end }
-    ensures stands { progress_of result state.new ≡ after_block pair_words_checker (progress_of cursor state.old)
-        block.now }
-    ensures keeps { RowReady state.new index.new result.row × CursorBounds result
-        × (result.end ≤ cursor.end + records_per_block * line_room) }
+// A block: its lines, or its fault, after which the listing does not go on.
+fn list_block<const N: usize>(
+    cursor: &mut Cursor,
+    block: &[u8],
+    out: &mut ArrayVec<u8, N>,
+    state: &mut [u64; WORDS],
+    index: &mut [u16; INDEXES],
+) -> ControlFlow<()>
+    requires { (length out.old.items + records_per_block * line_room ≤ N)
+        × FiguresReady state.old index.old cursor.old.figures }
+    ensures puts { out.new.items ≡ out.old.items ++ block_text pair_words_checker state_figures
+        (progress_of cursor.old true state.old) block.now }
+    ensures stands { progress_of cursor.new (goes result) state.new ≡ after_block pair_words_checker
+        (progress_of cursor.old true state.old) block.now }
+    ensures keeps { FiguresReady state.new index.new cursor.new.figures
+        × (length out.new.items ≤ length out.old.items + records_per_block * line_room) }
 {
-    let answer = judge(block, cursor.block, cursor.before);
-    let Answer::Passed = answer else {
-        let end = put_fault(out, cursor.end, answer.number() as u64, cursor.block);
-        let row = cursor.row;
-        return Cursor {
-            index: cursor.index,
-            block: cursor.block,
-            before: cursor.before,
-            end,
-            going: false,
-            row,
-        };
-    };
-    let count = stated_count(block);
-    list_records(cursor, block, count, out, state, index)
+    match judge(block, cursor.block, cursor.before) {
+        Ok(()) => {
+            let count = stated_count(block);
+            *cursor = list_records(*cursor, block, count, out, state, index);
+            ControlFlow::Continue(())
+        }
+        Err(refused) => {
+            put_fault(out, u64::from(u32::from(refused.refusal)), cursor.block);
+            ControlFlow::Break(())
+        }
+    }
 }
 
 // ## A chunk
 
-// The text of a chunk of at most 64 blocks, up to a bad one.
-pub fn list_chunk<'a, 'b, 'c, 'd>(
-    start: Cursor,
-    chunk: &'a [u8],
-    out: &'b mut [u8],
-    state: &'c mut [u64; WORDS],
-    index: &'d mut [u16; INDEXES],
-) -> Cursor
-    requires { CursorBounds start × (start.end ≡ 0) × (length chunk.now ≤ chunk_size) × (chunk_room ≤ length out.old)
-        × RowReady state.old index.old start.row }
-    ensures puts { take result.end out.new ≡ chunk_text (progress_of start state.old) chunk.now }
-    ensures stands { progress_of result state.new ≡ after_chunk (progress_of start state.old) chunk.now }
-    ensures keeps { RowReady state.new index.new result.row × CursorBounds result
-        × (result.end ≤ length out.new) }
+// The text of a chunk of at most 64 blocks, up to a bad one, after which the listing does not go on.
+pub fn list_chunk<const N: usize>(
+    cursor: &mut Cursor,
+    chunk: &[u8],
+    out: &mut ArrayVec<u8, N>,
+    state: &mut [u64; WORDS],
+    index: &mut [u16; INDEXES],
+) -> ControlFlow<()>
+    requires { (length chunk.now ≤ chunk_size) × (length out.old.items + chunk_room ≤ N)
+        × FiguresReady state.old index.old cursor.old.figures }
+    ensures puts { out.new.items ≡ out.old.items ++ chunk_text (progress_of cursor.old true state.old) chunk.now }
+    ensures stands { progress_of cursor.new (goes result) state.new ≡ after_chunk (progress_of cursor.old true state.old) chunk.now }
+    ensures keeps { FiguresReady state.new index.new cursor.new.figures }
 {
-    let n = chunk.len();
-    let mut cursor = start;
-    let mut at = 0;
-    while at < n {
-        if !cursor.going {
-            return cursor;
-        }
-        let end = part_end(BLOCK_SIZE, at, n);
-        cursor = list_block(cursor, &chunk[at..end], out, state, index);
-        at = end;
+    for block in chunk.chunks(BLOCK_SIZE) {
+        list_block(cursor, block, out, state, index)?;
     }
-    cursor
+    ControlFlow::Continue(())
 }

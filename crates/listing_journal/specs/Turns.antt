@@ -1,33 +1,15 @@
 -- The turns of the program's loop over a journal: what a turn leaves, what is left once the loop has ended, and a whole listing. A
 -- contract cannot say what the system read or wrote: how many bytes were read, and whether a text was written, is what the program tells
 -- of itself. For inner functions only. Assumes nothing.
-use Rattle.std.specs.Prelude.{◌≤◌, ℕ, Bool, false, true, List, [], ◌∷◌, ◌++◌, ◌≡◌, eqb, drop, length, take}
+use Rattle.std.specs.Prelude.{◌≤◌, ℕ, Bool, None, Option, Some, false, true, List, [], ◌∷◌, ◌++◌, ◌≡◌, eqb, drop, length, take}
 use Rattle.listing.specs.Chunks.{after_chunk, chunk_size, chunk_text, opened_by}
 use Rattle.listing.specs.Listing.{Progress, opening_text}
 use Rattle.listing_blocks.specs.Cursors.{progress_of}
-use Rattle.listing_blocks.specs.declared.Cursor.{Cursor}
 use Rattle.listing_journal.specs.declared.ListResult.{ListResult}
 use Rattle.listing_journal.specs.declared.TurnResult.{TurnResult}
 use Rattle.listing_lines.specs.Lines.{header_line}
-use Rattle.pair_rows.specs.declared.Row.{Row}
+use Rattle.pair_rows.specs.Rows.{FiguresReady}
 use Rattle.wire.specs.BigEndian.{every}
-
--- the cursor after an accepted opening, before block 2, with the count of block 1 and the opening's row
-abbrev pub first_cursor : ℕ → Row → Cursor
-first_cursor before row = record { index = 0; block = 2; before = before; end = 0; going = true; row = row }
-
--- what stands for the turn before the first
-abbrev pub no_turn : ℕ → Row → TurnResult
-no_turn before row = record { cursor = first_cursor before row; read = 0; text = 0; written = true }
-
--- what stands for a row where there is none
-abbrev pub no_row : Row
-no_row = record { refusal = 0; home = 0; far = 0; flight = 0 }
-
--- a cursor that has the buffer to itself again
-abbrev pub resumed_cursor : Cursor → Bool → Cursor
-resumed_cursor cursor going =
-    record { index = cursor.index; block = cursor.block; before = cursor.before; end = 0; going = going; row = cursor.row }
 
 -- the listing goes on after a chunk whose text was written, of which n bytes were read, all that it can have, and that has no bad block
 unfoldable pub goes_on : Bool → ℕ → Bool → Bool
@@ -45,12 +27,22 @@ after_turn p chunk written =
     }
 
 -- a turn from where p stands, as it tells of itself: what it says it read is the chunk, the text that it says it handed on is the chunk's,
--- and by these and by what it says of the write it leaves the cursor and the state s where the listing stands then
-pub record TurnFrom (p : Progress (List ℕ)) (input out : List ℕ) (t : TurnResult) (s : List ℕ) : Type 0 where
+-- and by these and by what it says of the write it leaves the cursor, whether the listing goes on, and the state s where the listing stands
+-- then
+pub record TurnFrom (p : Progress (List ℕ)) (input out : List ℕ) (t : TurnResult) (going : Bool) (s : List ℕ) : Type 0 where
   pub read_fits : t.read ≤ length input
   pub text_fits : t.text ≤ length out
   pub text_is : take t.text out ≡ chunk_text p (take t.read input)
-  pub stands : progress_of t.cursor s ≡ after_turn p (take t.read input) t.written
+  pub stands : progress_of t.cursor going s ≡ after_turn p (take t.read input) t.written
+
+-- a turn after which the listing goes on, with what the next one needs
+pub record TurnGoesOn (p : Progress (List ℕ)) (input out : List ℕ) (t : TurnResult) (s index : List ℕ) : Type 0 where
+  pub turns : TurnFrom p input out t true s
+  pub ready : FiguresReady s index t.cursor.figures
+
+-- a turn after which it does not
+abbrev pub TurnStops : Progress (List ℕ) → List ℕ → List ℕ → TurnResult → List ℕ → Type 0
+TurnStops p input out t s = TurnFrom p input out t false s
 
 -- q is reached from p by turns after each of which the listing goes on: each with a full chunk, written, and no bad block
 pub data Reached (p : Progress (List ℕ)) : Progress (List ℕ) → Type 0 where
@@ -62,8 +54,7 @@ pub data Reached (p : Progress (List ℕ)) : Progress (List ℕ) → Type 0 wher
 pub record LastTurnFrom (p : Progress (List ℕ)) (input out : List ℕ) (t : TurnResult) (s : List ℕ) : Type 0 where
   pub from : Progress (List ℕ)
   pub reached : Reached p from
-  pub last : TurnFrom from input out t s
-  pub stops : t.cursor.going ≡ false
+  pub last : TurnFrom from input out t false s
 
 -- ## A whole journal
 
@@ -71,16 +62,16 @@ pub record LastTurnFrom (p : Progress (List ℕ)) (input out : List ℕ) (t : Tu
 abbrev pub start_text : List ℕ → List ℕ → List ℕ
 start_text bytes rest = opening_text (take 512 bytes) (take 512 (drop 512 bytes)) rest
 
--- a listing of the opening alone: no turn was made after it
-abbrev pub opening_alone : ℕ → ℕ → Bool → Bool → ListResult
-opening_alone first end printed opened = record { first = first; end = end; printed = printed; opened = opened; last = no_turn 0 no_row }
-
 -- a last turn from p, whatever it read, handed on and left
 pub record SomeLastTurn (p : Progress (List ℕ)) (t : TurnResult) : Type 0 where
   pub input : List ℕ
   pub out : List ℕ
   pub state : List ℕ
   pub ended : LastTurnFrom p input out t state
+
+-- a last turn from p is what there is
+abbrev pub HasLastTurn : Progress (List ℕ) → Option TurnResult → Type 0
+HasLastTurn p last = (t : TurnResult) × (last ≡ Some t) × SomeLastTurn p t
 
 -- a journal's listing, as it tells of itself, for some bytes and texts, since its buffers are its own: as many bytes as it says it read
 -- first, no more than blocks 0 and 1, and the text that it says it handed on first is theirs; where that was not written, or the opening
@@ -93,7 +84,7 @@ pub record JournalListed (r : ListResult) : Type 0 where
   pub out : List ℕ
   pub text_fits : r.end ≤ length out
   pub text_is : take r.end out ≡ header_line ++ start_text bytes []
-  pub unprinted : r.printed ≡ false → r.last ≡ no_turn 0 no_row
-  pub refused : r.opened ≡ false → (r.last ≡ no_turn 0 no_row) × ((rest : List ℕ) → start_text bytes rest ≡ start_text bytes [])
+  pub unprinted : r.printed ≡ false → r.last ≡ None
+  pub refused : r.opened ≡ false → (r.last ≡ None) × ((rest : List ℕ) → start_text bytes rest ≡ start_text bytes [])
   pub accepted : r.opened ≡ true → (rest : List ℕ) → start_text bytes rest ≡ start_text bytes [] ++ rest
-  pub lists : r.printed ≡ true → r.opened ≡ true → SomeLastTurn (opened_by (take 512 bytes) (take 512 (drop 512 bytes))) r.last
+  pub lists : r.printed ≡ true → r.opened ≡ true → HasLastTurn (opened_by (take 512 bytes) (take 512 (drop 512 bytes))) r.last

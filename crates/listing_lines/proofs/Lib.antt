@@ -1,4 +1,4 @@
--- Laws of texts in a buffer, of the lines of a listing and of hexadecimal digits. Assumes nothing.
+-- Laws of decimal and of hexadecimal digits. Assumes nothing.
 
-pub mod Puts
+pub mod Decimals
 pub mod Digits

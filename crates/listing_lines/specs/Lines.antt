@@ -1,5 +1,5 @@
 -- The lines of a listing as characters (document 01, Cases: the listing and its fields). Assumes nothing.
-use Rattle.std.specs.Prelude.{ℕ, zero, suc, ◌+◌, ◌/◌, ◌%◌, cond, List, [], ◌∷◌, ◌++◌, ◌≡◌, ltb, length, take, drop}
+use Rattle.std.specs.Prelude.{ℕ, zero, suc, ◌+◌, ◌/◌, ◌%◌, cond, List, [], ◌∷◌, ◌++◌, ltb, take, drop}
 use Rattle.listing_lines.specs.Hex.{high_digit, low_digit}
 
 -- ## Fields
@@ -51,18 +51,11 @@ record_line index r answer figures = decimal index ++ 32 ∷ number_text r ++ 32
 unfoldable pub fault_line : ℕ → ℕ → List ℕ
 fault_line refusal block = 102 ∷ 97 ∷ 117 ∷ 108 ∷ 116 ∷ 32 ∷ decimal refusal ++ 32 ∷ decimal block ++ 10 ∷ []
 
--- ## In a lent buffer
+-- ## Room
 
--- the room that any line takes in it, and the figures with their blanks and the line feed
+-- the room that any line takes, and the figures with their blanks and the line feed
 abbrev pub line_room : ℕ
 line_room = 128
 
 abbrev pub figures_room : ℕ
 figures_room = 64
-
--- in the bytes d the text x was put at o, which gave the bytes e, and r is the place after it; what stands before o
--- stays, and of what stands after r nothing is said
-pub record TextPut (d : List ℕ) (o : ℕ) (x e : List ℕ) (r : ℕ) : Type 0 where
-  pub next : r ≡ o + length x
-  pub size : length e ≡ length d
-  pub text : take r e ≡ take o d ++ x

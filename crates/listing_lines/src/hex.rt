@@ -6,7 +6,7 @@ ghost use Rattle.listing_lines.specs.Hex.{high_digit, low_digit};
 ghost use Rattle.listing_lines.specs.Lines.{hexadecimal};
 ghost use Rattle.wire.specs.BigEndian.{bytes_of};
 
-use wire::u64_bytes;
+use wire::BigEndian;
 
 // 1 in each byte.
 const ONES: u64 = 0x0101_0101_0101_0101;
@@ -39,8 +39,8 @@ fn high_digits(x: u64) -> u64
 pub fn digits(x: u64) -> [u8; 16]
     ensures { result ≡ hexadecimal (bytes_of 8 x) }
 {
-    let h = u64_bytes(high_digits(x));
-    let l = u64_bytes(low_digits(x));
+    let h = high_digits(x).bytes();
+    let l = low_digits(x).bytes();
     [
         h[0], l[0], h[1], l[1], h[2], l[2], h[3], l[3], h[4], l[4], h[5], l[5], h[6], l[6], h[7],
         l[7],

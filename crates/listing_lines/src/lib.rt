@@ -1,15 +1,16 @@
-// The lines of a listing, put into a lent buffer that has room for them. Each function of lines answers the place after what it put.
+// The lines of a listing, each put at the end of a text in fixed memory that has room for it.
 #![tactic(auto)]
 
 pub mod hex; // hex.rt: the hexadecimal digits of a number
 
-ghost use Rattle.std.specs.Prelude.{◌+◌, ◌≤◌, ◌<◌, [], ◌∷◌, ◌≡◌, length};
-ghost use Rattle.listing_lines.specs.Lines.{TextPut, decimal, fault_line, figures_room, figures_text, header_line, line_room, number_text};
+ghost use Rattle.std.specs.Prelude.{◌+◌, ◌≤◌, ◌++◌, ◌≡◌, length};
+ghost use Rattle.listing_lines.specs.Lines.{decimal, fault_line, figures_room, figures_text, header_line, line_room, number_text};
 ghost use Rattle.listing_lines.specs.Lines.{open_line, record_line};
 
+use arrayvec::ArrayVec;
 use hex::digits;
 use itoa::Buffer;
-use wire::u64_at;
+use wire::BigEndian;
 
 // The room for a line of a record, in characters.
 pub const LINE: usize = 128;
@@ -18,108 +19,102 @@ pub const FIGURES: usize = 64;
 
 // ## Fields
 
-fn put_byte(out: &mut [u8], o: usize, v: u8) -> usize
-    requires { o < length out.old }
-    ensures { TextPut out.old o (v ∷ []) out.new result }
+fn put<const N: usize>(out: &mut ArrayVec<u8, N>, text: &[u8])
+    requires { length out.old.items + length text.now ≤ N }
+    ensures { out.new.items ≡ out.old.items ++ text.now }
 {
-    out[o] = v;
-    o + 1
+    let _fits = out.try_extend_from_slice(text);
 }
 
-fn put_bytes(out: &mut [u8], o: usize, text: &[u8]) -> usize
-    requires { o + length text.now ≤ length out.old }
-    ensures { TextPut out.old o text.now out.new result }
-{
-    let n = text.len();
-    let mut i = 0;
-    while i < n {
-        out[o + i] = text[i];
-        i += 1;
-    }
-    o + i
-}
-
-fn put_decimal(out: &mut [u8], o: usize, x: u64) -> usize
-    requires { o + 20 ≤ length out.old }
-    ensures { TextPut out.old o (decimal x) out.new result }
+fn put_decimal<const N: usize>(out: &mut ArrayVec<u8, N>, x: u64)
+    requires { length out.old.items + 20 ≤ N }
+    ensures puts { out.new.items ≡ out.old.items ++ decimal x }
+    ensures fits { length out.new.items ≤ length out.old.items + 20 }
 {
     let mut text = Buffer::new();
-    put_bytes(out, o, text.format(x).as_bytes())
+    put(out, text.format(x).as_bytes());
 }
 
-fn put_number(out: &mut [u8], o: usize, bytes: &[u8]) -> usize
-    requires { (o + 16 ≤ length out.old) × (length bytes.now ≡ 32) }
-    ensures { TextPut out.old o (number_text bytes.now) out.new result }
+fn put_number<const N: usize>(out: &mut ArrayVec<u8, N>, bytes: &[u8])
+    requires { (length out.old.items + 16 ≤ N) × (length bytes.now ≡ 32) }
+    ensures puts { out.new.items ≡ out.old.items ++ number_text bytes.now }
+    ensures fits { length out.new.items ≤ length out.old.items + 16 }
 {
-    let text = digits(u64_at(bytes, 8));
-    put_bytes(out, o, &text)
+    put(out, &digits(u64::at(bytes, 8)));
 }
 
 // The figures: home total, far total and in flight.
-pub fn put_figures(out: &mut [u8], o: usize, home: u64, far: u64, flight: u64) -> usize
-    requires { o + figures_room ≤ length out.old }
-    ensures { TextPut out.old o (figures_text home far flight) out.new result }
+#[tactic(auto, using(std::proofs::Common::append_assoc), unfolding(crate::specs::Lines::figures_text))]
+pub fn put_figures<const N: usize>(text: &mut ArrayVec<u8, N>, home: u64, far: u64, flight: u64)
+    requires { length text.old.items + figures_room ≤ N }
+    ensures puts { text.new.items ≡ text.old.items ++ figures_text home far flight }
+    ensures fits { length text.new.items ≤ length text.old.items + figures_room }
 {
-    let a = put_byte(out, o, b' ');
-    let b = put_decimal(out, a, home);
-    let c = put_byte(out, b, b' ');
-    let d = put_decimal(out, c, far);
-    let e = put_byte(out, d, b' ');
-    let f = put_decimal(out, e, flight);
-    put_byte(out, f, b'\n')
+    text.push(b' ');
+    put_decimal(text, home);
+    text.push(b' ');
+    put_decimal(text, far);
+    text.push(b' ');
+    put_decimal(text, flight);
+    text.push(b'\n');
 }
 
 // ## Lines
+// Kept: each line asks for its room, which no type of the text can say: a full text is one too.
+// Kept: answers, refusals and figures are numbers: docs/PROVED.md names listing_lines::put_.., so none takes a narrower type.
 
 // The first line.
 #[tactic(auto, unfolding(crate::specs::Lines::header_line))]
-pub fn put_header(out: &mut [u8], o: usize) -> usize
-    requires { o + line_room ≤ length out.old }
-    ensures { TextPut out.old o header_line out.new result }
+pub fn put_header<const N: usize>(out: &mut ArrayVec<u8, N>)
+    requires { length out.old.items + line_room ≤ N }
+    ensures puts { out.new.items ≡ out.old.items ++ header_line }
+    ensures fits { length out.new.items ≤ length out.old.items + line_room }
 {
-    put_bytes(out, o, b"record number answer home far flight\n")
+    put(out, b"record number answer home far flight\n");
 }
 
 // The line of an accepted opening.
-#[tactic(auto, using(crate::proofs::Puts::put_put), unfolding(crate::specs::Lines::open_line))]
-pub fn put_open(out: &mut [u8], o: usize, home: u64, far: u64) -> usize
-    requires { o + line_room ≤ length out.old }
-    ensures { TextPut out.old o (open_line (figures_text home far 0)) out.new result }
+#[tactic(auto, using(std::proofs::Common::append_assoc), unfolding(crate::specs::Lines::open_line))]
+pub fn put_open<const N: usize>(out: &mut ArrayVec<u8, N>, home: u64, far: u64)
+    requires { length out.old.items + line_room ≤ N }
+    ensures puts { out.new.items ≡ out.old.items ++ open_line (figures_text home far 0) }
+    ensures fits { length out.new.items ≤ length out.old.items + line_room }
 {
-    let a = put_bytes(out, o, b"open - 0");
-    put_figures(out, a, home, far, 0)
+    put(out, b"open - 0");
+    put_figures(out, home, far, 0);
 }
 
 // The line of a record, with the text of the figures.
-pub fn put_record(
-    out: &mut [u8],
-    o: usize,
+#[tactic(auto, using(std::proofs::Common::append_assoc), unfolding(crate::specs::Lines::record_line))]
+pub fn put_record<const N: usize>(
+    out: &mut ArrayVec<u8, N>,
     index: u64,
     bytes: &[u8],
     answer: u64,
     figures: &[u8],
-) -> usize
-    requires { (o + line_room ≤ length out.old) × (length bytes.now ≡ 32) × (length figures.now ≤ figures_room) }
-    ensures { TextPut out.old o (record_line index bytes.now answer figures.now)
-        out.new result }
+)
+    requires { (length out.old.items + line_room ≤ N) × (length bytes.now ≡ 32) × (length figures.now ≤ figures_room) }
+    ensures puts { out.new.items ≡ out.old.items ++ record_line index bytes.now answer figures.now }
+    ensures fits { length out.new.items ≤ length out.old.items + line_room }
 {
-    let a = put_decimal(out, o, index);
-    let b = put_byte(out, a, b' ');
-    let c = put_number(out, b, bytes);
-    let d = put_byte(out, c, b' ');
-    let e = put_decimal(out, d, answer);
-    put_bytes(out, e, figures)
+    put_decimal(out, index);
+    out.push(b' ');
+    put_number(out, bytes);
+    out.push(b' ');
+    put_decimal(out, answer);
+    put(out, figures);
 }
 
 // The line of a bad block.
-#[tactic(auto, using(crate::proofs::Puts::put_put, crate::proofs::Puts::decimal_ends), unfolding(crate::specs::Lines::fault_line))]
-pub fn put_fault(out: &mut [u8], o: usize, refusal: u64, block: u64) -> usize
-    requires { o + line_room ≤ length out.old }
-    ensures { TextPut out.old o (fault_line refusal block) out.new result }
+#[tactic(auto, using(std::proofs::Common::append_assoc), unfolding(crate::specs::Lines::fault_line))]
+pub fn put_fault<const N: usize>(out: &mut ArrayVec<u8, N>, refusal: u64, block: u64)
+    requires { length out.old.items + line_room ≤ N }
+    ensures puts { out.new.items ≡ out.old.items ++ fault_line refusal block }
+    ensures fits { length out.new.items ≤ length out.old.items + line_room }
 {
-    let a = put_bytes(out, o, b"fault ");
-    let b = put_decimal(out, a, refusal);
-    let c = put_byte(out, b, b' ');
-    let d = put_decimal(out, c, block);
-    put_byte(out, d, b'\n')
+    put(out, b"fault ");
+    put_decimal(out, refusal);
+    out.push(b' ');
+    put_decimal(out, block);
+    out.push(b'\n');
 }

@@ -6,8 +6,8 @@ use Rattle.ledgers.specs.Limits.{capacity}
 use Rattle.pair_core.proofs.Accept.{sound_of}
 use Rattle.pair_core.proofs.Passing.{next_of}
 use Rattle.pair_core.specs.Layout.{PairReady, pair_supply_of, pair_view_of, pair_with, pair_words_checker}
-use Rattle.pair_rows.specs.Rows.{RowReady, moved_row, row_of, total_in}
-use Rattle.pair_rows.specs.declared.Row.{Row}
+use Rattle.pair_rows.specs.Rows.{FiguresReady, Row, RowReady, moved_row, row_of, row_with, total_in}
+use Rattle.pair_rows.specs.declared.Figures.{Figures}
 use Rattle.places.specs.Amounts.{given_by, taken_by}
 use Rattle.records.specs.Records.{reading, words_of}
 use Rattle.rules.proofs.Lists.{balance_total, length_lowered, total_lowered, total_raised}
@@ -145,9 +145,11 @@ module _ (s index b : List ℕ) (last : Row) (h : RowReady s index last) where
       ap₂ row_of j (sym v ∙ ap pair_view_of (sym t)) in
       moves_same (sym h.row_is) e m
 
--- all that `next_row` tells, from its row, the state and the indexes
-pub row_tells : (s b : List ℕ) {t i : List ℕ} {row : Row} → row ≡ row_after s b → t ≡ (call_one pair_words_checker s b).state → PairReady t i
-    → (row ≡ row_after s b) × ((t ≡ (call_one pair_words_checker s b).state) × RowReady t i row)
-row_tells s b {t} {i} {row} e q h =
-    let a = ap (λ (x : Row). x.refusal) e in
-    (e, (q, record { ready = h; row_is = e ∙ ap₂ row_of (sym a) (ap pair_view_of (sym q)) }))
+-- figures that make the row after a record are those of the state after it
+pub figures_ready : (s b : List ℕ) {t i : List ℕ} {n : ℕ} {f : Figures} → row_with n f ≡ row_after s b
+    → t ≡ (call_one pair_words_checker s b).state → PairReady t i → FiguresReady t i f
+figures_ready s b e q h =
+    record {
+      ready = h;
+      row_is = rw q (ap (λ (x : Row). record { refusal = 0; home = x.home; far = x.far; flight = x.flight }) e);
+    }

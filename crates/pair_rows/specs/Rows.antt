@@ -1,12 +1,21 @@
 -- The rows of a run of the pair validator: a refusal, or 0, and the figures of the rules' state after it. Assumes nothing.
-use Rattle.std.specs.Prelude.{◌+◌, ◌-◌, ℕ, List, ◌≡◌}
+use Rattle.std.specs.Prelude.{◌+◌, ◌-◌, ℕ, List, Result, ◌≡◌}
+use Rattle.answers.specs.Refusals.{refused_by}
+use Rattle.answers.specs.declared.refusal.Refusal.{Refusal}
 use Rattle.ledgers.specs.declared.Ledger.{Ledger}
 use Rattle.ledgers.specs.declared.Ledger.TheVariants.{Far, Home}
 use Rattle.pair_core.specs.Layout.{PairReady, pair_view_of}
-use Rattle.pair_rows.specs.declared.Row.{Row}
+use Rattle.pair_rows.specs.declared.Figures.{Figures}
 use Rattle.rules.specs.Lists.{total}
 use Rattle.rules.specs.PairValidator.{PairView}
 use Rattle.rules.specs.Rules.{in_flight}
+
+-- a refusal, or 0, with the totals of both ledgers and what is in flight after it
+pub record Row : Type 0 where
+  pub refusal : ℕ
+  pub home : ℕ
+  pub far : ℕ
+  pub flight : ℕ
 
 -- the row of a refusal, or 0, and of the rules' state after it
 abbrev pub row_of : ℕ → PairView → Row
@@ -18,9 +27,13 @@ row_of refusal v =
       flight = in_flight v.pair;
     }
 
--- the row of an opening that is refused: there are no figures
-abbrev pub refused_row : ℕ → Row
-refused_row refusal = record { refusal = refusal; home = 0; far = 0; flight = 0 }
+-- the row of a refusal, or 0, and of figures
+abbrev pub row_with : ℕ → Figures → Row
+row_with refusal f = record { refusal = refusal; home = f.home; far = f.far; flight = f.flight }
+
+-- the row of a result and of the figures beside it
+abbrev pub row_told : Result (Unit {0}) Refusal → Figures → Row
+row_told judged f = row_with (refused_by judged) f
 
 -- ## For inner functions
 
@@ -28,6 +41,10 @@ refused_row refusal = record { refusal = refusal; home = 0; far = 0; flight = 0 
 pub record RowReady (s index : List ℕ) (row : Row) : Type 0 where
   pub ready : PairReady s index
   pub row_is : row ≡ row_of row.refusal (pair_view_of s)
+
+-- the same of figures
+abbrev pub FiguresReady : List ℕ → List ℕ → Figures → Type 0
+FiguresReady s index f = RowReady s index (row_with 0 f)
 
 -- the total of a ledger in a row
 abbrev pub total_in : Row → Ledger → ℕ

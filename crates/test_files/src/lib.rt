@@ -1,7 +1,8 @@
 // The files that a test program's arguments name.
 #![tactic(auto)]
 
-use std::fs::{self, Files};
+use std::env;
+use std::fs::{self, File, Files};
 use std::io::{self, Print};
 
 // Prints the name of a file on a line, and opens it for reading; where that fails it prints so. Without an `ensures`, since a contract
@@ -15,4 +16,17 @@ pub fn open<R: Files + Print>(rt: &R, name: &str) -> io::Result<Option<R::File>>
             Ok(None)
         }
     }
+}
+
+// Hands each of the files over, up to the first one with which that fails. Without an `ensures`, as above.
+pub fn each<F: FnMut(File) -> io::Result<()>>(rt: &HostRuntime, read: F) -> io::Result<()>
+    requires { F.IsAlwaysCallable read }
+{
+    let mut read = read;
+    for name in env::args(rt)?.take(1000).skip(1) {
+        if let Some(file) = open(rt, name.as_str())? {
+            read(file)?;
+        }
+    }
+    Ok(())
 }

@@ -1,13 +1,17 @@
--- Each turn goes on from where the ones before led, and with none left the listing has stopped.
-use Rattle.listing_journal.proofs.Turning.{turns_next, turns_start}
+-- Each turn goes on from where the ones before led, and after as many as there are chunks none can go on.
+use Rattle.listing_journal.proofs.Turning.{turns_last, turns_next, turns_start}
 use Rattle.listing_journal.proofs.list_rest.Goals as goal
-use Rattle.wire.proofs.Prelude.{not-false}
 
-pub loop-turns-init : goal.loop-turns-init
-loop-turns-init g c = let o = c.requires in turns_start c.no_turn-last.ensures o.0 o.1 o.2
+pub loop-init : goal.loop-init
+loop-init g c =
+    let f = c.first_cursor-cursor.ensures in
+    turns_start c.first_cursor-cursor.result (f.stands c.args.state.now) c.requires.0 (rw f.figures c.requires.1)
 
-pub loop-turns-preserved : goal.loop-turns-preserved
-loop-turns-preserved g c =
-    let e = c.turn-last.ensures in
-    turns_next c.loop-turns.invariant c.loop-turns-test.true (not-false _ c.if-not-cursor.false) (e.keeps, e.turns) c.turn-last.auto.input
-    c.turn-last.auto.out
+pub turn-requires : goal.turn-requires
+turn-requires g c = let v = c.loop.invariant in (v.input_long, v.ready)
+
+pub loop-preserved : goal.loop-preserved
+loop-preserved g c = turns_next c.loop.invariant (rw c.in-Continue.is at c.turn.ensures) c.turn.auto.input
+
+pub returns-in-Break : goal.returns-in-Break
+returns-in-Break g c = turns_last c.loop.invariant (rw c.in-Break.is at c.turn.ensures)

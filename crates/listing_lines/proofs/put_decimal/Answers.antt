@@ -1,15 +1,9 @@
--- The text of a number is its decimal digits, of which there are at most 20.
-use Rattle.wire.proofs.Prelude.{◌∙◌, ◌≡◌, arith}
-use Rattle.std.proofs.lemmas.Fmt.{length-decimal-le}
-use Rattle.std.specs.Fmt.{decimal as number_digits}
-use Rattle.listing_lines.proofs.Puts.{decimal_whole}
+-- The library's text of a number is its decimal digits, of which there are at most 20.
+use Rattle.wire.proofs.Prelude.{arith, sym, ◌∙◌, ◌++◌, ap}
+use Rattle.listing_lines.proofs.Decimals.{text_decimal}
 use Rattle.listing_lines.proofs.put_decimal.Goals as goal
 
-pub put_bytes-requires : goal.put_bytes-requires
-put_bytes-requires c =
-    let e : c.as_bytes.result.now ≡ number_digits c.args.x = c.as_bytes.ensures.value ∙ c.format.ensures.text in
-    let l = length-decimal-le 20 c.args.x (omega arith) (omega arith) (omega arith) in
-    rw e (omega (arith, l))
-
-pub returns : goal.returns
-returns c = decimal_whole _ _ (omega arith) (c.as_bytes.ensures.value ∙ c.format.ensures.text) c.put_bytes.ensures
+pub returns-clause-puts : goal.returns-clause-puts
+returns-clause-puts g c =
+    let digits = c.as_bytes.ensures.value ∙ c.format.ensures.text ∙ sym (text_decimal c.args.x (omega arith)) in
+    c.put.ensures ∙ ap (λ l. c.args.out.now.items ++ l) digits

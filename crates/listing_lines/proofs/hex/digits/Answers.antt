@@ -8,4 +8,4 @@ use Rattle.listing_lines.proofs.hex.digits.Goals as goal
 pub returns : goal.returns
 unfolding bytes_of hexadecimal
 returns c =
-    rw (c.u64_bytes-h.ensures ∙ c.high_digits.ensures, c.u64_bytes-l.ensures ∙ c.low_digits.ensures) refl
+    rw (c.bytes-h.ensures ∙ c.high_digits.ensures, c.bytes-l.ensures ∙ c.low_digits.ensures) refl
