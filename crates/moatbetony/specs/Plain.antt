@@ -1,14 +1,12 @@
 -- What the library's exports hand back: answers as plain numbers, beside what a call hands out. Assumes nothing.
 use Rattle.std.specs.Prelude.{◌*◌, ◌+◌, ℕ, cond, List, replicate}
 use Rattle.answers.specs.Answers.{answer, number_of, place_of, unless_refused}
-use Rattle.answers.specs.declared.Answer.{Answer}
-use Rattle.answers.specs.declared.Answer.TheVariants.{Passed, Refused}
-use Rattle.answers.specs.declared.balance.Balance.{Balance}
+use Rattle.answers.specs.Answers.{Answer}
+use Rattle.answers.specs.Answers.{Passed, Refused}
+use Rattle.answers.specs.Balances.{Balance}
 use Rattle.home_validator.specs.declared.HomeValidator.{HomeValidator}
-use Rattle.home_validator.specs.declared.asked.HomeFigures.{HomeFigures}
-use Rattle.home_validator.specs.declared.asked.HomePlaces.{HomePlaces}
-use Rattle.journal_reader.specs.declared.Balances.{Balances}
-use Rattle.journal_reader.specs.declared.Counted.{Counted}
+use Rattle.home_validator.specs.Figures.{HomeFigures, HomePlaces}
+use Rattle.journal_reader.specs.Judged.{Balances, Counted}
 use Rattle.ledgers.specs.Ledgers.{kind_byte, ledger_byte, ledger_of}
 use Rattle.moatbetony.specs.declared.PlainBalance.{PlainBalance}
 use Rattle.moatbetony.specs.declared.PlainBalances.{PlainBalances}
@@ -25,13 +23,12 @@ use Rattle.moatbetony.specs.declared.PlainPart.{PlainPart}
 use Rattle.moatbetony.specs.declared.PlainRecord.{PlainRecord}
 use Rattle.moatbetony.specs.declared.PlainAnswer.{PlainAnswer}
 use Rattle.pair_validator.specs.declared.PairValidator.{PairValidator}
-use Rattle.pair_validator.specs.declared.asked.PairFigures.{PairFigures}
-use Rattle.pair_validator.specs.declared.asked.PairPlaces.{PairPlaces}
+use Rattle.pair_validator.specs.Figures.{PairFigures, PairPlaces}
 use Rattle.records.specs.Records.{reading_refusal}
-use Rattle.records.specs.declared.Reading.{Reading}
-use Rattle.records.specs.declared.Reading.TheVariants.{Read, Unreadable}
+use Rattle.records.specs.Records.{Reading}
+use Rattle.records.specs.Records.{Read, Unreadable}
 use Rattle.records.specs.declared.Record.{Record}
-use Rattle.tariffs.specs.declared.Charged.{Charged}
+use Rattle.tariffs.specs.Tariffs.{Charged}
 use Rattle.tariffs.specs.declared.Tariff.{Tariff}
 
 -- ## Versions

@@ -1,5 +1,6 @@
 // The exports that makers link from C, Rust and what can call C: each is one call of the library's function of its name, with the same
-// clauses. include/moatbetony.h declares all of it. A crate of its own, since one is a library for Rattle or an archive for C, not both.
+// clauses. include/moatbetony.h declares all of it.
+// Kept: a crate is a library for Rattle or an archive for C, and an archive exports its own functions alone, so that each is here again.
 #![tactic(auto)]
 
 ghost use Rattle.std.specs.Prelude.{◌≡◌, drop, length, take};

@@ -2,408 +2,316 @@
 // the answer's number and the figures of the state that came back.
 #![tactic(auto)]
 
-use answers::Answer;
-use home_validator::{HomeOutcome, HomeValidator};
+use answers::Outcome;
+use home_validator::HomeValidator;
+use home_validator::asked::HomeFigures;
 use ledgers::{Kind, Ledger};
-use pair_validator::{PairOutcome, PairValidator};
+use pair_validator::PairValidator;
+use pair_validator::asked::PairFigures;
 use records::Record;
 use std::io;
 use tariffs::Tariff;
 
-// The line of a call of the pair validator: case, number, home, far and in flight.
-fn pair_line(rt: &HostRuntime, case: u64, o: PairOutcome) -> io::Result<()> {
-    let answer = o.answer;
-    let state = o.state;
-    let figures = pair_validator::figures(state);
-    println!(rt;
-        "pair {case} {} {} {} {}",
-        answer.number(),
-        figures.home,
-        figures.far,
-        figures.flight
-    )
+// The kinds of the cases' records.
+const LOCAL: Kind = Kind::Local(Ledger::Home);
+
+const SENDING: Kind = Kind::Sending(Ledger::Home);
+
+const ARRIVAL: Kind = Kind::Receiving(Ledger::Home);
+
+const FAR_LOCAL: Kind = Kind::Local(Ledger::Far);
+
+const FAR_SENDING: Kind = Kind::Sending(Ledger::Far);
+
+const FAR_ARRIVAL: Kind = Kind::Receiving(Ledger::Far);
+
+// No charge.
+const FREE: Tariff = Tariff {
+    rate: 0,
+    account: 0,
+};
+
+// A validator, as the cases open, call and show it.
+trait Validator: Copy {
+    // An opening with home 100 and 50, far 20, and a charge.
+    fn charged(tariff: Tariff) -> Self;
+
+    // A call with one record.
+    fn take(self, bytes: &[u8]) -> Outcome<Self>;
+
+    // The line of a call that left this state: case, number and figures.
+    fn print(self, rt: &HostRuntime, case: u64, number: u32) -> io::Result<()>;
 }
 
-// The line of a call of the home validator: case, number, home and far pool.
-fn home_line(rt: &HostRuntime, case: u64, o: HomeOutcome) -> io::Result<()> {
-    let answer = o.answer;
-    let state = o.state;
-    let figures = home_validator::figures(state);
-    println!(rt;
-        "home {case} {} {} {}",
-        answer.number(),
-        figures.home,
-        figures.pool
-    )
+impl Validator for PairValidator {
+    fn charged(tariff: Tariff) -> PairValidator {
+        PairValidator::open(&[100, 50], &[20], tariff).state
+    }
+
+    fn take(self, bytes: &[u8]) -> Outcome<PairValidator> {
+        self.check_record(bytes)
+    }
+
+    // Home, far and in flight; zeros where the state is refused.
+    fn print(self, rt: &HostRuntime, case: u64, number: u32) -> io::Result<()> {
+        let none = PairFigures {
+            home: 0,
+            far: 0,
+            flight: 0,
+        };
+        let PairFigures { home, far, flight } = pair_validator::figures(self).unwrap_or(none);
+        println!(rt; "pair {case} {number} {home} {far} {flight}")
+    }
 }
 
-// The bytes of a record with a good signature.
-fn bytes_of(kind: Kind, sender: u16, receiver: u16, number: u64, amount: u64) -> [u8; 32] {
-    let r = Record {
+impl Validator for HomeValidator {
+    fn charged(tariff: Tariff) -> HomeValidator {
+        HomeValidator::open(&[100, 50], 1, 20, tariff).state
+    }
+
+    fn take(self, bytes: &[u8]) -> Outcome<HomeValidator> {
+        self.check_record(bytes)
+    }
+
+    // Home and far pool; zeros where the state is refused.
+    fn print(self, rt: &HostRuntime, case: u64, number: u32) -> io::Result<()> {
+        let none = HomeFigures { home: 0, pool: 0 };
+        let HomeFigures { home, pool } = home_validator::figures(self).unwrap_or(none);
+        println!(rt; "home {case} {number} {home} {pool}")
+    }
+}
+
+// An opening with no charge.
+fn opened<V: Validator>() -> V {
+    V::charged(FREE)
+}
+
+// The line of a call, and the state that it left.
+fn show<V: Validator>(rt: &HostRuntime, case: u64, outcome: Outcome<V>) -> io::Result<V> {
+    let state = outcome.state;
+    state.print(rt, case, answers::number(outcome.answer))?;
+    Ok(state)
+}
+
+// One record handed to a state: its line, and the state.
+fn hand<V: Validator>(rt: &HostRuntime, case: u64, state: V, record: Record) -> io::Result<V> {
+    show(rt, case, state.take(&record.encode()))
+}
+
+// Records handed to one state each: their lines.
+fn hand_each<V: Validator>(
+    rt: &HostRuntime,
+    case: u64,
+    state: V,
+    records: &[Record],
+) -> io::Result<()> {
+    for &record in records {
+        hand(rt, case, state, record)?;
+    }
+    Ok(())
+}
+
+// A record with a good signature.
+fn record(kind: Kind, sender: u16, receiver: u16, number: u64, amount: u64) -> Record {
+    Record {
         kind,
         sender,
         receiver,
         number,
         amount,
         verified: true,
-    };
-    r.encode()
-}
-
-// A charge of so many ten-thousandths, paid to an account.
-fn taking(rate: u64, account: u64) -> Tariff {
-    Tariff { rate, account }
-}
-
-// Home 100 and 50, far 20, and a charge.
-fn charged(tariff: Tariff) -> PairValidator {
-    let homes = [100u64, 50];
-    let fars = [20u64];
-    let o = PairValidator::open(&homes, &fars, tariff);
-    o.state
-}
-
-// The home validator with the same.
-fn home_charged(tariff: Tariff) -> HomeValidator {
-    let homes = [100u64, 50];
-    let o = HomeValidator::open(&homes, 1, 20, tariff);
-    o.state
-}
-
-// Both with no charge.
-fn opened() -> PairValidator {
-    charged(taking(0, 0))
-}
-
-fn home_opened() -> HomeValidator {
-    home_charged(taking(0, 0))
-}
-
-// One record handed to a state of the pair validator: its line, and the state.
-fn pair_one(
-    rt: &HostRuntime,
-    case: u64,
-    s: PairValidator,
-    bytes: [u8; 32],
-) -> io::Result<PairValidator> {
-    let o = s.check_record(&bytes);
-    pair_line(rt, case, o)?;
-    Ok(o.state)
-}
-
-// The same for the home validator.
-fn home_one(
-    rt: &HostRuntime,
-    case: u64,
-    s: HomeValidator,
-    bytes: [u8; 32],
-) -> io::Result<HomeValidator> {
-    let o = s.check_record(&bytes);
-    home_line(rt, case, o)?;
-    Ok(o.state)
+    }
 }
 
 // Cases 1 to 4: a sending, its arrival, the arrival once more, and one of another amount.
 fn crossings(rt: &HostRuntime) -> io::Result<()> {
-    let sent = pair_one(
-        rt,
-        1,
-        opened(),
-        bytes_of(Kind::Sending(Ledger::Home), 0, 0, 7, 30),
-    )?;
-    let arrived = pair_one(
-        rt,
-        2,
-        sent,
-        bytes_of(Kind::Receiving(Ledger::Far), 0, 0, 7, 30),
-    )?;
-    pair_one(
-        rt,
-        3,
-        arrived,
-        bytes_of(Kind::Receiving(Ledger::Far), 0, 0, 7, 30),
-    )?;
-    pair_one(
-        rt,
-        4,
-        sent,
-        bytes_of(Kind::Receiving(Ledger::Far), 0, 0, 7, 31),
-    )?;
+    let pair: PairValidator = opened();
+    let arrival = record(FAR_ARRIVAL, 0, 0, 7, 30);
+    let sent = hand(rt, 1, pair, record(SENDING, 0, 0, 7, 30))?;
+    let arrived = hand(rt, 2, sent, arrival)?;
+    hand(rt, 3, arrived, arrival)?;
+    hand(rt, 4, sent, record(FAR_ARRIVAL, 0, 0, 7, 31))?;
     Ok(())
 }
 
-// Cases 5 to 8: locals.
+// Cases 5 to 8: locals to account 0.
 fn locals(rt: &HostRuntime) -> io::Result<()> {
-    pair_one(
-        rt,
-        5,
-        opened(),
-        bytes_of(Kind::Local(Ledger::Home), 1, 0, 0, 50),
-    )?;
-    pair_one(
-        rt,
-        5,
-        opened(),
-        bytes_of(Kind::Local(Ledger::Home), 1, 0, 0, 51),
-    )?;
-    pair_one(
-        rt,
-        6,
-        opened(),
-        bytes_of(Kind::Local(Ledger::Home), 0, 0, 0, 100),
-    )?;
-    pair_one(
-        rt,
-        6,
-        opened(),
-        bytes_of(Kind::Local(Ledger::Home), 0, 0, 0, 101),
-    )?;
-    pair_one(
-        rt,
-        7,
-        opened(),
-        bytes_of(Kind::Local(Ledger::Home), 2, 0, 0, 1),
-    )?;
-    pair_one(
-        rt,
-        8,
-        opened(),
-        bytes_of(Kind::Local(Ledger::Home), 0, 0, 0, 0),
-    )?;
-    pair_one(
-        rt,
-        8,
-        opened(),
-        bytes_of(Kind::Local(Ledger::Home), 0, 0, 0, 9223372036854775807),
-    )?;
-    pair_one(
-        rt,
-        8,
-        opened(),
-        bytes_of(Kind::Local(Ledger::Home), 0, 0, 0, 9223372036854775808),
-    )?;
+    let pair: PairValidator = opened();
+    let rows = [
+        (5, 1, 50),
+        (5, 1, 51),
+        (6, 0, 100),
+        (6, 0, 101),
+        (7, 2, 1),
+        (8, 0, 0),
+        (8, 0, 9223372036854775807),
+        (8, 0, 9223372036854775808),
+    ];
+    for (case, sender, amount) in rows {
+        hand(rt, case, pair, record(LOCAL, sender, 0, 0, amount))?;
+    }
     Ok(())
 }
 
 // Case 9: arrivals at the home validator.
 fn arrivals(rt: &HostRuntime) -> io::Result<()> {
-    home_one(
-        rt,
-        9,
-        home_opened(),
-        bytes_of(Kind::Receiving(Ledger::Home), 0, 0, 1, 20),
-    )?;
-    home_one(
-        rt,
-        9,
-        home_opened(),
-        bytes_of(Kind::Receiving(Ledger::Home), 0, 0, 1, 21),
-    )?;
-    let sent = home_one(
-        rt,
-        9,
-        home_opened(),
-        bytes_of(Kind::Sending(Ledger::Home), 0, 0, 1, 30),
-    )?;
-    home_one(
-        rt,
-        9,
-        sent,
-        bytes_of(Kind::Receiving(Ledger::Home), 0, 0, 2, 50),
-    )?;
-    home_one(
-        rt,
-        9,
-        sent,
-        bytes_of(Kind::Receiving(Ledger::Home), 0, 0, 2, 51),
-    )?;
-    home_one(rt, 9, sent, bytes_of(Kind::Local(Ledger::Far), 0, 0, 2, 1))?;
-    Ok(())
+    let home: HomeValidator = opened();
+    let first = [record(ARRIVAL, 0, 0, 1, 20), record(ARRIVAL, 0, 0, 1, 21)];
+    hand_each(rt, 9, home, &first)?;
+    let sent = hand(rt, 9, home, record(SENDING, 0, 0, 1, 30))?;
+    let later = [
+        record(ARRIVAL, 0, 0, 2, 50),
+        record(ARRIVAL, 0, 0, 2, 51),
+        record(FAR_LOCAL, 0, 0, 2, 1),
+    ];
+    hand_each(rt, 9, sent, &later)
 }
 
 // Cases 10 and 11: a bad signature with a used number, and a verdict byte that is none.
 fn signatures(rt: &HostRuntime) -> io::Result<()> {
-    let mut bytes = bytes_of(Kind::Local(Ledger::Home), 0, 1, 3, 1);
-    let used = pair_one(rt, 10, opened(), bytes)?;
-    bytes[24] = 0;
-    pair_one(rt, 10, used, bytes)?;
-    bytes[24] = 2;
-    pair_one(rt, 11, used, bytes)?;
+    let pair: PairValidator = opened();
+    let mut bytes = record(LOCAL, 0, 1, 3, 1).encode();
+    let used = show(rt, 10, pair.take(&bytes))?;
+    for (case, verdict) in [(10, 0), (11, 2)] {
+        bytes[24] = verdict;
+        show(rt, case, used.take(&bytes))?;
+    }
     Ok(())
 }
 
 // The lines of an opening with home balances, one far balance and a charge.
 fn opening(rt: &HostRuntime, case: u64, homes: &[u64], far: u64, tariff: Tariff) -> io::Result<()> {
-    let fars = [far];
-    pair_line(rt, case, PairValidator::open(homes, &fars, tariff))?;
-    home_line(rt, case, HomeValidator::open(homes, 1, far, tariff))?;
+    show(rt, case, PairValidator::open(homes, &[far], tariff))?;
+    show(rt, case, HomeValidator::open(homes, 1, far, tariff))?;
     Ok(())
 }
 
 // Cases 12 and 14: openings.
 fn openings(rt: &HostRuntime) -> io::Result<()> {
-    let greatest = [9223372036854775807u64];
-    let free = taking(0, 0);
-    opening(rt, 12, &greatest, 0, free)?;
-    opening(rt, 12, &greatest, 1, free)?;
-    let most = [1u64; 56];
-    opening(rt, 14, &most, 0, free)?;
-    let more = [1u64; 57];
-    opening(rt, 14, &more, 0, free)?;
-    opening(rt, 14, &more[..0], 0, free)?;
+    let greatest = [9223372036854775807];
+    let more = [1; 57];
+    let rows = [
+        (12, &greatest[..], 0),
+        (12, &greatest[..], 1),
+        (14, &more[..56], 0),
+        (14, &more[..], 0),
+        (14, &more[..0], 0),
+    ];
+    for (case, homes, far) in rows {
+        opening(rt, case, homes, far, FREE)?;
+    }
     Ok(())
 }
 
 // 52 after 1 and 2: a rate above 10,000, an account that is not open, also at rate 0, and numbers beyond 16 bits.
 fn tariffs_judged(rt: &HostRuntime) -> io::Result<()> {
-    let homes = [100u64, 50];
-    opening(rt, 0, &homes, 20, taking(10000, 1))?;
-    opening(rt, 0, &homes, 20, taking(10001, 1))?;
-    opening(rt, 0, &homes, 20, taking(0, 2))?;
-    opening(rt, 0, &homes, 20, taking(65586, 65536))?;
-    let greatest = [9223372036854775807u64];
-    opening(rt, 0, &greatest, 1, taking(10001, 1))?;
-    Ok(())
+    for (rate, account) in [(10000, 1), (10001, 1), (0, 2), (65586, 65536)] {
+        opening(rt, 0, &[100, 50], 20, Tariff { rate, account })?;
+    }
+    let above = Tariff {
+        rate: 10001,
+        account: 1,
+    };
+    opening(rt, 0, &[9223372036854775807], 1, above)
 }
 
 // A home sending at rate 10,000, which costs twice its amount: by another account than the one that is paid, by that one, one that is too
 // much with the charge; then a local, a far sending and an arrival, which cost nothing more.
 fn charges(rt: &HostRuntime) -> io::Result<()> {
-    let s = charged(taking(10000, 1));
-    let sent = pair_one(rt, 0, s, bytes_of(Kind::Sending(Ledger::Home), 0, 0, 7, 50))?;
-    pair_one(rt, 0, s, bytes_of(Kind::Sending(Ledger::Home), 0, 0, 7, 51))?;
-    pair_one(rt, 0, s, bytes_of(Kind::Sending(Ledger::Home), 1, 0, 7, 25))?;
-    pair_one(
-        rt,
-        0,
-        sent,
-        bytes_of(Kind::Local(Ledger::Home), 1, 0, 8, 100),
-    )?;
-    pair_one(
-        rt,
-        0,
-        sent,
-        bytes_of(Kind::Sending(Ledger::Far), 0, 0, 8, 20),
-    )?;
-    pair_one(
-        rt,
-        0,
-        sent,
-        bytes_of(Kind::Receiving(Ledger::Far), 0, 0, 7, 50),
-    )?;
-    let h = home_charged(taking(10000, 0));
-    let own = home_one(rt, 0, h, bytes_of(Kind::Sending(Ledger::Home), 0, 0, 7, 50))?;
-    home_one(rt, 0, h, bytes_of(Kind::Sending(Ledger::Home), 0, 0, 7, 51))?;
-    home_one(
-        rt,
-        0,
-        own,
-        bytes_of(Kind::Receiving(Ledger::Home), 0, 0, 8, 70),
-    )?;
-    home_one(
-        rt,
-        0,
-        own,
-        bytes_of(Kind::Receiving(Ledger::Home), 0, 0, 8, 71),
-    )?;
-    Ok(())
+    let pair = PairValidator::charged(Tariff {
+        rate: 10000,
+        account: 1,
+    });
+    let sent = hand(rt, 0, pair, record(SENDING, 0, 0, 7, 50))?;
+    let sendings = [record(SENDING, 0, 0, 7, 51), record(SENDING, 1, 0, 7, 25)];
+    hand_each(rt, 0, pair, &sendings)?;
+    let others = [
+        record(LOCAL, 1, 0, 8, 100),
+        record(FAR_SENDING, 0, 0, 8, 20),
+        record(FAR_ARRIVAL, 0, 0, 7, 50),
+    ];
+    hand_each(rt, 0, sent, &others)?;
+    let home = HomeValidator::charged(Tariff {
+        rate: 10000,
+        account: 0,
+    });
+    let own = hand(rt, 0, home, record(SENDING, 0, 0, 7, 50))?;
+    hand(rt, 0, home, record(SENDING, 0, 0, 7, 51))?;
+    let arrivals = [record(ARRIVAL, 0, 0, 8, 70), record(ARRIVAL, 0, 0, 8, 71)];
+    hand_each(rt, 0, own, &arrivals)
 }
 
-// Case 13: the 512th passed record of a ledger passes, the next is 41, and one with a used number is 24.
-fn full_table(rt: &HostRuntime) -> io::Result<()> {
-    let mut s = opened();
-    let mut h = home_opened();
-    let mut number = 0;
-    while number < 511 {
-        let from = (number % 2) as u16;
-        let bytes = bytes_of(Kind::Local(Ledger::Home), from, 1 - from, number, 1);
-        s = s.check_record(&bytes).state;
-        h = h.check_record(&bytes).state;
-        number += 1;
+// A state after 511 locals that pass.
+fn filled<V: Validator>() -> V {
+    let mut state: V = opened();
+    for number in 0..511u64 {
+        let sender = (number % 2) as u16;
+        let bytes = record(LOCAL, sender, 1 - sender, number, 1).encode();
+        state = state.take(&bytes).state;
     }
-    let full = pair_one(rt, 13, s, bytes_of(Kind::Local(Ledger::Home), 1, 0, 511, 1))?;
-    pair_one(
-        rt,
-        13,
-        full,
-        bytes_of(Kind::Local(Ledger::Home), 0, 1, 512, 1),
-    )?;
-    pair_one(
-        rt,
-        13,
-        full,
-        bytes_of(Kind::Local(Ledger::Home), 0, 1, 0, 1),
-    )?;
-    pair_one(rt, 13, full, bytes_of(Kind::Local(Ledger::Far), 0, 0, 0, 1))?;
-    let home_full = home_one(rt, 13, h, bytes_of(Kind::Local(Ledger::Home), 1, 0, 511, 1))?;
-    home_one(
-        rt,
-        13,
-        home_full,
-        bytes_of(Kind::Local(Ledger::Home), 0, 1, 512, 1),
-    )?;
-    home_one(
-        rt,
-        13,
-        home_full,
-        bytes_of(Kind::Local(Ledger::Home), 0, 1, 0, 1),
-    )?;
+    state
+}
+
+// The 512th passed record of a ledger passes, the next is 41, and one with a used number is 24.
+fn full_table<V: Validator>(rt: &HostRuntime) -> io::Result<V> {
+    let full = hand(rt, 13, filled(), record(LOCAL, 1, 0, 511, 1))?;
+    let refused = [record(LOCAL, 0, 1, 512, 1), record(LOCAL, 0, 1, 0, 1)];
+    hand_each(rt, 13, full, &refused)?;
+    Ok(full)
+}
+
+// Case 13: a full table of each validator; the other ledger's has room.
+fn full_tables(rt: &HostRuntime) -> io::Result<()> {
+    let full: PairValidator = full_table(rt)?;
+    hand(rt, 13, full, record(FAR_LOCAL, 0, 0, 0, 1))?;
+    full_table::<HomeValidator>(rt)?;
     Ok(())
 }
 
 // A forged state is refused with 3; two balances exchanged are not seen.
 fn forged(rt: &HostRuntime) -> io::Result<()> {
-    let bytes = bytes_of(Kind::Local(Ledger::Home), 0, 1, 1, 1);
-    let mut one_changed = opened();
+    let local = record(LOCAL, 0, 1, 1, 1);
+    let pair: PairValidator = opened();
+    let home: HomeValidator = opened();
+    let mut one_changed = pair;
     one_changed.words[pair_core::BALANCES_WORD] = 101;
-    pair_one(rt, 0, one_changed, bytes)?;
-    let mut exchanged = opened();
+    hand(rt, 0, one_changed, local)?;
+    let mut exchanged = pair;
     exchanged.words[pair_core::BALANCES_WORD] = 50;
     exchanged.words[pair_core::BALANCES_WORD + 1] = 100;
-    pair_one(rt, 0, exchanged, bytes)?;
-    let mut pool = home_opened();
+    hand(rt, 0, exchanged, local)?;
+    let mut pool = home;
     pool.words[home_core::POOL_WORD] = 21;
-    home_one(rt, 0, pool, bytes)?;
-    let mut rate = opened();
+    hand(rt, 0, pool, local)?;
+    let mut rate = pair;
     rate.words[pair_core::RATE_WORD] = 10001;
-    pair_one(rt, 0, rate, bytes)?;
-    let mut account = home_opened();
+    hand(rt, 0, rate, local)?;
+    let mut account = home;
     account.words[home_core::CHARGE_ACCOUNT_WORD] = 2;
-    home_one(rt, 0, account, bytes)?;
+    hand(rt, 0, account, local)?;
     Ok(())
+}
+
+// The bytes of a sending and its arrival.
+fn both() -> [u8; 64] {
+    let mut bytes = [0u8; 64];
+    bytes[..32].copy_from_slice(&record(SENDING, 0, 0, 7, 30).encode());
+    bytes[32..].copy_from_slice(&record(FAR_ARRIVAL, 0, 0, 7, 30).encode());
+    bytes
 }
 
 // A list of two records and a short rest, whose place of refusal follows; without the rest, empty, and as one record.
-fn list_lines(rt: &HostRuntime, both: &[u8]) -> io::Result<()> {
-    if both.len() < 64 {
-        return Ok(());
-    }
-    let refused = opened().check_list(both);
-    pair_line(rt, 0, refused)?;
-    let answer = refused.answer;
-    println!(rt; " {}", answer.place())?;
-    pair_line(rt, 0, opened().check_list(&both[0..64]))?;
-    pair_line(rt, 0, opened().check_list(&both[0..0]))?;
-    pair_line(rt, 0, opened().check_record(&both[0..64]))?;
-    Ok(())
-}
-
-// The bytes of a sending and its arrival, and the rest of the buffer as it is.
-fn lay(out: &mut [u8]) {
-    if out.len() < 64 {
-        return;
-    }
-    let a = bytes_of(Kind::Sending(Ledger::Home), 0, 0, 7, 30);
-    let b = bytes_of(Kind::Receiving(Ledger::Far), 0, 0, 7, 30);
-    out[0..32].copy_from_slice(&a);
-    out[32..64].copy_from_slice(&b);
-}
-
-// Lists of two records, with 31 bytes more and without.
 fn lists(rt: &HostRuntime) -> io::Result<()> {
-    let mut both = [0u8; 95];
-    lay(&mut both);
-    list_lines(rt, &both)?;
+    let pair: PairValidator = opened();
+    let both = both();
+    let mut longer = [0u8; 95];
+    longer[..64].copy_from_slice(&both);
+    let refused = pair.check_list(&longer);
+    show(rt, 0, refused)?;
+    println!(rt; " {}", answers::place(refused.answer))?;
+    show(rt, 0, pair.check_list(&both))?;
+    show(rt, 0, pair.check_list(&[]))?;
+    show(rt, 0, pair.check_record(&both))?;
     Ok(())
 }
 
@@ -415,7 +323,7 @@ fn main(rt: HostRuntime) -> io::Result<()> {
     openings(&rt)?;
     tariffs_judged(&rt)?;
     charges(&rt)?;
-    full_table(&rt)?;
+    full_tables(&rt)?;
     forged(&rt)?;
     lists(&rt)?;
     Ok(())

@@ -1,28 +1,19 @@
--- Beside a refusal there is no part; where the record passed, its place is in the block, and the part is the record's.
-use Rattle.wire.proofs.Prelude.{◌∙◌, ◌≡◌, arith, sym}
-use Rattle.answers.proofs.Answers.{passed_zero}
-use Rattle.journal_reader.proofs.Judging.{place_facts}
-use Rattle.journal_reader.specs.Judged.{record_refusal}
-use Rattle.moatbetony.proofs.Telling.{part_passed, part_refused}
+-- Beside a refusal there is no part; where the record passed, the part is the record's.
+use Rattle.wire.proofs.Prelude.{[], ◌≡◌, sym}
+use Rattle.answers.proofs.Answers.{passed_zero, refused_instead}
+use Rattle.journal_blocks.specs.Blocks.{record_part}
+use Rattle.journal_reader.specs.Judged.{part_of, record_refusal}
 use Rattle.moatbetony.proofs.moatbetony_block_record.Goals as goal
 
-pub returns-in_default-clause-holds : goal.returns-in_default-clause-holds
-returns-in_default-clause-holds c = (part_refused _ _ _ _ c.plain.ensures c.judge_record-answer.ensures c.in_default.is).1
-
-pub overflow_mul-result : goal.overflow_mul-result
-overflow_mul-result c =
+pub returns-in-Err-clause-holds : goal.returns-in-Err-clause-holds
+unfolding part_of
+returns-in-Err-clause-holds c =
     let a = c.args in
-    let z : record_refusal a.block.now a.number a.before a.place ≡ 0 = passed_zero _ _ (sym c.judge_record-answer.ensures ∙ c.in-Passed.is) in
-    omega (arith, (place_facts _ _ _ _ z).low)
-
-pub overflow_add-result : goal.overflow_add-result
-overflow_add-result c =
-    let a = c.args in
-    let z : record_refusal a.block.now a.number a.before a.place ≡ 0 = passed_zero _ _ (sym c.judge_record-answer.ensures ∙ c.in-Passed.is) in
-    omega (arith, (place_facts _ _ _ _ z).low)
+    sym (refused_instead _ a.number _ _ (record_part a.block.now a.place) [] (sym c.in-Err.ensures))
 
 pub returns-clause-holds : goal.returns-clause-holds
+unfolding part_of record_part
 returns-clause-holds c =
     let a = c.args in
-    let z : record_refusal a.block.now a.number a.before a.place ≡ 0 = passed_zero _ _ (sym c.judge_record-answer.ensures ∙ c.in-Passed.is) in
-    (part_passed _ _ _ _ c.plain-2.ensures c.judge_record-answer.ensures z).1
+    let z : record_refusal a.block.now a.number a.before a.place ≡ 0 = passed_zero _ _ (sym c.in_default.ensures) in
+    rw z

@@ -1,3 +1,0 @@
--- Laws of what the exports hand back. Assumes nothing.
-
-mod Telling
