@@ -71,6 +71,19 @@ fn read_full<R: Read>(source: &mut R, buffer: &mut [u8]) -> usize
     done
 }
 
+// Writes all of the bytes, up to a write that takes none or fails: whether all were written.
+// Kept: the library's write_all tries a write again that was broken off, without end where each is: a write that fails ends the listing.
+fn write_all<W: Write>(target: &mut W, bytes: &[u8]) -> bool {
+    let mut done = 0;
+    while done < bytes.len() {
+        match target.write(&bytes[done..]) {
+            Ok(0) | Err(_) => return false,
+            Ok(n) => done += n,
+        }
+    }
+    true
+}
+
 // The cursor after an accepted opening, with the count of block 1 and the opening's figures.
 fn first_cursor(before: u64, figures: Figures) -> Cursor
     ensures stands { (s : List ℕ) → progress_of result true s ≡ opened_progress s before }
@@ -113,7 +126,7 @@ fn turn<R: Read, W: Write>(
     out.clear();
     let listed = list_chunk(&mut cursor, &input[..read], out, state, index);
     let text = out.len();
-    let written = target.write_all(out.as_slice()).is_ok();
+    let written = write_all(target, out.as_slice());
     let told = TurnResult {
         cursor,
         read,
@@ -178,7 +191,7 @@ pub fn list<R: Read, W: Write>(source: &mut R, target: &mut W) -> ListResult
     let first = read_full(source, &mut opening);
     let start = list_start(&opening[..first], &mut out, &mut state);
     let end = out.len();
-    let printed = target.write_all(out.as_slice()).is_ok();
+    let printed = write_all(target, out.as_slice());
     let last = match start {
         Some(start) if printed => Some(list_opened(source, target, start, &mut out, &mut state)),
         _ => None,

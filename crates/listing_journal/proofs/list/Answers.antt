@@ -28,7 +28,7 @@ pub returns : goal.returns
 returns g c =
     let r = c.list_start-start in
     let b = begun-at g (goal.at.returns g c).After-list_start-start in
-    let printed = c.is_ok-printed.result in
+    let printed = c.write_all-printed.result in
     elim c.match-start.branch [
       | in-Some w ↦
           rw (c.is_some.ensures ∙ ap is_some (w.start-is ∙ sym w.in-Some.is), w.last-is)
