@@ -15,6 +15,7 @@ use journal_reader::opening_balances;
 use listing_lines::{put_fault, put_header, put_open};
 use pair_core::WORDS;
 use pair_rows::{Figures, first_figures};
+use wire::part_end;
 
 // What an accepted opening leaves: its figures, and the count of block 1.
 #[derive(Clone, Copy)]
@@ -89,7 +90,7 @@ pub fn list_start<const N: usize>(
         ≡ opening_text (take 512 bytes.now) (take 512 (drop 512 bytes.now)) []) }
     ensures fits { length out.new.items ≤ length out.old.items + 256 }
 {
-    let (home, rest) = bytes.split_at(bytes.len().min(BLOCK_SIZE));
-    let far = &rest[..rest.len().min(BLOCK_SIZE)];
+    let (home, rest) = bytes.split_at(part_end(BLOCK_SIZE, 0, bytes.len()));
+    let far = &rest[..part_end(BLOCK_SIZE, 0, rest.len())];
     list_opening(home, far, out, state)
 }

@@ -7,8 +7,8 @@ pub returns : goal.returns
 returns g c =
     let b = c.args.bytes.now in
     let s = c.split_at in
-    let h = halves b c.min.ensures in
+    let h = halves b c.part_end.ensures in
     let home : s.result.0.now ≡ take 512 b = s.ensures.front ∙ h.0 in
-    let far : take c.min-2.result s.result.1.now ≡ take 512 (drop 512 b) =
-    (halves s.result.1.now c.min-2.ensures).0 ∙ ap (take 512) (s.ensures.back ∙ h.1) in
+    let far : take c.part_end-2.result s.result.1.now ≡ take 512 (drop 512 b) =
+    (halves s.result.1.now c.part_end-2.ensures).0 ∙ ap (take 512) (s.ensures.back ∙ h.1) in
     rw (home, far) at c.list_opening.ensures
