@@ -2,6 +2,8 @@
 use Rattle.std.specs.Prelude.{ℕ, zero, suc, ◌<◌, ◌≡◌, Bool, true, false, Result, Ok, Err}
 use Rattle.answers.specs.Refusals.{Alike, refusal_number}
 use Rattle.answers.specs.declared.refusal.Refused.{Refused as RefusedAt}
+use Rattle.answers.specs.declared.by_number.ByNumber.{ByNumber}
+use Rattle.answers.specs.declared.by_number.ByNumber.TheVariants.{Passed as PassedBy, Refused as RefusedBy}
 
 -- passed, or a refusal with its number and its place
 pub data Answer : Type 0 where
@@ -12,6 +14,11 @@ pub data Answer : Type 0 where
 abbrev pub answer_of : {A : Type 0} → Result A RefusedAt → Answer
 answer_of (Ok x) = Passed
 answer_of (Err r) = Refused (refusal_number r.refusal) r.place
+
+-- the answer that one by its number is
+abbrev pub answer_by : ByNumber → Answer
+answer_by PassedBy = Passed
+answer_by (RefusedBy n p) = Refused n p
 
 -- the documents' number of each case: 0 passed, or the refusal's
 abbrev pub number_of : Answer → ℕ

@@ -3,13 +3,16 @@
 #![tactic(auto)]
 
 pub mod refusal; // refusal.rt: the refusals, each with its number
+pub mod by_number; // by_number.rt: an answer by its number, whatever the number is
 pub mod balance; // balance.rt: the balance of one account
 
 ghost use Rattle.std.specs.Prelude.{◌≡◌};
 ghost use Rattle.answers.specs.Answers.{number_of, place_of, answer, answer_of, refuse, or_else};
+ghost use Rattle.answers.specs.Answers.{Answer as ToldAnswer};
 ghost use Rattle.answers.specs.Refusals.{refusal_number, refused_by};
 
 pub use balance::balance_among;
+pub use by_number::ByNumber;
 pub use refusal::{Refusal, Refused};
 
 // Passed, or one of the documents' refusals with its place.
@@ -44,23 +47,49 @@ pub fn answer_at(judged: Result<(), Refusal>, place: u64) -> Answer
     judged.map_err(|refusal| Refused { refusal, place })
 }
 
-// The refusal's number; 0 where it passed.
-// Kept: README names number and place, and no crate can give a Result, which an answer is, a method or a From of its own.
-pub fn number(answer: Answer) -> u32
-    ensures { result ≡ number_of (answer_of answer) }
-{
-    match answer {
-        Ok(()) => 0,
-        Err(refused) => u32::from(refused.refusal),
+// What tells an answer: a call's, or one by its number.
+// Kept: number and place beside it, since README names them.
+pub trait Answered: Copy {
+    // The answer that it tells.
+    ghost answered: { Self → ToldAnswer };
+
+    // The refusal's number; 0 where it passed.
+    fn number(self) -> u32
+        ensures { result ≡ number_of (answered self) };
+
+    // The refusal's place; 0 where it passed.
+    fn place(self) -> u64
+        ensures { result ≡ place_of (answered self) };
+}
+
+impl Answered for Answer {
+    ghost answered = { λ answer. answer_of answer };
+
+    fn number(self) -> u32 {
+        match self {
+            Ok(()) => 0,
+            Err(refused) => u32::from(refused.refusal),
+        }
+    }
+
+    fn place(self) -> u64 {
+        match self {
+            Ok(()) => 0,
+            Err(refused) => refused.place,
+        }
     }
 }
 
-// The refusal's place; 0 where it passed.
-pub fn place(answer: Answer) -> u64
-    ensures { result ≡ place_of (answer_of answer) }
+// The refusal's number; 0 where it passed.
+pub fn number<A: Answered>(answer: A) -> u32
+    ensures { result ≡ number_of (A.answered answer) }
 {
-    match answer {
-        Ok(()) => 0,
-        Err(refused) => refused.place,
-    }
+    answer.number()
+}
+
+// The refusal's place; 0 where it passed.
+pub fn place<A: Answered>(answer: A) -> u64
+    ensures { result ≡ place_of (A.answered answer) }
+{
+    answer.place()
 }
