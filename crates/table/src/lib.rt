@@ -15,7 +15,7 @@ ghost use Rattle.std.proofs.Props.{props};
 ghost use Rattle.table.specs.Table.{accounts_by, may_hold, may_hold_at, number_at, words_at};
 ghost use Rattle.table.specs.Table.{Indexed, LimitsOf};
 ghost use Rattle.table.specs.Sought.{sent_numbered, used_numbered};
-ghost use Rattle.table.specs.Table.{EmptyIndex, FlowsAt, IndexOf, arrival_in, backed_at, backed_by, flow_by, numbered_at};
+ghost use Rattle.table.specs.Table.{EmptyIndex, FlowsAt, IndexOf, amount_at, arrival_in, backed_at, backed_by, flow_at, numbered_at};
 ghost use Rattle.table.specs.Table.{sending_head, sent_at, shared_at, stored, used_at, with_number, with_words};
 ghost use Rattle.tariffs.specs.Tariffs.{parts};
 
@@ -263,6 +263,7 @@ fn scanned<S: Sought>(words: &[u64], from: usize, n: usize, sought: S) -> bool
 
 // Whether one of so many records has what is looked for, by a walk down the chain of its number.
 // Kept: five values and no Held, in a call of its own: laid into loops that seldom need it, it took up to 1.4 of the time (the bar is 1.05).
+#[cold]
 #[inline(never)]
 fn walk<S: Sought>(
     words: &[u64],
@@ -409,31 +410,6 @@ pub fn sending_head(o: Ledger, head: u64) -> u64
     SENDING * FIRST_BYTE + u64::from(u8::from(o)) * FIRST_TWO_BYTES + head % FIRST_TWO_BYTES
 }
 
-// The amount of words more, in what was sent or in what was received, by their kind.
-fn add_flow(f: Flows, w: Words) -> Flows
-    requires { (f.sent.high < 2 ^ 63) × (f.sent.low < 2 ^ 63) × (f.received.high < 2 ^ 63) × (f.received.low < 2 ^ 63) }
-    ensures sent { (result.sent.high ≡ f.sent.high + flow_by 2 w / 2 ^ 32) × (result.sent.low ≡ f.sent.low + flow_by 2 w % 2 ^ 32) }
-    ensures received { (result.received.high ≡ f.received.high + flow_by 3 w / 2 ^ 32)
-        × (result.received.low ≡ f.received.low + flow_by 3 w % 2 ^ 32) }
-{
-    let kind = w.head / FIRST_BYTE % 256;
-    let sent = f.sent;
-    let received = f.received;
-    if kind == SENDING {
-        return Flows {
-            sent: sent.add(w.amount),
-            received,
-        };
-    }
-    if kind == RECEIVING {
-        return Flows {
-            sent,
-            received: received.add(w.amount),
-        };
-    }
-    f
-}
-
 // Arrivals among other records, and their sendings among these.
 impl<'a> Held<'a> {
     // Whether one of the records has a number, a head and an amount.
@@ -481,6 +457,42 @@ impl<'a> Held<'a> {
         sent.is_at(self.words, self.from, at - 1)
     }
 
+    // What was sent and received with the record at a place of others too, where it is no arrival or has its sending among these. Each kind
+    // leaves by itself, so that it is told once.
+    #[inline(always)]
+    fn crossed(self, o: Ledger, from: usize, i: usize, flows: Flows) -> Option<Flows>
+        requires { (from + 4 * i + 4 ≤ length self.words.now) × (flows.sent.high < 2 ^ 63) × (flows.sent.low < 2 ^ 63)
+            × (flows.received.high < 2 ^ 63) × (flows.received.low < 2 ^ 63) }
+        ensures backed { is_some result ≡ backed_at self.entry.words.now from (ledger_byte o) self.entry.from self.entry.count i }
+        ensures fits { amount_at self.entry.words.now from i < 2 ^ 64 }
+        ensures sent { IfSome result (λ more. (more.sent.high ≡ flows.sent.high + flow_at 2 self.entry.words.now from i / 2 ^ 32)
+            × (more.sent.low ≡ flows.sent.low + flow_at 2 self.entry.words.now from i % 2 ^ 32)) }
+        ensures received { IfSome result (λ more. (more.received.high ≡ flows.received.high + flow_at 3 self.entry.words.now from i / 2 ^ 32)
+            × (more.received.low ≡ flows.received.low + flow_at 3 self.entry.words.now from i % 2 ^ 32)) }
+    {
+        let w = words_at(self.words, from, i);
+        let byte = w.head / FIRST_BYTE % 256;
+        if byte == SENDING {
+            return Some(Flows {
+                sent: flows.sent.add(w.amount),
+                received: flows.received,
+            });
+        }
+        if byte != RECEIVING {
+            return Some(flows);
+        }
+        if !self.is_backed_first(o, w) {
+            let v = words_at(self.words, from, i); // read again, so that w need not stand in memory for a rare case
+            if !self.is_backed(o, v) {
+                return None;
+            }
+        }
+        Some(Flows {
+            sent: flows.sent,
+            received: flows.received.add(w.amount),
+        })
+    }
+
     // What m other records, from a word on, sent and received, where each arrival among them has its sending among these.
     #[inline(always)]
     pub fn crossings(self, o: Ledger, from: usize, m: usize) -> Option<Flows>
@@ -491,14 +503,7 @@ impl<'a> Held<'a> {
     {
         let mut flows = Flows::default();
         for i in 0..m {
-            let w = words_at(self.words, from, i);
-            if !self.is_backed_first(o, w) {
-                let v = words_at(self.words, from, i); // read again, so that w need not stand in memory for a rare case
-                if !self.is_backed(o, v) {
-                    return None;
-                }
-            }
-            flows = add_flow(flows, w);
+            flows = self.crossed(o, from, i, flows)?;
         }
         Some(flows)
     }

@@ -1,5 +1,7 @@
 -- `Held::crossings` meets its contract. Assumes nothing.
-use Rattle.wire.proofs.Prelude.{List, ◌%◌, ◌*◌, ◌+◌, ◌-◌, ◌/◌, ◌<◌, ◌^◌, ◌∙◌, ◌≡◌, ap, arith, eqb, refl, sym, true, ℕ}
+use Rattle.wire.proofs.Prelude.{List, ◌%◌, ◌*◌, ◌+◌, ◌-◌, ◌/◌, ◌<◌, ◌^◌, ◌∙◌, ◌≡◌, ap, arith, eqb, false, refl, sym, true, ℕ}
+use Rattle.std.proofs.Common.{is_some, rules}
+use Rattle.std.specs.Prelude.{None}
 use Rattle.ledgers.specs.Ledgers.{ledger_byte}
 use Rattle.places.proofs.ExactSums.{counted_most, halves_fit, halves_more, halves_none}
 use Rattle.places.proofs.OverPlaces.{all_end, all_here, all_on, sum_more, sum_none}
@@ -9,7 +11,6 @@ use Rattle.records.specs.Records.{within}
 use Rattle.records.specs.declared.Words.{Words}
 use Rattle.table.specs.Table.{amount_at, backed_at, backed_by, flow_at, flow_by, head_at, words_at}
 use Rattle.table.proofs.Held.crossings.Goals as goal
-use Rattle.table.proofs.Held.crossings.Goals.{else-not-is_backed_first, then-not-is_backed_first+else-not-is_backed}
 
 pub loop-i-init : goal.loop-i-init
 loop-i-init c =
@@ -23,14 +24,6 @@ loop-i-init c =
         received = rw (d.1.0, d.1.1) (halves_none _ _ (sum_none (flow_at 3 s c.args.from) 0));
       };
     }
-
-pub returns-then-not-is_backed-clause-backed : goal.returns-then-not-is_backed-clause-backed
-returns-then-not-is_backed-clause-backed c =
-    let h = c.args.self in
-    let l = c.loop-i in
-    let f = backed_by h.words.now (ledger_byte c.args.o) h.from h.count in
-    let e = sym (c.is_backed.ensures ∙ ap f c.words_at-v.ensures) ∙ c.if-not-is_backed.true in
-    sym (l.invariant.backed ∙ all_here _ l.i c.args.m (omega arith) e)
 
 -- the sum over one place more
 one_more : (f : ℕ → ℕ) (i : ℕ) → sum_at f 0 (i + 1) ≡ sum_at f 0 i + f i
@@ -48,13 +41,13 @@ flow_more kind s from i h l g k w b q a e =
     let most = counted_most (eqb (within 0 1 (head_at s from i)) kind) (amount_at s from i) (2 ^ 64) b in
     rw (e.0, e.1, q) (halves_more _ _ h l (flow_at kind s from i) _ _ a most (one_more (flow_at kind s from) i) refl)
 
-pub add_flow-flows-requires : goal.add_flow-flows-requires
-add_flow-flows-requires c =
+pub returns-in_err-flows-clause-backed : goal.returns-in_err-flows-clause-backed
+returns-in_err-flows-clause-backed c =
     let l = c.loop-i in
-    let k : 0 + 2 * l.i < 65535 = omega arith in
-    let s = halves_fit 0 l.invariant.sums.sent k in
-    let r = halves_fit 0 l.invariant.sums.received k in
-    (omega (arith, s.1), s.0, omega (arith, r.1), r.0)
+    let e : backed_at c.args.self.words.now c.args.from (ledger_byte c.args.o) c.args.self.from c.args.self.count l.i ≡ false =
+    sym c.crossed.ensures.backed ∙ ap is_some c.in_err-flows.was in
+    let r : c.from_residual.result ≡ None = search rules in
+    ap is_some r ∙ sym (l.invariant.backed ∙ all_here _ l.i c.args.m (omega arith) e)
 
 pub loop-i-preserved : goal.loop-i-preserved
 loop-i-preserved c =
@@ -62,20 +55,16 @@ loop-i-preserved c =
     let h = c.args.self in
     let s = h.words.now in
     let from = c.args.from in
-    let w = c.words_at-w in
-    let e = c.add_flow-flows.ensures in
-    let f = backed_by s (ledger_byte c.args.o) h.from h.count in
+    let w = words_at s from l.i in
     let held : backed_at s from (ledger_byte c.args.o) h.from h.count l.i ≡ true =
-    elim c.if-not-is_backed_first.branch [
-      | then-not-is_backed_first+else-not-is_backed k ↦ sym (k.is_backed.ensures ∙ ap f k.words_at-v.ensures) ∙ k.if-not-is_backed.false
-      | else-not-is_backed_first k ↦ sym (ap f w.ensures) ∙ c.is_backed_first.ensures k.if-not-is_backed_first.false
-    ] in
-    let b : amount_at s from l.i < 2 ^ 64 = omega (arith, ap (λ (y : Words). y.amount) w.ensures) in
+    sym c.crossed.ensures.backed ∙ ap is_some c.in_ok-flows.was in
+    let b : amount_at s from l.i < 2 ^ 64 = c.crossed.ensures.fits in
+    let e = c.in_ok-flows.ensures in
     record {
       backed = l.invariant.backed ∙ all_on _ l.i c.args.m (omega arith) held;
       sums = record {
-        sent = flow_more 2 s from l.i _ _ _ _ w.result b w.ensures l.invariant.sums.sent e.sent;
-        received = flow_more 3 s from l.i _ _ _ _ w.result b w.ensures l.invariant.sums.received e.received;
+        sent = flow_more 2 s from l.i _ _ _ _ w b refl l.invariant.sums.sent e.sent;
+        received = flow_more 3 s from l.i _ _ _ _ w b refl l.invariant.sums.received e.received;
       };
     }
 
