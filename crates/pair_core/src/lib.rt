@@ -456,11 +456,7 @@ impl Core for PairCore {
             words: Words::of(bytes),
             fields,
         };
-        let accepted = Accepted {
-            words: &*words,
-            index: &*index,
-        };
-        accepted.judge(item)?;
+        judge(words, index, item.words, fields)?;
         let l = fields.kind.ledger();
         let count = count_on(words, l);
         pass(words, item);
