@@ -1,10 +1,16 @@
 -- The refusals of a certificate: each in its condition, with none before it. Assumes nothing.
 use Rattle.std.specs.Prelude.{None, Some}
-use Rattle.wire.proofs.Prelude.{Bool, ◌≡◌, arith, false, not, true, ℕ}
+use Rattle.wire.proofs.Prelude.{Bool, ◌≡◌, ◌≤◌, arith, false, leb-true, not, true, ℕ}
 use Rattle.answers.specs.Answers.{refuse}
-use Rattle.certificates.specs.Certificates.{Certificate, Committee, FarCommittee, certificate_refusal}
-use Rattle.certificates.specs.Certificates.{committee_refusal, enough_signers, follows, leaves_allowed, refusal_by}
+use Rattle.certificates.specs.Certificates.{Certificate, Committee, FarCommittee, certificate_refusal, committee_allowed}
+use Rattle.certificates.specs.Certificates.{committee_refusal, enough_signers, follows, half_allowed, leaves_allowed, most_half, refusal_by}
 use Rattle.certificates.specs.Digests.{same_digest}
+use Rattle.wire.proofs.Lists.{every_first}
+
+-- k of a committee that 1 and 3 have nothing against
+pub half_most : (c : Committee) → committee_allowed (Some c) ≡ true → c.half ≤ most_half
+unfolding half_allowed
+half_most c h = leb-true _ _ (every_first _ _ (every_first _ _ h).1).0
 
 -- ## None
 
