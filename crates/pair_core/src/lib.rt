@@ -456,7 +456,11 @@ impl Core for PairCore {
             words: Words::of(bytes),
             fields,
         };
-        judge(words, index, item.words, fields)?;
+        let accepted = Accepted {
+            words: &*words,
+            index: &*index,
+        };
+        accepted.judge(item)?;
         let l = fields.kind.ledger();
         let count = count_on(words, l);
         pass(words, item);

@@ -2,6 +2,7 @@
 use Rattle.calls.proofs.Handing.{refusal_some}
 use Rattle.ledgers.specs.Ledgers.{ledger_byte}
 use Rattle.ledgers.specs.Limits.{capacity}
+use Rattle.pair_core.proofs.Accept.{in_bounds_of}
 use Rattle.pair_core.proofs.PairCoreCore.step.Goals as goal
 use Rattle.pair_core.proofs.Stepping.{number_room, step_leaves}
 use Rattle.pair_core.specs.Layout.{PairReady, pair_view_of, pair_words_checker}
@@ -24,10 +25,9 @@ pub invariant_of-item : goal.invariant_of-item
 invariant_of-item c =
     record { read = formed_as (record { reads = sym (rw c.in-Some.is at c.read.ensures); words = c.of.ensures }) }
 
-pub judge-requires : goal.judge-requires
-judge-requires c =
-    let f = formed_as (record { reads = sym (rw c.in-Some.is at c.read.ensures); words = c.of.ensures }) in
-    (c.requires, f.0, f.1)
+pub invariant_of-accepted : goal.invariant_of-accepted
+invariant_of-accepted c =
+    record { ready = (c.requires, in_bounds_of c.args.words.now c.requires.accepted (λ i. c.fits-words i)) }
 
 pub returns-in_err-judge-clause-leaves : goal.returns-in_err-judge-clause-leaves
 returns-in_err-judge-clause-leaves c =
