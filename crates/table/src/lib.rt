@@ -263,7 +263,6 @@ fn scanned<S: Sought>(words: &[u64], from: usize, n: usize, sought: S) -> bool
 
 // Whether one of so many records has what is looked for, by a walk down the chain of its number.
 // Kept: five values and no Held, in a call of its own: laid into loops that seldom need it, it took up to 1.4 of the time (the bar is 1.05).
-#[cold]
 #[inline(never)]
 fn walk<S: Sought>(
     words: &[u64],
@@ -290,6 +289,24 @@ fn walk<S: Sought>(
     scanned(words, from, count, sought)
 }
 
+// The same walk, told to the compiler as one that is seldom made, so that the loops around it keep what they need in registers; it is not
+// told so of the walk itself, whose scan would then be laid out for size.
+#[cold]
+#[inline(never)]
+fn seldom_walk<S: Sought>(
+    words: &[u64],
+    from: usize,
+    count: usize,
+    index: &[u16],
+    base: usize,
+    sought: S,
+) -> bool
+    requires { Indexed words.now from count index.now base }
+    ensures { result ≡ any_at (S.has sought words.now from) 0 count }
+{
+    walk(words, from, count, index, base, sought)
+}
+
 // The records that a ledger holds, so many from a word on, and the index of their numbers from an element on. Its methods are laid where
 // they are called: a pointer to it in memory would have a state that is handed in by value copied once more.
 #[derive(Clone, Copy)]
@@ -308,7 +325,7 @@ impl<'a> Held<'a> {
     fn walked<S: Sought>(self, sought: S) -> bool
         ensures { result ≡ any_at (S.has sought self.entry.words.now self.entry.from) 0 self.entry.count }
     {
-        walk(
+        seldom_walk(
             self.words, self.from, self.count, self.index, self.base, sought,
         )
     }
